@@ -1,0 +1,163 @@
+-- The evaluation: the unit-evaluator of source document 000, by name, one counted step at a time as paper 01 counts them.
+-- A state holds no part of the input, only the places of parts: the input is looked at in one place, `next`.
+-- Rests on Syntax and Parts.
+use Prim.Native.Nat.{ℕ, zero, suc, _+_, _-_}
+use mathlib.Core.Bool.{Bool}
+use mathlib.Core.List.{List, [], _∷_}
+use mathlib.Core.Option.{Option, none, some}
+use lib.ListN.{length}
+use lib.Dec.{ltb, eqb}
+use Rattle.reach.specs.Base.{pick}
+use Rattle.reach.specs.Syntax.{Expr, variable, call, construct, case, bind, target, Exprs, []ₑ, _∷ₑ_, count, nthExpr, Alternatives, no-more, absent, present, Function, Program, functionAt}
+use Rattle.reach.specs.Parts.{Parts, Place, part, within, Seen, gone, free, has, at}
+
+-- A row of input parts: the source's parameters, or the fields of the part at a place.
+pub data Row : Type 0 where
+  parameters : Row
+  fieldsOf : Place → Row
+
+unfoldable pub partOf : Row → ℕ → Place
+partOf parameters n = part n
+partOf (fieldsOf q) n = within q (part n)
+
+-- An environment: what each variable stands for. Variables are numbered from the outside in; a group of them is added under the next numbers.
+pub data Env : Type 0 where
+  empty : Env
+  -- one variable for each expression, which stands in an environment of its own (000: s[v = e])
+  operands : Env → Exprs → Env → Env
+  -- one variable for each part of a row of input parts
+  inputParts : Env → Row → ℕ → Env
+
+-- how many variables are in view
+unfoldable pub size : Env → ℕ
+size empty = zero
+size (operands outer es inner) = size outer + count es
+size (inputParts outer row k) = size outer + k
+
+-- What a variable stands for: an expression in its environment, or a part of the input.
+pub data Closure : Type 0 where
+  suspended : Expr → Env → Closure
+  inputPart : Place → Closure
+
+unfoldable pub suspend : Option Expr → Env → Option Closure
+suspend none env = none
+suspend (some e) env = some (suspended e env)
+
+unfoldable pub lookup : Env → ℕ → Option Closure
+lookup empty n = none
+lookup (operands outer es inner) n = pick (ltb n (size outer)) (lookup outer n) (suspend (nthExpr es (n - size outer)) inner)
+lookup (inputParts outer row k) n = pick (ltb n (size outer)) (lookup outer n) (pick (ltb (n - size outer) k) (some (inputPart (partOf row (n - size outer)))) none)
+
+-- What waits for a value: a case, with its alternatives and their environment.
+pub data Frame : Type 0 where
+  waiting : Alternatives → Env → Frame
+
+-- A state: what is being evaluated, and the frames that wait for it, the innermost first.
+pub data State : Type 0 where
+  evaluating : Expr → Env → List Frame → State
+  inspecting : Place → List Frame → State
+  -- an alternative was missing
+  missing : State
+  -- a number named nothing: a checked file has no such state
+  stuck : State
+
+unfoldable pub resume : Option Closure → List Frame → State
+resume none fs = stuck
+resume (some (suspended e env)) fs = evaluating e env fs
+resume (some (inputPart q)) fs = inspecting q fs
+
+-- the alternative for constructor c, in the environment with its fields
+unfoldable pub choose : Alternatives → ℕ → Env → List Frame → State
+choose no-more c env fs = stuck
+choose (absent alts) zero env fs = missing
+choose (absent alts) (suc c) env fs = choose alts c env fs
+choose (present e alts) zero env fs = evaluating e env fs
+choose (present e alts) (suc c) env fs = choose alts c env fs
+
+unfoldable pub enter : Option Function → Exprs → Env → List Frame → State
+enter none es env fs = stuck
+enter (some f) es env fs = evaluating (f .body) (operands empty es env) fs
+
+-- A case that waits on an input part.
+pub record Question : Type 0 where
+  pub place : Place
+  pub alternatives : Alternatives
+  pub environment : Env
+  pub frames : List Frame
+
+-- the state after the part turned out to be constructor c with k fields
+unfoldable pub answered : Question → ℕ → ℕ → State
+answered q c k = choose (q .alternatives) c (inputParts (q .environment) (fieldsOf (q .place)) k) (q .frames)
+
+-- Why an evaluation ends off target: at a constructor or an input part with no case waiting, at a missing alternative, or at a number that names nothing.
+pub data Stop : Type 0 where
+  value : Stop
+  noAlternative : Stop
+  unknown : Stop
+
+-- What comes next: the sought target is demanded; the end; one step to a state; or a case waits on an input part.
+pub data Next : Type 0 where
+  demands : Next
+  stops : Stop → Next
+  goes : State → Next
+  waits : Question → Next
+
+-- what comes next as far as the state alone tells: it waits on whatever part of the input a case looks at
+unfoldable pub view : Program → State → Next
+view p (evaluating (variable n) env fs) = goes (resume (lookup env n) fs)
+view p (evaluating (call f es) env fs) = goes (enter (functionAt p f) es env fs)
+view p (evaluating (construct t c es) env []) = stops value
+view p (evaluating (construct t c es) env (waiting alts outer ∷ fs)) = goes (choose alts c (operands outer es env) fs)
+view p (evaluating (case t e alts) env fs) = goes (evaluating e env (waiting alts env ∷ fs))
+view p (evaluating (bind t e body) env fs) = goes (evaluating body (operands env (e ∷ₑ []ₑ) env) fs)
+view p (evaluating (target l e) env fs) = pick (eqb l (p .label)) demands (goes (evaluating e env fs))
+view p (inspecting q []) = stops value
+view p (inspecting q (waiting alts env ∷ fs)) = waits (record { place = q; alternatives = alts; environment = env; frames = fs })
+view p missing = stops noAlternative
+view p stuck = stops unknown
+
+unfoldable pub look : Question → Seen → Next
+look q gone = goes stuck
+look q free = waits q
+look q (has c k) = goes (answered q c k)
+
+unfoldable pub answer : Parts → Next → Next
+answer input demands = demands
+answer input (stops why) = stops why
+answer input (goes s) = goes s
+answer input (waits q) = look q (at input (q .place))
+
+-- what comes next on this input: it waits only where the part is open
+unfoldable pub next : Program → Parts → State → Next
+next p input s = answer input (view p s)
+
+-- How an evaluation ends, after how many steps. It halts where a case waits on an open part with fewer than S steps done.
+pub data Run : Type 0 where
+  reached : ℕ → Run
+  ended : Stop → ℕ → Run
+  unfinished : ℕ → Run
+  halted : Place → ℕ → Run
+
+-- the end after n steps, or what goes on from there
+unfoldable pub conclude : (State → Run) → (Question → Run) → ℕ → Next → Run
+conclude go wait n demands = reached n
+conclude go wait n (stops why) = ended why n
+conclude go wait n (goes s) = go s
+conclude go wait n (waits q) = wait q
+
+-- the evaluation on an input, with so many steps left and n done
+unfoldable pub eval : Program → Parts → ℕ → ℕ → State → Run
+eval p input zero n s = conclude (λ s′. unfinished n) (λ q. unfinished n) n (next p input s)
+eval p input (suc left) n s = conclude (λ s′. eval p input left (suc n) s′) (λ q. halted (q .place) n) n (next p input s)
+
+unfoldable pub startOf : Option Function → State
+startOf none = stuck
+startOf (some f) = evaluating (f .body) (inputParts empty parameters (length (f .parameters))) []
+
+-- the body of the source function, its parameters standing for the input's
+unfoldable pub start : Program → State
+start p = startOf (functionAt p (p .source))
+
+-- the evaluation of the rule on an input, closed or partial, up to the step limit S
+unfoldable pub run : Program → Parts → Run
+run p input = eval p input (p .steps) 0 (start p)

@@ -1,0 +1,14 @@
+pub mod Base
+pub mod Words
+pub mod Syntax
+pub mod Parts
+pub mod Types
+pub mod Eval
+pub mod Search
+pub mod Moves
+pub mod Limits
+pub mod Reader
+pub mod RuleFile
+pub mod Input
+pub mod Lists
+pub mod Answers

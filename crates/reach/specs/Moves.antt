@@ -1,0 +1,88 @@
+-- The search as moves over one path with a stack of choice points: what the program does, and what a search in turns would do.
+-- proofs/Moves.antt shows that the moves give exactly the list of `search`.
+-- Rests on Search.
+use Prim.Native.Nat.{ℕ, zero, suc}
+use mathlib.Core.List.{List, [], _∷_, _++_}
+use Rattle.reach.specs.Syntax.{Program}
+use Rattle.reach.specs.Parts.{Parts, bindAt}
+use Rattle.reach.specs.Types.{Fork, leastDepths}
+use Rattle.reach.specs.Eval.{State, Question, answered, Next, demands, stops, goes, waits, next, start}
+use Rattle.reach.specs.Search.{Kind, RE, UN, Entry, spent, branches, openInput}
+
+-- A path under way: what it goes on to, the steps left and done, and its partial input.
+pub record Going : Type 0 where
+  pub state : State
+  pub left : ℕ
+  pub done : ℕ
+  pub input : Parts
+
+-- A choice point: the case that waits, the steps left and done behind the choice, the input before it, and the constructors not taken yet.
+pub record Choice : Type 0 where
+  pub question : Question
+  pub left : ℕ
+  pub done : ℕ
+  pub input : Parts
+  pub untried : List Fork
+
+-- Where the search stands: on a path, or behind the end of one.
+pub data Position : Type 0 where
+  on : Going → Position
+  over : Position
+
+-- The search put down between two moves: where it stands, its choice points (the last first), and the list so far.
+pub record Walk : Type 0 where
+  pub position : Position
+  pub choices : List Choice
+  pub listed : List Entry
+
+-- behind the end of a path, with these entries listed
+abbrev pub behind : List Choice → List Entry → Walk
+behind cs es = record { position = over; choices = cs; listed = es }
+
+-- the end of a path that is n steps long, listed at once, or what it goes on to
+unfoldable pub settle : (State → Walk) → (Question → Walk) → ℕ → Parts → List Choice → List Entry → Next → Walk
+settle go fork n input cs es demands = behind cs (es ++ (record { kind = RE; steps = n; input = input } ∷ []))
+settle go fork n input cs es (stops why) = behind cs es
+settle go fork n input cs es (goes s) = go s
+settle go fork n input cs es (waits q) = fork q
+
+-- a path arrives at a state, with so many steps left and n done; one that waits becomes a choice point
+unfoldable pub arrive : Program → List ℕ → ℕ → ℕ → Parts → State → List Choice → List Entry → Walk
+arrive p table zero n input s cs es = settle (λ s′. behind cs (es ++ spent n input)) (λ q. behind cs (es ++ spent n input)) n input cs es (next p input s)
+arrive p table (suc left) n input s cs es =
+    settle (λ s′. record { position = on (record { state = s′; left = left; done = suc n; input = input }); choices = cs; listed = es })
+    (λ q. behind (record { question = q; left = left; done = suc n; input = input; untried = branches p table input q } ∷ cs) es)
+    n
+    input
+    cs
+    es
+    (next p input s)
+
+-- the constructor f of a choice point is taken, and the others stay
+unfoldable pub takeFork : Program → List ℕ → Choice → Fork → List Fork → List Choice → List Entry → Walk
+takeFork p table c f rest cs es =
+    arrive p table (c .left) (c .done) (bindAt (c .question .place) (f .constructor) (f .fields) (c .input)) (answered (c .question) (f .constructor) (f .fields))
+    (record { question = c .question; left = c .left; done = c .done; input = c .input; untried = rest } ∷ cs)
+    es
+
+-- a fork to its first constructor, or a return to the last choice point with a constructor left, taking it
+unfoldable pub return : Program → List ℕ → List Choice → List Entry → Walk
+return p table [] es = behind [] es
+return p table (c ∷ cs) es = elim (c .untried) [ [] ↦ return p table cs es | f ∷ rest ↦ takeFork p table c f rest cs es ]
+
+-- one move: a step of the path, or a fork or return behind the end of one
+unfoldable pub moveFrom : Program → List ℕ → Position → List Choice → List Entry → Walk
+moveFrom p table (on g) cs es = arrive p table (g .left) (g .done) (g .input) (g .state) cs es
+moveFrom p table over cs es = return p table cs es
+
+unfoldable pub move : Program → List ℕ → Walk → Walk
+move p table w = moveFrom p table (w .position) (w .choices) (w .listed)
+
+-- so many moves
+unfoldable pub moves : Program → List ℕ → ℕ → Walk → Walk
+moves p table zero w = w
+moves p table (suc m) w = moves p table m (move p table w)
+
+-- before the first move
+unfoldable pub opening : Program → List ℕ → Walk
+opening p table = arrive p table (p .steps) 0 (openInput p) (start p) [] []

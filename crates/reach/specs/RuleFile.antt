@@ -1,0 +1,303 @@
+-- Reading a rule file: 01, "Rule file" and the order of tests of "Turned back". Three passes, then the tests of depth; the answer is
+-- the program, or the one refusal.
+-- Rests on Reader, Syntax, Limits and the least depths of Types.
+use Prim.Native.Nat.{ℕ, zero, suc, pred, _+_}
+use mathlib.Core.Bool.{Bool, true, false, _&&_}
+use mathlib.Core.List.{List, [], _∷_, _++_}
+use mathlib.Core.Option.{Option, none, some}
+use lib.ListN.{length, getD, getElem?, take}
+use lib.Dec.{ltb, leb, eqb}
+use Rattle.reach.specs.declared.Refusal.{Refusal}
+use Rattle.reach.specs.declared.Refusal.the-variants.{UnexpectedMark, OutOfRange, UnknownNumber, UnknownCode, TypeMismatch, TrailingBytes, EmptyType, DepthTooSmall}
+use Rattle.reach.specs.Base.{pick}
+use Rattle.reach.specs.Limits.{fileLimit, typeLimit, constructorLimit, fieldLimit, functionLimit, parameterLimit, bodyLimit, depthLimit, stepLimit, viewLimit, nestingLimit}
+use Rattle.reach.specs.Syntax.{Expr, variable, call, construct, case, bind, target, Exprs, []ₑ, _∷ₑ_, Alternatives, no-more, absent, present, Types, Function, Program, fieldTypes, sourceTypes}
+use Rattle.reach.specs.Types.{leastDepths, known, shallow}
+use Rattle.reach.specs.Reader.{Got, got, refused, onGot, Reader, _>>=_, _>>_, give, refuse, demand, byte, word, times, passed, atEnd}
+
+-- The first pass: marks, counts, lengths, D and S, bodies passed over.
+
+-- The mark of a record: two bytes in ASCII.
+pub data Mark : Type 0 where
+  TY FN GO other : Mark
+
+unfoldable pub markOf : ℕ → ℕ → Mark
+markOf a b =
+    pick (eqb a 0x54 && eqb b 0x59) TY
+    (pick (eqb a 0x46 && eqb b 0x4e) FN
+    (pick (eqb a 0x47 && eqb b 0x4f) GO other))
+
+unfoldable pub mark : Reader Mark
+mark = do
+  a ← byte
+  b ← byte
+  give (markOf a b)
+
+-- a byte that is a count from the one number to the other
+unfoldable pub counted : ℕ → ℕ → Reader ℕ
+counted least most = do
+  n ← byte
+  demand (leb least n && leb n most) OutOfRange
+  give n
+
+-- a constructor: its field count and the fields' types
+unfoldable pub constructorRecord : Reader (List ℕ)
+constructorRecord = do
+  n ← counted 0 fieldLimit
+  times n byte
+
+-- what follows the mark TY
+unfoldable pub typeRecord : Reader (List (List ℕ))
+typeRecord = do
+  n ← counted 1 constructorLimit
+  times n constructorRecord
+
+-- A function as its head tells: parameter types, result type, the place of its body and the body's length.
+pub record Head : Type 0 where
+  pub parameters : List ℕ
+  pub result : ℕ
+  pub body : ℕ
+  pub size : ℕ
+
+-- what follows the mark FN
+unfoldable pub functionRecord : Reader Head
+functionRecord = do
+  n ← counted 0 parameterLimit
+  ps ← times n byte
+  r ← byte
+  l ← word
+  demand (leb 1 l && leb l bodyLimit) OutOfRange
+  b ← passed l
+  give (record { parameters = ps; result = r; body = b; size = l })
+
+-- What GO asks for.
+pub record Goal : Type 0 where
+  pub source : ℕ
+  pub label : ℕ
+  pub depth : ℕ
+  pub steps : ℕ
+
+-- what follows the mark GO
+unfoldable pub goalRecord : Reader Goal
+goalRecord = do
+  f ← byte
+  l ← byte
+  d ← counted 1 depthLimit
+  s ← word
+  demand (leb s stepLimit) OutOfRange
+  give (record { source = f; label = l; depth = d; steps = s })
+
+abbrev pub onMark : {A : Type 0} → A → A → A → A → Mark → A
+onMark ty fn go wrong TY = ty
+onMark ty fn go wrong FN = fn
+onMark ty fn go wrong GO = go
+onMark ty fn go wrong other = wrong
+
+-- the types after the first, up to the mark of the first function; so many more may come
+unfoldable pub moreTypes : ℕ → Reader Types
+moreTypes zero = do
+  m ← mark
+  onMark (refuse OutOfRange) (give []) (refuse UnexpectedMark) (refuse UnexpectedMark) m
+moreTypes (suc n) = do
+  m ← mark
+  onMark (typeRecord >>= λ t. moreTypes n >>= λ ts. give (t ∷ ts)) (give []) (refuse UnexpectedMark) (refuse UnexpectedMark) m
+
+-- the functions after the first, up to the mark GO
+unfoldable pub moreFunctions : ℕ → Reader (List Head)
+moreFunctions zero = do
+  m ← mark
+  onMark (refuse UnexpectedMark) (refuse OutOfRange) (give []) (refuse UnexpectedMark) m
+moreFunctions (suc n) = do
+  m ← mark
+  onMark (refuse UnexpectedMark) (functionRecord >>= λ f. moreFunctions n >>= λ fs. give (f ∷ fs)) (give []) (refuse UnexpectedMark) m
+
+-- A file as the first pass leaves it: no number in it has been looked up, no body read.
+pub record Outline : Type 0 where
+  pub types : Types
+  pub heads : List Head
+  pub goal : Goal
+
+unfoldable pub outline : Reader Outline
+outline = do
+  m ← mark
+  t ← onMark typeRecord (refuse UnexpectedMark) (refuse UnexpectedMark) (refuse UnexpectedMark) m
+  ts ← moreTypes (pred typeLimit)
+  f ← functionRecord
+  fs ← moreFunctions (pred functionLimit)
+  g ← goalRecord
+  atEnd TrailingBytes
+  give (record { types = t ∷ ts; heads = f ∷ fs; goal = g })
+
+-- The second pass: type and function numbers in TY, FN heads and GO.
+
+unfoldable pub allBelow : ℕ → List ℕ → Bool
+allBelow n [] = true
+allBelow n (t ∷ ts) = ltb t n && allBelow n ts
+
+unfoldable pub constructorsExist : ℕ → List (List ℕ) → Bool
+constructorsExist n [] = true
+constructorsExist n (us ∷ cs) = allBelow n us && constructorsExist n cs
+
+unfoldable pub typesExist : ℕ → Types → Bool
+typesExist n [] = true
+typesExist n (cs ∷ ts) = constructorsExist n cs && typesExist n ts
+
+unfoldable pub headsExist : ℕ → List Head → Bool
+headsExist n [] = true
+headsExist n (h ∷ hs) = (allBelow n (h .parameters) && ltb (h .result) n) && headsExist n hs
+
+unfoldable pub numbersExist : Outline → Bool
+numbersExist o =
+    (typesExist (length (o .types)) (o .types) && headsExist (length (o .types)) (o .heads))
+    && ltb (o .goal .source) (length (o .heads))
+
+-- The third pass: bodies. A reader of an expression is told the types of the variables in view and the type expected of it.
+abbrev pub Below : Type 0
+Below = List ℕ → ℕ → Reader Expr
+
+-- an expression for each of the types
+unfoldable pub operandsOf : Below → List ℕ → List ℕ → Reader Exprs
+operandsOf sub view [] = give []ₑ
+operandsOf sub view (t ∷ ts) = do
+  e ← sub view t
+  es ← operandsOf sub view ts
+  give (e ∷ₑ es)
+
+-- for each of the constructors a byte: 0 for no alternative, or 1 and an expression that sees the fields too
+unfoldable pub alternatives : Below → List ℕ → ℕ → List (List ℕ) → Reader Alternatives
+alternatives sub view t [] = give no-more
+alternatives sub view t (us ∷ cs) = do
+  b ← byte
+  demand (leb b 1) UnknownCode
+  pick (eqb b 0) (alternatives sub view t cs >>= λ rest. give (absent rest))
+      (sub (view ++ us) t >>= λ e. alternatives sub view t cs >>= λ rest. give (present e rest))
+
+-- the expression's own nesting and view are within their limits
+abbrev pub inLimits : Bool → List ℕ → Reader (Unit {0})
+inLimits nested view = demand (nested && leb (length view) viewLimit) OutOfRange
+
+module _ (o : Outline) (nested : Bool) (sub : Below) (view : List ℕ) (expected : ℕ) where
+  unfoldable pub variableExpr : Reader Expr
+  variableExpr = do
+    n ← byte
+    demand (ltb n (length view)) UnknownNumber
+    inLimits nested view
+    demand (eqb (getD view n 0) expected) TypeMismatch
+    give (variable n)
+
+  unfoldable pub callOf : ℕ → Option Head → Reader Expr
+  callOf f none = refuse UnknownNumber
+  callOf f (some h) = do
+    inLimits nested view
+    demand (eqb (h .result) expected) TypeMismatch
+    es ← operandsOf sub view (h .parameters)
+    give (call f es)
+
+  unfoldable pub callExpr : Reader Expr
+  callExpr = do
+    f ← byte
+    callOf f (getElem? (o .heads) f)
+
+  unfoldable pub constructOf : ℕ → ℕ → Option (List ℕ) → Reader Expr
+  constructOf t c none = refuse UnknownNumber
+  constructOf t c (some us) = do
+    inLimits nested view
+    demand (eqb t expected) TypeMismatch
+    es ← operandsOf sub view us
+    give (construct t c es)
+
+  unfoldable pub constructExpr : Reader Expr
+  constructExpr = do
+    t ← byte
+    c ← byte
+    constructOf t c (fieldTypes (o .types) t c)
+
+  unfoldable pub caseOf : ℕ → Option (List (List ℕ)) → Reader Expr
+  caseOf t none = refuse UnknownNumber
+  caseOf t (some cs) = do
+    inLimits nested view
+    e ← sub view t
+    alts ← alternatives sub view expected cs
+    give (case t e alts)
+
+  unfoldable pub caseExpr : Reader Expr
+  caseExpr = do
+    t ← byte
+    caseOf t (getElem? (o .types) t)
+
+  unfoldable pub letExpr : Reader Expr
+  letExpr = do
+    t ← byte
+    demand (ltb t (length (o .types))) UnknownNumber
+    inLimits nested view
+    e ← sub view t
+    b ← sub (view ++ (t ∷ [])) expected
+    give (bind t e b)
+
+  unfoldable pub targetExpr : Reader Expr
+  targetExpr = do
+    l ← byte
+    inLimits nested view
+    e ← sub view expected
+    give (target l e)
+
+  -- at each expression: short, code, numbers, its own nesting and view, type; then its operands
+  unfoldable pub expressionBy : Reader Expr
+  expressionBy = do
+    code ← byte
+    demand (leb code 5) UnknownCode
+    pick (eqb code 0) variableExpr
+        (pick (eqb code 1) callExpr
+        (pick (eqb code 2) constructExpr
+        (pick (eqb code 3) caseExpr
+        (pick (eqb code 4) letExpr targetExpr))))
+
+-- an expression that may nest so many deep, itself included
+unfoldable pub expression : Outline → ℕ → Below
+expression o zero = expressionBy o false (λ view t. refuse OutOfRange)
+expression o (suc n) = expressionBy o true (expression o n)
+
+-- a body is read inside its own length, and nothing follows its expression there
+unfoldable pub bodyOf : Outline → Head → List ℕ → Got Expr
+bodyOf o h s =
+    (expression o nestingLimit (h .parameters) (h .result) >>= λ e. atEnd TrailingBytes >> give e)
+    (take (h .body + h .size) s)
+    (h .body)
+
+-- the functions, their bodies read in file order
+unfoldable pub functionsOf : Outline → List Head → Reader (List Function)
+functionsOf o [] = give []
+functionsOf o (h ∷ hs) = do
+  e ← λ s here. bodyOf o h s
+  fs ← functionsOf o hs
+  give (record { parameters = h .parameters; result = h .result; body = e } ∷ fs)
+
+-- The tests of depth, and the whole.
+
+unfoldable pub programOf : Outline → List Function → Program
+programOf o fs =
+    record { types = o .types; functions = fs; source = o .goal .source; label = o .goal .label; depth = o .goal .depth; steps = o .goal .steps }
+
+-- every type has a closed value
+unfoldable pub noEmptyType : List ℕ → Bool
+noEmptyType [] = true
+noEmptyType (d ∷ ds) = ltb 0 d && noEmptyType ds
+
+-- each source parameter has a value within D
+unfoldable pub deepEnough : Program → Bool
+deepEnough p = shallow (leastDepths (p .types)) (p .depth) (sourceTypes p)
+
+-- the size of the whole file, tested before everything
+unfoldable pub sizeInLimit : Reader (Unit {0})
+sizeInLimit s here = pick (leb (length s) fileLimit) (got tt here) (refused OutOfRange)
+
+-- the program of a file, or the refusal of 1 to 9
+unfoldable pub ruleFile : Reader Program
+ruleFile = do
+  sizeInLimit
+  o ← outline
+  demand (numbersExist o) UnknownNumber
+  fs ← functionsOf o (o .heads)
+  demand (noEmptyType (leastDepths (o .types))) EmptyType
+  demand (deepEnough (programOf o fs)) DepthTooSmall
+  give (programOf o fs)

@@ -1,0 +1,79 @@
+-- The language of rules: figures 3 and 4 of source document 000, with the numbers of paper 01 for names.
+-- Rests on nothing but numbers and lists.
+use Prim.Native.Nat.{ℕ, zero, suc}
+use mathlib.Core.List.{List, []}
+use mathlib.Core.Option.{Option, none, some}
+use lib.ListN.{getD, getElem?}
+
+-- An expression. Each holds all the numbers of its bytes, in their order.
+mutual
+  pub data Expr : Type 0 where
+    -- a variable, by its number
+    variable : ℕ → Expr
+    -- a call: the function and its arguments
+    call : ℕ → Exprs → Expr
+    -- a construction: the type, the constructor and its fields
+    construct : ℕ → ℕ → Exprs → Expr
+    -- a case: the type, the scrutinee (000: the case subject) and the alternatives
+    case : ℕ → Expr → Alternatives → Expr
+    -- a let: the type, the bound expression and the body
+    bind : ℕ → Expr → Expr → Expr
+    -- a target: its label and the expression inside it
+    target : ℕ → Expr → Expr
+
+  pub data Exprs : Type 0 where
+    []ₑ : Exprs
+    _∷ₑ_ : Expr → Exprs → Exprs
+
+  -- one for each constructor of the case's type, in their order
+  pub data Alternatives : Type 0 where
+    no-more : Alternatives
+    -- this constructor has no alternative
+    absent : Alternatives → Alternatives
+    present : Expr → Alternatives → Alternatives
+
+infixr 60 _∷ₑ_
+-- how many expressions there are
+unfoldable pub count : Exprs → ℕ
+count []ₑ = zero
+count (e ∷ₑ es) = suc (count es)
+
+-- the expression of a given number
+unfoldable pub nthExpr : Exprs → ℕ → Option Expr
+nthExpr []ₑ n = none
+nthExpr (e ∷ₑ es) zero = some e
+nthExpr (e ∷ₑ es) (suc n) = nthExpr es n
+
+-- A type is the list of its constructors, a constructor the list of its fields' types.
+abbrev pub Types : Type 0
+Types = List (List (List ℕ))
+
+pub record Function : Type 0 where
+  pub parameters : List ℕ
+  pub result : ℕ
+  pub body : Expr
+
+-- A rule file that was read: its types, its functions, and what GO asks for.
+pub record Program : Type 0 where
+  pub types : Types
+  pub functions : List Function
+  pub source : ℕ
+  pub label : ℕ
+  pub depth : ℕ
+  pub steps : ℕ
+
+-- the field types of a constructor, if the type has that constructor
+unfoldable pub fieldTypes : Types → ℕ → ℕ → Option (List ℕ)
+fieldTypes types t c = getElem? (getD types t []) c
+
+-- the function of a given number
+unfoldable pub functionAt : Program → ℕ → Option Function
+functionAt p f = getElem? (p .functions) f
+
+abbrev pub parametersOf : Option Function → List ℕ
+parametersOf none = []
+parametersOf (some f) = f .parameters
+
+-- the types of the source function's parameters
+unfoldable pub sourceTypes : Program → List ℕ
+sourceTypes p = parametersOf (functionAt p (p .source))

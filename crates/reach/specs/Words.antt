@@ -1,0 +1,43 @@
+-- The papers' numbers and words for the cases of the enums of src/lib.rt: 01, "Turned back", "The list" and "Evaluation and steps".
+-- Rests on the enums.
+use Prim.Native.Nat.{ℕ}
+use mathlib.Core.List.{List, [], _∷_}
+use Rattle.reach.specs.declared.Refusal.{Refusal}
+use Rattle.reach.specs.declared.Refusal.the-variants.{Truncated, UnexpectedMark, OutOfRange, UnknownNumber, UnknownCode, TypeMismatch, TrailingBytes, EmptyType, DepthTooSmall, BadInput, WorkTooShort, ListFull}
+use Rattle.reach.specs.declared.Outcome.{Outcome}
+use Rattle.reach.specs.declared.Outcome.the-variants.{Reached, Ended, Unfinished}
+use Rattle.reach.specs.declared.Verdict.{Verdict}
+use Rattle.reach.specs.declared.Verdict.the-variants.{Found, Undecided, None}
+
+-- the number that the table gives a refusal
+abbrev pub numberOf : Refusal → ℕ
+numberOf Truncated = 1
+numberOf UnexpectedMark = 2
+numberOf OutOfRange = 3
+numberOf UnknownNumber = 4
+numberOf UnknownCode = 5
+numberOf TypeMismatch = 6
+numberOf TrailingBytes = 7
+numberOf EmptyType = 8
+numberOf DepthTooSmall = 9
+numberOf BadInput = 10
+numberOf WorkTooShort = 11
+numberOf ListFull = 12
+
+-- the steps that a run took
+abbrev pub stepsOf : Outcome → ℕ
+stepsOf (Reached n) = n
+stepsOf (Ended n) = n
+stepsOf (Unfinished n) = n
+
+-- the word for how it ended, in ASCII: "reached", "ended", "unfinished"
+abbrev pub outcomeWord : Outcome → List ℕ
+outcomeWord (Reached n) = 0x72 ∷ 0x65 ∷ 0x61 ∷ 0x63 ∷ 0x68 ∷ 0x65 ∷ 0x64 ∷ []
+outcomeWord (Ended n) = 0x65 ∷ 0x6e ∷ 0x64 ∷ 0x65 ∷ 0x64 ∷ []
+outcomeWord (Unfinished n) = 0x75 ∷ 0x6e ∷ 0x66 ∷ 0x69 ∷ 0x6e ∷ 0x69 ∷ 0x73 ∷ 0x68 ∷ 0x65 ∷ 0x64 ∷ []
+
+-- the word for a verdict, as `reachlist` prints it: "found", "undecided", "none"
+abbrev pub verdictWord : Verdict → List ℕ
+verdictWord Found = 0x66 ∷ 0x6f ∷ 0x75 ∷ 0x6e ∷ 0x64 ∷ []
+verdictWord Undecided = 0x75 ∷ 0x6e ∷ 0x64 ∷ 0x65 ∷ 0x63 ∷ 0x69 ∷ 0x64 ∷ 0x65 ∷ 0x64 ∷ []
+verdictWord None = 0x6e ∷ 0x6f ∷ 0x6e ∷ 0x65 ∷ []

@@ -1,0 +1,45 @@
+// The answers that every layer gives: the refusals, the end of a run, the verdict of a search.
+// specs/Words.antt says which number or word of the papers each case is. There is no
+// other code in this crate: the rest of it is definitions (specs/) and what is proved of them (proofs/).
+
+// Why a call gave no result. The comments give the word of the papers' table.
+pub enum Refusal {
+    // 1, "short"
+    Truncated,
+    // 2, "mark"
+    UnexpectedMark,
+    // 3, "range"
+    OutOfRange,
+    // 4, "stranger"
+    UnknownNumber,
+    // 5, "code"
+    UnknownCode,
+    // 6, "misfit"
+    TypeMismatch,
+    // 7, "tail"
+    TrailingBytes,
+    // 8, "hollow"
+    EmptyType,
+    // 9, "shallow"
+    DepthTooSmall,
+    // 10, "input"
+    BadInput,
+    // 11, "bench"
+    WorkTooShort,
+    // 12, "full"
+    ListFull,
+}
+
+// How the evaluation of a closed input ends, with the steps that it took.
+pub enum Outcome {
+    Reached(u16),
+    Ended(u16),
+    Unfinished(u16),
+}
+
+// What a complete list says of its rule file.
+pub enum Verdict {
+    Found,
+    Undecided,
+    None,
+}
