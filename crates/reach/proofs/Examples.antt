@@ -1,34 +1,147 @@
--- The starred examples of 01 as one table, computed by the checker from the bytes of P over the definitions.
+-- The starred examples of 01 as one table. The checker computes each row from the bytes of P, with its label, D and S changed, and finds what
+-- stands beside it: the lines of the list and the verdict, or the end of a closed run. A second table has what P cannot show: a missing
+-- alternative.
+-- Rests on the definitions alone.
 use Prim.Native.Nat.{ℕ}
 use mathlib.Core.Path.{_≡_, refl}
-use mathlib.Core.List.{List, [], _∷_, _++_, map}
-use mathlib.Core.Option.{Option, none, some}
-use lib.ListN.{length}
+use mathlib.Core.List
+use mathlib.Core.List.{List, [], _∷_, map}
+use mathlib.Core.Option.{Option, some}
 use Rattle.reach.specs.declared.Verdict.{Verdict}
 use Rattle.reach.specs.declared.Verdict.the-variants.{Found, Undecided, None}
-use Rattle.reach.specs.declared.Outcome.{Outcome}
 use Rattle.reach.specs.declared.Outcome.the-variants.{Reached, Ended, Unfinished}
-use Rattle.reach.specs.Limits.{workWords}
+use Rattle.reach.specs.Syntax
+use Rattle.reach.specs.Parts
 use Rattle.reach.specs.Parts.{prefix}
+use Rattle.reach.specs.Types
+use Rattle.reach.specs.Eval
+use Rattle.reach.specs.Search
 use Rattle.reach.specs.Search.{Kind, RE, UN, Entry}
-use Rattle.reach.specs.Answers.{SearchAnswer, RunAnswer, ran, searchAnswer, listed, verdictOf, runAnswer}
+use Rattle.reach.specs.Reader
+use Rattle.reach.specs.RuleFile
+use Rattle.reach.specs.Input
+use Rattle.reach.specs.Lists
+use Rattle.reach.specs.Lists.{listBytes}
+use Rattle.reach.specs.Answers
+use Rattle.reach.specs.Answers.{RunAnswer, ran, searchAnswer, listed, verdictOf, runAnswer}
 
--- P with this label, D and S; S below 256
-abbrev pub bytesOfP : ℕ → ℕ → ℕ → List ℕ
-bytesOfP label d s =
+-- P with this label, D and S; P itself has 7, 4 and 20. (S is below 256.)
+abbrev pub p-with : ℕ → ℕ → ℕ → List ℕ
+p-with label d s =
     0x54 ∷ 0x59 ∷ 0x02 ∷ 0x00 ∷ 0x01 ∷ 0x00 ∷ 0x46 ∷ 0x4e ∷ 0x01 ∷ 0x00 ∷ 0x00 ∷ 0x17 ∷ 0x00 ∷ 0x03 ∷ 0x00 ∷ 0x00 ∷ 0x00 ∷ 0x01 ∷ 0x02 ∷ 0x00 ∷ 0x00
     ∷ 0x01 ∷ 0x03 ∷ 0x00 ∷ 0x00 ∷ 0x01 ∷ 0x01 ∷ 0x02 ∷ 0x00 ∷ 0x00 ∷ 0x01 ∷ 0x05 ∷ 0x07 ∷ 0x02 ∷ 0x00 ∷ 0x00 ∷ 0x47 ∷ 0x4f ∷ 0x00 ∷ label ∷ d ∷ s ∷ 0x00 ∷ []
 
--- what a line shows of an entry: its kind, its steps and its bytes
-abbrev pub shown : Entry → Kind × ℕ × List ℕ
+-- A line: the kind, the steps and the bytes of an entry.
+abbrev pub Line : Type 0
+Line = Kind × ℕ × List ℕ
+
+abbrev pub shown : Entry → Line
 shown e = (e .kind, e .steps, prefix (e .input))
 
--- what the search of P shows, with the buffers of `reachlist`
-abbrev pub search-of : ℕ → ℕ → ℕ → List (Kind × ℕ × List ℕ) × Option Verdict
-search-of label d s =
-    let a = searchAnswer (bytesOfP label d s) 16384 32768 in
-    (map shown (listed a), verdictOf a)
+-- What a row asks: the search of a file, the bytes of its list, or the closed run of a file on an input.
+pub data Asked : Type 0 where
+  search-of : List ℕ → Asked
+  bytes-of : List ℕ → Asked
+  run-of : List ℕ → List ℕ → Asked
 
-test : search-of 7 4 20 ≡ ((RE, 6, 1 ∷ 1 ∷ 0xff ∷ []) ∷ [], some Found)
-unfolding Rattle.reach.specs.Syntax.count Rattle.reach.specs.Syntax.nthExpr Rattle.reach.specs.Syntax.fieldTypes Rattle.reach.specs.Syntax.functionAt Rattle.reach.specs.Syntax.sourceTypes Rattle.reach.specs.Parts.width Rattle.reach.specs.Parts.allOpen Rattle.reach.specs.Parts.part Rattle.reach.specs.Parts.within Rattle.reach.specs.Parts.at Rattle.reach.specs.Parts.bindAt Rattle.reach.specs.Parts.openAt Rattle.reach.specs.Parts.depth Rattle.reach.specs.Parts.prefix Rattle.reach.specs.Types.slots Rattle.reach.specs.Types.sourceSlots Rattle.reach.specs.Types.fieldSlots Rattle.reach.specs.Types.slotAt Rattle.reach.specs.Types.known Rattle.reach.specs.Types.inhabited Rattle.reach.specs.Types.round Rattle.reach.specs.Types.rounds Rattle.reach.specs.Types.leastDepths Rattle.reach.specs.Types.shallow Rattle.reach.specs.Types.forksFrom Rattle.reach.specs.Types.forks Rattle.reach.specs.Types.forksAt Rattle.reach.specs.Eval.partOf Rattle.reach.specs.Eval.size Rattle.reach.specs.Eval.suspend Rattle.reach.specs.Eval.lookup Rattle.reach.specs.Eval.resume Rattle.reach.specs.Eval.choose Rattle.reach.specs.Eval.enter Rattle.reach.specs.Eval.answered Rattle.reach.specs.Eval.view Rattle.reach.specs.Eval.look Rattle.reach.specs.Eval.answer Rattle.reach.specs.Eval.next Rattle.reach.specs.Eval.conclude Rattle.reach.specs.Eval.eval Rattle.reach.specs.Eval.startOf Rattle.reach.specs.Eval.start Rattle.reach.specs.Eval.run Rattle.reach.specs.Search.gather Rattle.reach.specs.Search.branches Rattle.reach.specs.Search.search Rattle.reach.specs.Search.openInput Rattle.reach.specs.Search.entries Rattle.reach.specs.Search.verdict Rattle.reach.specs.Reader.byte Rattle.reach.specs.Reader.word Rattle.reach.specs.Reader.times Rattle.reach.specs.Reader.passed Rattle.reach.specs.Reader.atEnd Rattle.reach.specs.RuleFile.markOf Rattle.reach.specs.RuleFile.mark Rattle.reach.specs.RuleFile.counted Rattle.reach.specs.RuleFile.constructorRecord Rattle.reach.specs.RuleFile.typeRecord Rattle.reach.specs.RuleFile.functionRecord Rattle.reach.specs.RuleFile.goalRecord Rattle.reach.specs.RuleFile.moreTypes Rattle.reach.specs.RuleFile.moreFunctions Rattle.reach.specs.RuleFile.outline Rattle.reach.specs.RuleFile.allBelow Rattle.reach.specs.RuleFile.constructorsExist Rattle.reach.specs.RuleFile.typesExist Rattle.reach.specs.RuleFile.headsExist Rattle.reach.specs.RuleFile.numbersExist Rattle.reach.specs.RuleFile.operandsOf Rattle.reach.specs.RuleFile.alternatives Rattle.reach.specs.RuleFile.variableExpr Rattle.reach.specs.RuleFile.callOf Rattle.reach.specs.RuleFile.callExpr Rattle.reach.specs.RuleFile.constructOf Rattle.reach.specs.RuleFile.constructExpr Rattle.reach.specs.RuleFile.caseOf Rattle.reach.specs.RuleFile.caseExpr Rattle.reach.specs.RuleFile.letExpr Rattle.reach.specs.RuleFile.targetExpr Rattle.reach.specs.RuleFile.expressionBy Rattle.reach.specs.RuleFile.expression Rattle.reach.specs.RuleFile.bodyOf Rattle.reach.specs.RuleFile.functionsOf Rattle.reach.specs.RuleFile.programOf Rattle.reach.specs.RuleFile.noEmptyType Rattle.reach.specs.RuleFile.deepEnough Rattle.reach.specs.RuleFile.ruleFile Rattle.reach.specs.Input.rowBy Rattle.reach.specs.Input.row Rattle.reach.specs.Input.inputOf Rattle.reach.specs.Lists.wordBytes Rattle.reach.specs.Lists.kindBytes Rattle.reach.specs.Lists.entryBytes Rattle.reach.specs.Lists.listBytes Rattle.reach.specs.Lists.cut Rattle.reach.specs.Lists.roomOf Rattle.reach.specs.Lists.written Rattle.reach.specs.Answers.check Rattle.reach.specs.Answers.cutAnswer Rattle.reach.specs.Answers.searchChecked Rattle.reach.specs.Answers.searchAnswer Rattle.reach.specs.Answers.listed Rattle.reach.specs.Answers.refusalOf Rattle.reach.specs.Answers.verdictOf Rattle.reach.specs.Answers.outcomeOf Rattle.reach.specs.Answers.runInput Rattle.reach.specs.Answers.runChecked Rattle.reach.specs.Answers.runAnswer Rattle.reach.specs.RuleFile.sizeInLimit mathlib.Core.List.flatMap mathlib.Core.List.zipWith
-test = refl
+-- What stands beside it: lines with the verdict, bytes, or the answer of the run.
+pub data Answer : Type 0 where
+  lists : List Line → Option Verdict → Answer
+  bytes : List ℕ → Answer
+  answers : RunAnswer → Answer
+
+-- what the definitions give, with the buffers of `reachlist`: a work slice of 16,384 words, a list slice of 32,768 bytes
+abbrev pub computed : Asked → Answer
+computed (search-of file) =
+    let a = searchAnswer file 16384 32768 in
+    lists (map shown (listed a)) (verdictOf a)
+computed (bytes-of file) = bytes (listBytes (listed (searchAnswer file 16384 32768)))
+computed (run-of file input) = answers (runAnswer file input 16384)
+
+pub record Row : Type 0 where
+  pub asked : Asked
+  pub expected : Answer
+
+-- every row's answer is the one that stands beside it
+abbrev pub AsExpected : List Row → Type 0
+AsExpected rows = map (λ r. computed (r .asked)) rows ≡ map (λ r. r .expected) rows
+
+infix 70 _⇒_
+abbrev pub _⇒_ : Asked → Answer → Row
+_⇒_ a b = record { asked = a; expected = b }
+
+-- as `reachlist` prints them: `reach`, `unfinished`, and `_` for an open part
+abbrev reach : ℕ → List ℕ → Line
+reach n s = (RE, n, s)
+
+abbrev unfinished : ℕ → List ℕ → Line
+unfinished n s = (UN, n, s)
+
+abbrev ○ : ℕ
+○ = 0xff
+
+-- 01's table, row by row: P with its label, D and S, and what the row says; at the end the bytes of P's own list
+abbrev pub starred : List Row
+starred =
+    search-of (p-with 7 4 20) ⇒ lists (reach 6 (1 ∷ 1 ∷ ○ ∷ []) ∷ []) (some Found)
+    ∷ search-of (p-with 7 3 20) ⇒ lists (reach 6 (1 ∷ 1 ∷ ○ ∷ []) ∷ []) (some Found)
+    ∷ search-of (p-with 7 4 6) ⇒ lists (reach 6 (1 ∷ 1 ∷ ○ ∷ []) ∷ []) (some Found)
+    ∷ search-of (p-with 7 2 20) ⇒ lists [] (some None)
+    ∷ search-of (p-with 7 1 20) ⇒ lists [] (some None)
+    ∷ search-of (p-with 7 4 5) ⇒ lists (unfinished 5 (1 ∷ ○ ∷ []) ∷ []) (some Undecided)
+    ∷ search-of (p-with 7 4 2) ⇒ lists (unfinished 2 (○ ∷ []) ∷ []) (some Undecided)
+    ∷ search-of (p-with 7 4 0) ⇒ lists (unfinished 0 (○ ∷ []) ∷ []) (some Undecided)
+    ∷ search-of (p-with 8 4 6) ⇒ lists (unfinished 6 (1 ∷ 1 ∷ ○ ∷ []) ∷ []) (some Undecided)
+    ∷ search-of (p-with 8 4 7) ⇒ lists [] (some None)
+    ∷ run-of (p-with 7 4 20) (0 ∷ []) ⇒ answers (ran (Ended 3))
+    ∷ run-of (p-with 7 4 20) (1 ∷ 1 ∷ 0 ∷ []) ⇒ answers (ran (Reached 6))
+    ∷ bytes-of (p-with 7 4 20) ⇒ bytes (0x52 ∷ 0x45 ∷ 0x06 ∷ 0x00 ∷ 0x03 ∷ 0x00 ∷ 0x01 ∷ 0x01 ∷ 0xff ∷ [])
+    ∷ []
+
+-- P has an alternative for every constructor. In this file, with this S, the one case looks at a constructor for which it has none.
+abbrev pub lacking : ℕ → List ℕ
+lacking s =
+    0x54 ∷ 0x59 ∷ 0x02 ∷ 0x00 ∷ 0x01 ∷ 0x00 ∷ 0x46 ∷ 0x4e ∷ 0x01 ∷ 0x00 ∷ 0x00 ∷ 0x0a ∷ 0x00 ∷ 0x03 ∷ 0x00 ∷ 0x02 ∷ 0x00 ∷ 0x00 ∷ 0x00 ∷ 0x01 ∷ 0x02 ∷ 0x00 ∷ 0x00
+    ∷ 0x47 ∷ 0x4f ∷ 0x00 ∷ 0x07 ∷ 0x04 ∷ s ∷ 0x00 ∷ []
+
+abbrev pub at-missing : List Row
+at-missing =
+    search-of (lacking 1) ⇒ lists (unfinished 1 (○ ∷ []) ∷ []) (some Undecided)
+    ∷ search-of (lacking 2) ⇒ lists [] (some None)
+    ∷ run-of (lacking 1) (0 ∷ []) ⇒ answers (ran (Unfinished 1))
+    ∷ run-of (lacking 2) (0 ∷ []) ⇒ answers (ran (Ended 2))
+    ∷ []
+
+-- all the definitions that an answer is made of: to unfold this is to unfold them
+definitions : Unit {0}
+unfolding
+    Syntax.count Syntax.nthExpr Syntax.fieldTypes Syntax.functionAt Syntax.sourceTypes
+    Parts.width Parts.allOpen Parts.part Parts.within Parts.at Parts.bindAt Parts.prefix
+    Types.slots Types.sourceSlots Types.fieldSlots Types.slotAt Types.known Types.inhabited Types.round Types.rounds Types.leastDepths
+    Types.shallow Types.forksFrom Types.forks Types.forksAt
+    Eval.partOf Eval.size Eval.suspend Eval.lookup Eval.resume Eval.choose Eval.enter Eval.answered Eval.view Eval.look Eval.answer Eval.next
+    Eval.conclude Eval.eval Eval.startOf Eval.start Eval.run
+    Search.gather Search.branches Search.search Search.openInput Search.entries Search.verdict
+    Reader.byte Reader.word Reader.times Reader.passed Reader.atEnd
+    RuleFile.markOf RuleFile.mark RuleFile.counted RuleFile.constructorRecord RuleFile.typeRecord RuleFile.functionRecord RuleFile.goalRecord
+    RuleFile.moreTypes RuleFile.moreFunctions RuleFile.outline RuleFile.allBelow RuleFile.constructorsExist RuleFile.typesExist
+    RuleFile.headsExist RuleFile.numbersExist RuleFile.operandsOf RuleFile.alternatives RuleFile.variableExpr RuleFile.callOf
+    RuleFile.callExpr RuleFile.constructOf RuleFile.constructExpr RuleFile.caseOf RuleFile.caseExpr RuleFile.letExpr RuleFile.targetExpr
+    RuleFile.expressionBy RuleFile.expression RuleFile.bodyOf RuleFile.functionsOf RuleFile.programOf RuleFile.noEmptyType
+    RuleFile.deepEnough RuleFile.sizeInLimit RuleFile.ruleFile
+    Input.rowBy Input.row Input.inputOf
+    Lists.wordBytes Lists.kindBytes Lists.entryBytes Lists.listBytes Lists.cut Lists.roomOf
+    Answers.check Answers.cutAnswer Answers.searchChecked Answers.searchAnswer Answers.listed Answers.verdictOf Answers.outcomeOf
+    Answers.runInput Answers.runChecked Answers.runAnswer
+    List.flatMap List.zipWith
+definitions = tt
+
+-- the starred examples of 01
+pub examples : AsExpected starred
+unfolding definitions
+examples = refl
+
+-- finding that there is no alternative costs a step: with S steps done before it, the path is unfinished
+pub missing-alternative : AsExpected at-missing
+unfolding definitions
+missing-alternative = refl

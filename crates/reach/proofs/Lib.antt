@@ -1,1 +1,15 @@
+pub mod Order
+pub mod Completing
+pub mod LeastDepths
+pub mod Depths
+pub mod Evaluation
+pub mod Entries
+pub mod Cover
+pub mod Moves
+pub mod Limits
+pub mod EntryLength
+pub mod Lists
 pub mod Examples
+pub mod ClosedInputs
+pub mod Answers
+pub mod Demands

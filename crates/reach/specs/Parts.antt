@@ -101,16 +101,11 @@ abbrev pub Completes : Parts → Parts → Type 0
 Completes j e = (q : Place) (c : ℕ) → HasAt e q c → HasAt j q c
 
 -- The order "binds at least": e ⊑ j where j has the parts of e, with the same constructor wherever e is bound.
-abbrev pub _⊑_ : Parts → Parts → Type 0
-_⊑_ end end = Unit {0}
-_⊑_ end (opened s) = ⊥
-_⊑_ end (bound d gs s) = ⊥
-_⊑_ (opened r) end = ⊥
-_⊑_ (opened r) (opened s) = r ⊑ s
-_⊑_ (opened r) (bound d gs s) = r ⊑ s
-_⊑_ (bound c fs r) end = ⊥
-_⊑_ (bound c fs r) (opened s) = ⊥
-_⊑_ (bound c fs r) (bound d gs s) = (c ≡ d) × (fs ⊑ gs) × (r ⊑ s)
+pub data _⊑_ : Parts → Parts → Type 0 where
+  ⊑-end : end ⊑ end
+  ⊑-open : {r s : Parts} → r ⊑ s → opened r ⊑ opened s
+  ⊑-bind : {r s gs : Parts} {d : ℕ} → r ⊑ s → opened r ⊑ bound d gs s
+  ⊑-same : {r s fs gs : Parts} {c : ℕ} → fs ⊑ gs → r ⊑ s → bound c fs r ⊑ bound c gs s
 
 infix 40 _⊑_
 -- the prefix form: a constructor's number before its fields, 0xFF for an open part

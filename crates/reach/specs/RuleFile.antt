@@ -12,7 +12,7 @@ use Rattle.reach.specs.declared.Refusal.the-variants.{UnexpectedMark, Ou
 use Rattle.reach.specs.Base.{pick}
 use Rattle.reach.specs.Limits.{fileLimit, typeLimit, constructorLimit, fieldLimit, functionLimit, parameterLimit, bodyLimit, depthLimit, stepLimit, viewLimit, nestingLimit}
 use Rattle.reach.specs.Syntax.{Expr, variable, call, construct, case, bind, target, Exprs, []ₑ, _∷ₑ_, Alternatives, no-more, absent, present, Types, Function, Program, fieldTypes, sourceTypes}
-use Rattle.reach.specs.Types.{leastDepths, known, shallow}
+use Rattle.reach.specs.Types.{leastDepths, shallow}
 use Rattle.reach.specs.Reader.{Got, got, refused, onGot, Reader, _>>=_, _>>_, give, refuse, demand, byte, word, times, passed, atEnd}
 
 -- The first pass: marks, counts, lengths, D and S, bodies passed over.

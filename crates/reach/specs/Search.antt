@@ -8,7 +8,7 @@ use Rattle.reach.specs.declared.Verdict.the-variants.{Found, Undecided, 
 use Rattle.reach.specs.Syntax.{Program, sourceTypes}
 use Rattle.reach.specs.Parts.{Parts, allOpen, bindAt}
 use Rattle.reach.specs.Types.{Fork, forksAt, slotAt, sourceSlots, leastDepths}
-use Rattle.reach.specs.Eval.{State, Question, answered, Next, demands, stops, goes, waits, next, start, Run, reached, unfinished}
+use Rattle.reach.specs.Eval.{State, Question, answered, Next, demands, stops, goes, waits, next, start, Run, reached, ended, unfinished, halted}
 
 -- `RE` and `UN`
 pub data Kind : Type 0 where
@@ -25,6 +25,17 @@ pub record Entry : Type 0 where
 abbrev pub says : Kind → ℕ → Run
 says RE n = reached n
 says UN n = unfinished n
+
+-- the ends that a list is to show
+abbrev pub ReachedOrUnfinished : Run → Type 0
+ReachedOrUnfinished (reached n) = Unit {0}
+ReachedOrUnfinished (ended why n) = ⊥
+ReachedOrUnfinished (unfinished n) = Unit {0}
+ReachedOrUnfinished (halted q n) = ⊥
+
+-- 01: a closed input stops inside the step limit without demanding the target if it is neither reached nor unfinished
+abbrev pub StopsInside : Run → Type 0
+StopsInside r = ¬ ReachedOrUnfinished r
 
 -- the entries of a path that is n steps long, or those of what goes on from there
 unfoldable pub gather : (State → List Entry) → (Question → List Entry) → ℕ → Parts → Next → List Entry

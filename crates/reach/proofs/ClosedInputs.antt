@@ -1,0 +1,204 @@
+-- Refusal 10 under exactly its condition: bytes are read as a closed input if and only if they are the prefix form of a closed input
+-- within the depth, and then it is that input.
+-- A place of the bytes is spoken of by the bytes from there on, `drop i s`.
+-- Rests on Input and Types, and on Finds of Limits.
+use Prim.Native.Nat.{ℕ, zero, suc, _≤_, _<_, zero-le}
+use mathlib.Core.Path.{_≡_, refl, ap, subst}
+use mathlib.Core.Bool.{Bool, true, false}
+use mathlib.Core.List.{List, [], _∷_, _++_, append-assoc, append-nil}
+use mathlib.Core.Logic.{_↔_}
+use mathlib.Core.Option.{Option, none, some}
+use native.Mathlib.Omega.{arith}
+use lib.ListN.{length, getD, drop, length-drop, drop-of-length-le}
+use lib.Seq.{drop-cons}
+use lib.Dec.{ltb}
+use borrow.Author.Tests.{ltb-true, ltb-false, lt-ltb, le-ltb}
+use Rattle.reach.specs.declared.Refusal.the-variants.{Truncated, BadInput}
+use Rattle.reach.specs.Base.{pick}
+use Rattle.reach.specs.Syntax.{Types, Program, fieldTypes, sourceTypes}
+use Rattle.reach.specs.Parts.{Parts, end, opened, bound, Closed, depth, prefix}
+use Rattle.reach.specs.Types.{Typed, slots, sourceSlots, Fits, WithinDepth}
+use Rattle.reach.specs.Reader.{Got, got, refused, onGot, Reader, _>>=_, _>>_, give, byte, atEnd}
+use Rattle.reach.specs.Input.{orBad, rowBy, row, inputOf}
+use Rattle.reach.proofs.Limits.{clash, Finds, finds-then}
+
+-- What a reader of rows looks for: a row that is closed, of these types, and at most so deep.
+record ClosedRow (types : Types) (d : ℕ) (us : List ℕ) (j : Parts) : Type 0 where
+  closed : Closed j
+  typed : Typed types us j
+  shallow : depth j ≤ d
+
+-- slots that are all of one depth allow what that depth allows
+fits-depth : (types : Types) (d : ℕ) (us : List ℕ) (j : Parts) → Typed types us j → Fits (slots us d) j ↔ (depth j ≤ d)
+unfolding slots depth
+fits-depth types d [] end t = (λ f. zero-le, λ h. tt)
+fits-depth types d [] (opened r) t = absurd t
+fits-depth types d [] (bound c fs r) t = absurd t
+fits-depth types d (u ∷ us) end t = absurd t
+fits-depth types d (u ∷ us) (opened r) t = fits-depth types d us r t
+fits-depth types d (u ∷ us) (bound c fs r) t =
+    let rest = fits-depth types d us r (t .3) in
+    (λ f. omega (arith, f .0, rest .0 (f .1)), λ h. (omega arith, rest .1 (omega arith)))
+
+-- a closed input within the depth is such a row
+within-row : (p : Program) (j : Parts) → WithinDepth p j ↔ ClosedRow (p .types) (p .depth) (sourceTypes p) j
+unfolding sourceSlots
+within-row p j = (
+  λ w. record { closed = w .0 .0; typed = w .0 .1; shallow = (fits (w .0 .1)) .0 (w .1) },
+  λ row. ((row .closed, row .typed), (fits (row .typed)) .1 (row .shallow)),
+)
+  where
+    fits : Typed (p .types) (sourceTypes p) j → Fits (slots (sourceTypes p) (p .depth)) j ↔ (depth j ≤ p .depth)
+    fits t = fits-depth (p .types) (p .depth) (sourceTypes p) j t
+
+-- From the reader to the bytes: what it finds is such a row, and the bytes begin with the row's prefix form.
+
+byte-finds : (s : List ℕ) (i : ℕ) → Finds (λ c next. drop i s ≡ c ∷ drop next s) (byte s i)
+unfolding byte
+byte-finds s i = go (ltb i (length s)) refl
+  where
+    go : (b : Bool) → ltb i (length s) ≡ b → Finds (λ c next. drop i s ≡ c ∷ drop next s) (pick b (got (getD s i 0) (suc i)) (refused Truncated))
+    go true t = drop-cons s i 0 (ltb-true i (length s) t)
+    go false t = tt
+
+orBad-finds : (o : Option (List ℕ)) (s : List ℕ) (i : ℕ) → Finds (λ us next. (o ≡ some us) × (i ≡ next)) (orBad o s i)
+orBad-finds none s i = tt
+orBad-finds (some us) s i = (refl, refl)
+
+-- what is found for these types stands in the bytes
+abbrev FindsRows : Types → ℕ → (List ℕ → Reader Parts) → List ℕ → Type 0
+FindsRows types d m s = (us : List ℕ) (i : ℕ) → Finds (λ j next. ClosedRow types d us j × (drop i s ≡ prefix j ++ drop next s)) (m us s i)
+
+no-row : (types : Types) (d : ℕ) → ClosedRow types d [] end
+unfolding depth
+no-row types d = record { closed = tt; typed = tt; shallow = zero-le }
+
+rowBy-finds :
+    (types : Types) (d : ℕ) (m : List ℕ → Reader Parts) (s : List ℕ) → FindsRows types d m s → FindsRows types (suc d) (rowBy types m) s
+unfolding rowBy prefix depth
+rowBy-finds types d m s below [] i = (no-row types (suc d), refl)
+rowBy-finds types d m s below (t ∷ ts) i =
+    finds-then _ _ _ (byte s i) (byte-finds s i)
+    (λ c k first. finds-then _ _ _ (orBad (fieldTypes types t c) s k) (orBad-finds (fieldTypes types t c) s k)
+    (λ us l has. finds-then _ _ _ (m us s l) (below us l)
+    (λ fs h inner. finds-then _ _ _ (rowBy types m ts s h) (rowBy-finds types d m s below ts h)
+    (λ r n outer. (
+      record { closed = (inner .0 .closed, outer .0 .closed); typed = (us, has .0, inner .0 .typed, outer .0 .typed); shallow = omega arith },
+      cc (append-assoc (prefix fs) (prefix r) (drop n s)),
+    )))))
+
+row-finds : (types : Types) (d : ℕ) (s : List ℕ) → FindsRows types d (row types d) s
+unfolding row prefix
+row-finds types zero s [] i = (no-row types 0, refl)
+row-finds types zero s (t ∷ ts) i = tt
+row-finds types (suc d) s us i = rowBy-finds types d (row types d) s (row-finds types d s) us i
+
+-- From the bytes to the reader: where they begin with the prefix form of such a row, it finds that row.
+
+byte-there : (s : List ℕ) (i c : ℕ) (rest : List ℕ) → drop i s ≡ c ∷ rest → (byte s i ≡ got c (suc i)) × (drop (suc i) s ≡ rest)
+unfolding byte
+byte-there s i c rest e =
+    let more : i < length s = omega (arith, ap length e, length-drop i s) in
+    let first = drop-cons s i 0 more in
+    (rw (lt-ltb i (length s) more) (cc), cc)
+
+-- the reader finds the row at a place, and the rest of the bytes stands behind it
+abbrev There : Reader Parts → List ℕ → ℕ → Parts → List ℕ → Type 0
+There m s i j rest = (next : ℕ) × (m s i ≡ got j next) × (drop next s ≡ rest)
+
+-- what stands in the bytes for these types is found
+abbrev MeetsRows : Types → ℕ → (List ℕ → Reader Parts) → List ℕ → Type 0
+MeetsRows types d m s =
+    (us : List ℕ) (i : ℕ) (j : Parts) (rest : List ℕ) → ClosedRow types d us j → drop i s ≡ prefix j ++ rest → There (m us) s i j rest
+
+end-there :
+    (types : Types) (d : ℕ) (s : List ℕ) (i : ℕ) (j : Parts) (rest : List ℕ) → ClosedRow types d [] j → drop i s ≡ prefix j ++ rest
+    → There (give end) s i j rest
+unfolding prefix
+end-there types d s i end rest row e = (i, refl, e)
+end-there types d s i (opened r) rest row e = absurd (row .typed)
+end-there types d s i (bound c fs r) rest row e = absurd (row .typed)
+
+-- the four readings of a part, one after another
+part-there :
+    (types : Types) (m : List ℕ → Reader Parts) (t : ℕ) (ts us s : List ℕ) (c i k h n : ℕ) (fs r : Parts)
+    → byte s i ≡ got c k → fieldTypes types t c ≡ some us → m us s k ≡ got fs h → rowBy types m ts s h ≡ got r n
+    → rowBy types m (t ∷ ts) s i ≡ got (bound c fs r) n
+unfolding rowBy
+part-there types m t ts us s c i k h n fs r first has inner outer = rw (first, has, inner, outer)
+
+rowBy-there :
+    (types : Types) (d : ℕ) (m : List ℕ → Reader Parts) (s : List ℕ) → MeetsRows types d m s → MeetsRows types (suc d) (rowBy types m) s
+unfolding rowBy prefix depth
+rowBy-there types d m s below [] i j rest row e = end-there types (suc d) s i j rest row e
+rowBy-there types d m s below (t ∷ ts) i end rest row e = absurd (row .typed)
+rowBy-there types d m s below (t ∷ ts) i (opened r) rest row e = absurd (row .closed)
+rowBy-there types d m s below (t ∷ ts) i (bound c fs r) rest row e =
+    let (us, has, of-fields, of-rest) = row .typed in
+    let fields-row : ClosedRow types d us fs = record { closed = row .closed .0; typed = of-fields; shallow = omega arith } in
+    let rest-row : ClosedRow types (suc d) ts r = record { closed = row .closed .1; typed = of-rest; shallow = omega arith } in
+    let first = byte-there s i c (prefix fs ++ (prefix r ++ rest)) (cc (append-assoc (prefix fs) (prefix r) rest)) in
+    let inner = below us (suc i) fs (prefix r ++ rest) fields-row (first .1) in
+    let outer = rowBy-there types d m s below ts (inner .0) r rest rest-row (inner .2) in
+    (outer .0, part-there types m t ts us s c i (suc i) (inner .0) (outer .0) fs r (first .0) has (inner .1) (outer .1), outer .2)
+
+too-deep : (types : Types) (t : ℕ) (ts : List ℕ) (j : Parts) → ClosedRow types 0 (t ∷ ts) j → ⊥
+unfolding depth
+too-deep types t ts end row = row .typed
+too-deep types t ts (opened r) row = row .closed
+too-deep types t ts (bound c fs r) row = omega arith
+
+row-there : (types : Types) (d : ℕ) (s : List ℕ) → MeetsRows types d (row types d) s
+unfolding row
+row-there types zero s [] i j rest fits e = end-there types 0 s i j rest fits e
+row-there types zero s (t ∷ ts) i j rest fits e = absurd (too-deep types t ts j fits)
+row-there types (suc d) s us i j rest fits e = rowBy-there types d (row types d) s (row-there types d s) us i j rest fits e
+
+-- The whole input: a row, and nothing behind it.
+
+abbrev whole : Types → ℕ → List ℕ → Reader Parts
+whole types d us = row types d us >>= λ j. atEnd BadInput >> give j
+
+end-finds : (s : List ℕ) (i : ℕ) → Finds (λ u next. drop i s ≡ []) (atEnd BadInput s i)
+unfolding atEnd
+end-finds s i = go (ltb i (length s)) refl
+  where
+    go : (b : Bool) → ltb i (length s) ≡ b → Finds (λ u next. drop i s ≡ []) (pick b (refused BadInput) (got (tt {0}) i))
+    go true t = tt
+    go false t = drop-of-length-le s (ltb-false i (length s) t)
+
+whole-finds : (types : Types) (d : ℕ) (us s : List ℕ) → Finds (λ j next. ClosedRow types d us j × (prefix j ≡ s)) (whole types d us s 0)
+whole-finds types d us s =
+    finds-then _ _ _ (row types d us s 0) (row-finds types d s us 0)
+    (λ j n found. finds-then _ _ _ (atEnd BadInput s n) (end-finds s n)
+    (λ u k over. (found .0, cc (append-nil (prefix j)))))
+
+whole-there :
+    (types : Types) (d : ℕ) (us s : List ℕ) (j : Parts) → ClosedRow types d us j → prefix j ≡ s → (next : ℕ) × (whole types d us s 0 ≡ got j next)
+unfolding atEnd
+whole-there types d us s j fits e =
+    let there = row-there types d s us 0 j [] fits (cc (append-nil (prefix j))) in
+    let over : length s ≤ there .0 = omega (arith, ap length (there .2), length-drop (there .0) s) in
+    (there .0, rw (there .1, le-ltb (there .0) (length s) over))
+
+of-found : (P : Parts → Type 0) (g : Got Parts) (j : Parts) → Finds (λ i next. P i) g → onGot (λ i next. some i) (λ why. none) g ≡ some j → P j
+of-found P (got i next) j h e = let z : i ≡ j = cc in subst P z h
+of-found P (refused why) j h e = absurd (clash (cc))
+
+-- bytes are read as a closed input exactly if they are its prefix form and it is within the depth
+pub input-exactly : (p : Program) (bytes : List ℕ) (j : Parts) → (inputOf p bytes ≡ some j) ↔ (WithinDepth p j × (prefix j ≡ bytes))
+unfolding inputOf
+input-exactly p bytes j = (
+  λ e. let found = of-found (λ i. ClosedRow types d us i × (prefix i ≡ bytes)) (whole types d us bytes 0) j (whole-finds types d us bytes) e in
+      ((within-row p j) .1 (found .0), found .1),
+  λ h. rw ((whole-there types d us bytes j ((within-row p j) .0 (h .0)) (h .1)) .1),
+)
+  where
+    types : Types
+    types = p .types
+
+    d : ℕ
+    d = p .depth
+
+    us : List ℕ
+    us = sourceTypes p

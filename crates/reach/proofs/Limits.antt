@@ -1,0 +1,270 @@
+-- What an accepted file keeps to: the limits of 01, no type without a closed value, and parameters that fit the depth.
+-- Each reader promises a fact of whatever it finds; the promises are joined along the reader's own text.
+-- Rests on Reader, RuleFile and Answers.
+use Prim.Native.Nat.{ℕ, zero, suc, pred, _≤_, zero-le, suc-le-suc}
+use mathlib.Core.Path.{_≡_, refl, subst}
+use mathlib.Core.Bool.{Bool, true, false, _&&_}
+use mathlib.Core.List.{List, [], _∷_}
+use mathlib.Core.Option.{Option, none, some}
+use native.Mathlib.Nat.{le-trans}
+use native.Mathlib.Omega.{arith}
+use lib.ListN.{length, getD, getElem?}
+use lib.Dec.{leb}
+use borrow.Author.Tests.{leb-true}
+use Rattle.reach.specs.declared.Refusal.{Refusal}
+use Rattle.reach.specs.declared.Refusal.the-variants.{OutOfRange, UnknownNumber, TrailingBytes, EmptyType, DepthTooSmall}
+use Rattle.reach.specs.Limits.{typeLimit, constructorLimit, fieldLimit, functionLimit, parameterLimit, bodyLimit, depthLimit, stepLimit}
+use Rattle.reach.specs.Syntax.{Function, Program, fieldTypes, functionAt, parametersOf, sourceTypes}
+use Rattle.reach.specs.Types.{leastDepths}
+use Rattle.reach.specs.Reader.{Got, got, refused, onGot, Reader, _>>=_, _>>_, give, refuse, demand, byte, word, times, passed, atEnd}
+use Rattle.reach.specs.RuleFile.{Mark, TY, FN, GO, other, onMark, mark, counted, constructorRecord, typeRecord, Head, functionRecord, Goal, goalRecord, moreTypes, moreFunctions, Outline, outline, numbersExist, bodyOf, functionsOf, programOf, noEmptyType, deepEnough, sizeInLimit, ruleFile}
+use Rattle.reach.specs.Answers.{accepted, turnedBack, check}
+
+pub clash : _≡_ {A = ℕ} 0 1 → ⊥
+clash e = omega arith
+
+-- the fact holds of each element of the list
+abbrev pub Each : {A : Type 0} → (A → Type 0) → List A → Type 0
+Each P [] = Unit {0}
+Each P (x ∷ xs) = P x × Each P xs
+
+each-getD : {A : Type 0} (P : A → Type 0) (xs : List A) (i : ℕ) (d : A) → Each P xs → P d → P (getD xs i d)
+each-getD P [] i d all default = default
+each-getD P (x ∷ xs) zero d all default = all .0
+each-getD P (x ∷ xs) (suc i) d all default = each-getD P xs i d (all .1) default
+
+each-getElem? : {A : Type 0} (P : A → Type 0) (xs : List A) (i : ℕ) (x : A) → Each P xs → getElem? xs i ≡ some x → P x
+each-getElem? P [] i x all e = absurd (clash (cc))
+each-getElem? P (y ∷ xs) zero x all e = let z : y ≡ x = cc in subst P z (all .0)
+each-getElem? P (y ∷ xs) (suc i) x all e = each-getElem? P xs i x (all .1) e
+
+-- the fact holds of the value that was found and of the place behind it, if one was
+abbrev pub Finds : {A : Type 0} → (A → ℕ → Type 0) → Got A → Type 0
+Finds P (got a next) = P a next
+Finds P (refused why) = Unit {0}
+
+-- what holds of whatever is found after each thing that the first reader may find
+pub finds-then :
+    {A B : Type 0} (P : A → ℕ → Type 0) (Q : B → ℕ → Type 0) (f : A → ℕ → Got B) (g : Got A)
+    → Finds P g → ((a : A) (next : ℕ) → P a next → Finds Q (f a next)) → Finds Q (onGot f (λ why. refused why) g)
+finds-then P Q f (got a next) h after = after a next h
+finds-then P Q f (refused why) h after = tt
+
+-- whatever the reader finds, the fact holds of it
+record Promises {A : Type 0} (P : A → Type 0) (m : Reader A) : Type 0 where
+  finds : (s : List ℕ) (i : ℕ) → Finds (λ a next. P a) (m s i)
+
+giving : {A : Type 0} {P : A → Type 0} {a : A} → P a → Promises P (give a)
+giving h = record { finds = λ s i. h }
+
+refusing : {A : Type 0} {P : A → Type 0} {why : Refusal} → Promises P (refuse why)
+refusing = record { finds = λ s i. tt }
+
+-- a test that was demanded has passed
+demanding : (test : Bool) (why : Refusal) → Promises (λ u. test ≡ true) (demand test why)
+demanding true why = record { finds = λ s i. refl }
+demanding false why = record { finds = λ s i. tt }
+
+-- the promise of less
+weakened : {A : Type 0} {P Q : A → Type 0} {m : Reader A} → ((a : A) → P a → Q a) → Promises P m → Promises Q m
+weakened {A} {P} {Q} {m} less whole = record { finds = λ s i. go (m s i) (whole .finds s i) }
+  where
+    go : (g : Got A) → Finds (λ a next. P a) g → Finds (λ a next. Q a) g
+    go (got a next) h = less a h
+    go (refused why) h = tt
+
+-- nothing is asked of what a reader finds
+anything : {A : Type 0} (m : Reader A) → Promises (λ a. Unit {0}) m
+anything {A} m = record { finds = λ s i. go (m s i) }
+  where
+    go : (g : Got A) → Finds (λ a next. Unit {0}) g
+    go (got a next) = tt
+    go (refused why) = tt
+
+module _ {A B : Type 0} {P : A → Type 0} {Q : B → Type 0} {m : Reader A} where
+  -- one reader and then another promise what the second promises of every value that the first may find
+  then : {f : A → Reader B} → Promises P m → ((a : A) → P a → Promises Q (f a)) → Promises Q (m >>= f)
+  then {f} first second = record { finds = λ s i. finds-then (λ a next. P a) (λ b next. Q b) (λ a. f a s) (m s i) (first .finds s i) (λ a next h. (second a h) .finds s next) }
+
+  then-on : {f : Reader B} → Promises P m → ((a : A) → P a → Promises Q f) → Promises Q (m >> f)
+  then-on {f} first second = then {f = λ a. f} first second
+
+-- what is read so many times: no more than that, and each as promised
+timed : {A : Type 0} {P : A → Type 0} {m : Reader A} (n : ℕ) → Promises P m → Promises (λ xs. (length xs ≤ n) × Each P xs) (times n m)
+unfolding times
+timed zero each = giving (zero-le, tt)
+timed (suc n) each = then each (λ a h. then (timed n each) (λ xs hs. giving (suc-le-suc (hs .0), (h, hs .1))))
+
+-- a promise for each mark that may be met
+marked : {A : Type 0} {P : A → Type 0} {ty fn go wrong : Reader A} → Promises P ty → Promises P fn → Promises P go → Promises P wrong → (m : Mark) → Promises P (onMark ty fn go wrong m)
+marked a b c d TY = a
+marked a b c d FN = b
+marked a b c d GO = c
+marked a b c d other = d
+
+both-true : (a b : Bool) → (a && b) ≡ true → (a ≡ true) × (b ≡ true)
+both-true true b e = (refl, e)
+both-true false b e = (e, cc)
+
+-- a count is within its bounds
+counting : (least most : ℕ) → Promises (λ n. (least ≤ n) × (n ≤ most)) (counted least most)
+unfolding counted
+counting least most =
+    then (anything byte)
+    (λ n h. then-on (demanding _ _)
+    (λ u t. let both = both-true (leb least n) (leb n most) t in giving (leb-true least n (both .0), leb-true n most (both .1))))
+
+-- a constructor within the limits
+abbrev ConstructorKept : List ℕ → Type 0
+ConstructorKept us = length us ≤ fieldLimit
+
+-- a type within the limits
+abbrev TypeKept : List (List ℕ) → Type 0
+TypeKept cs = (length cs ≤ constructorLimit) × Each ConstructorKept cs
+
+-- a count within the limit, then so many of them
+counted-kept : {A : Type 0} {P : A → Type 0} {m : Reader A} (least most : ℕ) → Promises P m → Promises (λ xs. (length xs ≤ most) × Each P xs) (counted least most >>= λ n. times n m)
+counted-kept least most each = then (counting least most) (λ n h. weakened (λ xs hs. (le-trans (hs .0) (h .1), hs .1)) (timed n each))
+
+constructor-kept : Promises ConstructorKept constructorRecord
+unfolding constructorRecord
+constructor-kept = weakened (λ us h. h .0) (counted-kept 0 fieldLimit (anything byte))
+
+type-kept : Promises TypeKept typeRecord
+unfolding typeRecord
+type-kept = counted-kept 1 constructorLimit constructor-kept
+
+-- a function within the limits, as its head tells
+abbrev HeadKept : Head → Type 0
+HeadKept h = length (h .parameters) ≤ parameterLimit
+
+head-kept : Promises HeadKept functionRecord
+unfolding functionRecord
+head-kept =
+    then (counting 0 parameterLimit)
+    (λ n h. then (timed n (anything byte))
+    (λ ps hs. then (anything byte)
+    (λ r u. then (anything word)
+    (λ l v. then-on (anything (demand (leb 1 l && leb l bodyLimit) OutOfRange))
+    (λ x y. then (anything (passed l))
+    (λ b w. giving (le-trans (hs .0) (h .1))))))))
+
+-- what GO asks for is within the limits
+abbrev GoalKept : Goal → Type 0
+GoalKept g = (1 ≤ g .depth) × (g .depth ≤ depthLimit) × (g .steps ≤ stepLimit)
+
+goal-kept : Promises GoalKept goalRecord
+unfolding goalRecord
+goal-kept =
+    then (anything byte)
+    (λ f u. then (anything byte)
+    (λ l v. then (counting 1 depthLimit)
+    (λ d h. then (anything word)
+    (λ s w. then-on (demanding _ _)
+    (λ x t. giving (h .0, h .1, leb-true s stepLimit t))))))
+
+-- the types and the functions that follow the first ones
+more-types : (n : ℕ) → Promises (λ ts. (length ts ≤ n) × Each TypeKept ts) (moreTypes n)
+unfolding moreTypes
+more-types zero = then (anything mark) (λ m u. marked refusing (giving (zero-le, tt)) refusing refusing m)
+more-types (suc n) =
+    then (anything mark)
+    (λ m u. marked (then type-kept (λ t h. then (more-types n) (λ ts hs. giving (suc-le-suc (hs .0), (h, hs .1)))))
+    (giving (zero-le, tt)) refusing refusing m)
+
+more-functions : (n : ℕ) → Promises (λ fs. (length fs ≤ n) × Each HeadKept fs) (moreFunctions n)
+unfolding moreFunctions
+more-functions zero = then (anything mark) (λ m u. marked refusing refusing (giving (zero-le, tt)) refusing m)
+more-functions (suc n) =
+    then (anything mark)
+    (λ m u. marked refusing (then head-kept (λ f h. then (more-functions n) (λ fs hs. giving (suc-le-suc (hs .0), (h, hs .1)))))
+    (giving (zero-le, tt)) refusing m)
+
+-- an outline within the limits
+record OutlineKept (o : Outline) : Type 0 where
+  types-count : length (o .types) ≤ typeLimit
+  types-kept : Each TypeKept (o .types)
+  heads-count : length (o .heads) ≤ functionLimit
+  heads-kept : Each HeadKept (o .heads)
+  goal : GoalKept (o .goal)
+
+outline-kept : Promises OutlineKept outline
+unfolding outline
+outline-kept =
+    then (anything mark)
+    (λ m u. then (marked type-kept refusing refusing refusing m)
+    (λ t h. then (more-types (pred typeLimit))
+    (λ ts hs. then head-kept
+    (λ f k. then (more-functions (pred functionLimit))
+    (λ fs ks. then goal-kept
+    (λ g l. then-on (anything (atEnd TrailingBytes))
+    (λ x y. giving (record { types-count = suc-le-suc (hs .0); types-kept = (h, hs .1); heads-count = suc-le-suc (ks .0); heads-kept = (k, ks .1); goal = l }))))))))
+
+-- a function within the limits
+abbrev FunctionKept : Function → Type 0
+FunctionKept f = length (f .parameters) ≤ parameterLimit
+
+-- the functions are no more than the heads, and have their parameters
+functions-kept : (o : Outline) (hs : List Head) → Each HeadKept hs → Promises (λ fs. (length fs ≤ length hs) × Each FunctionKept fs) (functionsOf o hs)
+unfolding functionsOf
+functions-kept o [] all = giving (zero-le, tt)
+functions-kept o (h ∷ hs) all =
+    then (anything (λ s here. bodyOf o h s))
+    (λ e u. then (functions-kept o hs (all .1))
+    (λ fs ks. giving (suc-le-suc (ks .0), (all .0, ks .1))))
+
+-- What an accepted file keeps to.
+pub record Kept (p : Program) : Type 0 where
+  pub types-limit : length (p .types) ≤ typeLimit
+  pub constructors-limit : (t : ℕ) → length (getD (p .types) t []) ≤ constructorLimit
+  pub fields-limit : (t c : ℕ) (us : List ℕ) → fieldTypes (p .types) t c ≡ some us → length us ≤ fieldLimit
+  pub functions-limit : length (p .functions) ≤ functionLimit
+  pub parameters-limit : length (sourceTypes p) ≤ parameterLimit
+  pub depth-limit : (1 ≤ p .depth) × (p .depth ≤ depthLimit)
+  pub steps-limit : p .steps ≤ stepLimit
+  pub no-empty : noEmptyType (leastDepths (p .types)) ≡ true
+  pub deep-enough : deepEnough p ≡ true
+
+parameters-of : (f : Option Function) (fs : List Function) (i : ℕ) → getElem? fs i ≡ f → Each FunctionKept fs → length (parametersOf f) ≤ parameterLimit
+parameters-of none fs i e all = zero-le
+parameters-of (some f) fs i e all = each-getElem? FunctionKept fs i f all e
+
+program-kept :
+    (o : Outline) (fs : List Function) → OutlineKept o → length fs ≤ length (o .heads) → Each FunctionKept fs
+    → noEmptyType (leastDepths (o .types)) ≡ true → deepEnough (programOf o fs) ≡ true → Kept (programOf o fs)
+unfolding programOf fieldTypes sourceTypes functionAt
+program-kept o fs kept few all filled deep =
+    record {
+      types-limit = kept .types-count;
+      constructors-limit = λ t. (type-at t) .0;
+      fields-limit = λ t c us e. each-getElem? ConstructorKept (getD (o .types) t []) c us ((type-at t) .1) e;
+      functions-limit = le-trans few (kept .heads-count);
+      parameters-limit = parameters-of (getElem? fs (o .goal .source)) fs (o .goal .source) refl all;
+      depth-limit = (kept .goal .0, kept .goal .1);
+      steps-limit = kept .goal .2;
+      no-empty = filled;
+      deep-enough = deep;
+    }
+  where
+    type-at : (t : ℕ) → TypeKept (getD (o .types) t [])
+    type-at t = each-getD TypeKept (o .types) t [] (kept .types-kept) (zero-le, tt)
+
+file-kept : Promises Kept ruleFile
+unfolding ruleFile
+file-kept =
+    then-on (anything sizeInLimit)
+    (λ x y. then outline-kept
+    (λ o kept. then-on (anything (demand (numbersExist o) UnknownNumber))
+    (λ x y. then (functions-kept o (o .heads) (kept .heads-kept))
+    (λ fs ks. then-on (demanding (noEmptyType (leastDepths (o .types))) EmptyType)
+    (λ x filled. then-on (demanding (deepEnough (programOf o fs)) DepthTooSmall)
+    (λ y deep. giving (program-kept o fs kept (ks .0) (ks .1) filled deep)))))))
+
+accepting : (g : Got Program) (p : Program) → Finds (λ q next. Kept q) g → onGot (λ p next. accepted p) turnedBack g ≡ accepted p → Kept p
+accepting (got q next) p kept e = let z : q ≡ p = cc in subst Kept z kept
+accepting (refused why) p kept e = absurd (clash (cc))
+
+-- an accepted file is within the limits of 01, and its types have values that fit
+pub accepted-keeps : (file : List ℕ) (p : Program) → check file ≡ accepted p → Kept p
+unfolding check
+accepted-keeps file p e = accepting (ruleFile file 0) p (file-kept .finds file 0) e

@@ -1,0 +1,196 @@
+-- The search as moves gives exactly the list of `search`: a move keeps the entries listed together with those still to come, and the
+-- number of moves still to come falls by one with each, down to 0, where nothing is left to list. For every program and every table.
+-- Rests on specs/Moves and specs/Search alone.
+use Prim.Native.Nat.{ℕ, zero, suc, _+_, _-_, pred}
+use mathlib.Core.Path.{_≡_, refl, sym, _∙_}
+use mathlib.Core.List.{List, [], _∷_, _++_, flatMap, append-nil, append-assoc}
+use native.Mathlib.Omega.{arith}
+use Rattle.reach.specs.Syntax.{Program}
+use Rattle.reach.specs.Parts.{Parts, bindAt}
+use Rattle.reach.specs.Types.{Fork, leastDepths}
+use Rattle.reach.specs.Eval.{State, Question, answered, Next, demands, stops, goes, waits, next, start}
+use Rattle.reach.specs.Search.{Entry, gather, branches, search, openInput, entries}
+use Rattle.reach.specs.Moves.{Choice, Position, on, over, Walk, settle, arrive, takeFork, return, moveFrom, move, moves, opening}
+
+-- the sum of a number over a list
+unfoldable pub total : {A : Type 0} → (A → ℕ) → List A → ℕ
+total f [] = 0
+total f (x ∷ xs) = f x + total f xs
+
+-- where a sum is 0, lists that are empty where their number is 0 are empty all together
+flatMap-none : {A B : Type 0} (f : A → ℕ) (g : A → List B) → ((x : A) → f x ≡ 0 → g x ≡ []) → (xs : List A) → total f xs ≡ 0 → flatMap g xs ≡ []
+unfolding total flatMap
+flatMap-none f g h [] e = refl
+flatMap-none f g h (x ∷ xs) e = rw (h x (omega arith), flatMap-none f g h xs (omega arith))
+
+-- no move behind the end of a path, or the moves of what it goes on to
+unfoldable pub countNext : (State → ℕ) → (Question → ℕ) → Next → ℕ
+countNext go fork demands = 0
+countNext go fork (stops why) = 0
+countNext go fork (goes s) = go s
+countNext go fork (waits q) = fork q
+
+-- where nothing counts behind a step or a fork, nothing counts
+count-none : (x : Next) → countNext (λ s. 0) (λ q. 0) x ≡ 0
+unfolding countNext
+count-none demands = refl
+count-none (stops why) = refl
+count-none (goes s) = refl
+count-none (waits q) = refl
+
+-- the input and the state behind a constructor of a choice point
+abbrev pub inputBehind : Choice → Fork → Parts
+inputBehind c f = bindAt (c .question .place) (f .constructor) (f .fields) (c .input)
+
+abbrev pub stateBehind : Choice → Fork → State
+stateBehind c f = answered (c .question) (f .constructor) (f .fields)
+
+-- a choice point with these constructors still untried
+abbrev withUntried : Choice → List Fork → Choice
+withUntried c fs = record { question = c .question; left = c .left; done = c .done; input = c .input; untried = fs }
+
+module _ (p : Program) (table : List ℕ) where
+  -- the moves that follow on the arrival at a state, with so many steps left: one for each step, and one for each constructor of a fork
+  unfoldable pub pathMoves : ℕ → Parts → State → ℕ
+  pathMoves zero input s = 0
+  pathMoves (suc left) input s =
+      countNext (λ s′. suc (pathMoves left input s′))
+      (λ q. total (λ (f : Fork). suc (pathMoves left (bindAt (q .place) (f .constructor) (f .fields) input) (answered q (f .constructor) (f .fields)))) (branches p table input q))
+      (next p input s)
+
+  -- the entries that choice points owe, the last first: those of its untried constructors, in order
+  unfoldable pub choicesOwed : List Choice → List Entry
+  choicesOwed cs = flatMap (λ (c : Choice). flatMap (λ (f : Fork). search p table (c .left) (c .done) (inputBehind c f) (stateBehind c f)) (c .untried)) cs
+
+  -- the moves that choice points owe: for each untried constructor the one that takes it, and those that follow
+  unfoldable pub choicesMoves : List Choice → ℕ
+  choicesMoves cs = total (λ (c : Choice). total (λ (f : Fork). suc (pathMoves (c .left) (inputBehind c f) (stateBehind c f))) (c .untried)) cs
+
+  -- the entries of the path under way, if there is one, then those that the choice points owe
+  unfoldable pub owedFrom : Position → List Choice → List Entry
+  owedFrom (on g) cs = search p table (g .left) (g .done) (g .input) (g .state) ++ choicesOwed cs
+  owedFrom over cs = choicesOwed cs
+
+  -- the moves likewise: a path under way owes the one that arrives at its state, and those that follow
+  unfoldable pub owedMovesFrom : Position → List Choice → ℕ
+  owedMovesFrom (on g) cs = suc (pathMoves (g .left) (g .input) (g .state)) + choicesMoves cs
+  owedMovesFrom over cs = choicesMoves cs
+
+  -- the entries still to come
+  unfoldable pub owed : Walk → List Entry
+  owed w = owedFrom (w .position) (w .choices)
+
+  -- the number of moves still to come
+  unfoldable pub owedMoves : Walk → ℕ
+  owedMoves w = owedMovesFrom (w .position) (w .choices)
+
+  -- the entries listed and still to come are es, and k moves are still to come
+  abbrev Holds : Walk → List Entry → ℕ → Type 0
+  Holds w es k = (w .listed ++ owed w ≡ es) × (owedMoves w ≡ k)
+
+  -- over these choice points, with es listed, w has the entries ys and m moves more to come
+  abbrev Adds : List Choice → List Entry → Walk → List Entry → ℕ → Type 0
+  Adds cs es w ys m = Holds w (es ++ (ys ++ choicesOwed cs)) (m + choicesMoves cs)
+
+  -- `settle` adds what `gather` gathers, if what the path goes on to does
+  settle-adds :
+      (go : State → Walk) (fork : Question → Walk) (goEntries : State → List Entry) (forkEntries : Question → List Entry) (goMoves : State → ℕ)
+      (forkMoves : Question → ℕ) (n : ℕ) (input : Parts) (cs : List Choice) (es : List Entry)
+      → ((s : State) → Adds cs es (go s) (goEntries s) (goMoves s))
+      → ((q : Question) → Adds cs es (fork q) (forkEntries q) (forkMoves q))
+      → (x : Next)
+      → Adds cs es (settle go fork n input cs es x) (gather goEntries forkEntries n input x) (countNext goMoves forkMoves x)
+  unfolding settle gather countNext owed owedFrom owedMoves owedMovesFrom
+  settle-adds go fork goEntries forkEntries goMoves forkMoves n input cs es hg hf demands = (append-assoc es _ _, omega arith)
+  settle-adds go fork goEntries forkEntries goMoves forkMoves n input cs es hg hf (stops why) = (refl, omega arith)
+  settle-adds go fork goEntries forkEntries goMoves forkMoves n input cs es hg hf (goes s) = hg s
+  settle-adds go fork goEntries forkEntries goMoves forkMoves n input cs es hg hf (waits q) = hf q
+
+  -- a path that arrives at a state adds the entries of the search from there
+  arrive-adds :
+      (left n : ℕ) (input : Parts) (s : State) (cs : List Choice) (es : List Entry)
+      → Adds cs es (arrive p table left n input s cs es) (search p table left n input s) (pathMoves left input s)
+  unfolding arrive search pathMoves choicesOwed choicesMoves owed owedFrom owedMoves owedMovesFrom flatMap total
+  arrive-adds zero n input s cs es =
+      rw (← count-none (next p input s)) (settle-adds _ _ _ _ _ _ n input cs es (λ s′. (append-assoc es _ _, omega arith)) (λ q. (append-assoc es _ _, omega arith)) (next p input s))
+  arrive-adds (suc left) n input s cs es = settle-adds _ _ _ _ _ _ n input cs es (λ s′. (refl, refl)) (λ q. (refl, refl)) (next p input s)
+
+  -- behind the end of a path: the entries are kept, and one of the moves that the choice points owe is made, if there is one
+  abbrev Returns : List Choice → List Entry → Type 0
+  Returns cs es = Holds (return p table cs es) (es ++ choicesOwed cs) (pred (choicesMoves cs))
+
+  -- the last choice point goes on to its next constructor, or, if none is left, hands over to the one before it
+  return-choice : (c : Choice) (untried : List Fork) (cs : List Choice) (es : List Entry) → Returns cs es → Returns (withUntried c untried ∷ cs) es
+  unfolding return takeFork choicesOwed choicesMoves flatMap total
+  return-choice c [] cs es h = (h .0, h .1 ∙ omega arith)
+  return-choice c (f ∷ rest) cs es h =
+      let a = arrive-adds (c .left) (c .done) (inputBehind c f) (stateBehind c f) (withUntried c rest ∷ cs) es in
+      (rw append-assoc (a .0), a .1 ∙ omega arith)
+
+  returns : (cs : List Choice) (es : List Entry) → Returns cs es
+  unfolding return choicesMoves owed owedFrom owedMoves owedMovesFrom total
+  returns [] es = (refl, refl)
+  returns (c ∷ cs) es = return-choice c (c .untried) cs es (returns cs es)
+
+  -- a move keeps the entries, and makes one of the moves to come, if there is one
+  move-holds : (w : Walk) → Holds (move p table w) (w .listed ++ owed w) (pred (owedMoves w))
+  unfolding move moveFrom owed owedFrom owedMoves owedMovesFrom
+  move-holds w = from (w .position)
+    where
+      from : (x : Position) → Holds (moveFrom p table x (w .choices) (w .listed)) (w .listed ++ owedFrom x (w .choices)) (pred (owedMovesFrom x (w .choices)))
+      from (on g) =
+          let a = arrive-adds (g .left) (g .done) (g .input) (g .state) (w .choices) (w .listed) in
+          (a .0, a .1 ∙ omega arith)
+      from over = returns (w .choices) (w .listed)
+
+  -- a move keeps the entries listed together with those still to come
+  pub move-keeps : (w : Walk) → (move p table w) .listed ++ owed (move p table w) ≡ w .listed ++ owed w
+  move-keeps w = move-holds w .0
+
+  -- each move is one less to come
+  pub move-falls : (w : Walk) (k : ℕ) → owedMoves w ≡ suc k → owedMoves (move p table w) ≡ k
+  move-falls w k e = omega (arith, move-holds w .1)
+
+  -- where no move is to come, no entry is
+  pub nothing-owed : (w : Walk) → owedMoves w ≡ 0 → owed w ≡ []
+  unfolding owed owedMoves owedFrom owedMovesFrom choicesOwed choicesMoves
+  nothing-owed w e = from (w .position) e
+    where
+      from : (x : Position) → owedMovesFrom x (w .choices) ≡ 0 → owedFrom x (w .choices) ≡ []
+      from (on g) z = absurd (omega arith)
+      from over z = flatMap-none _ _ (λ c. flatMap-none _ _ (λ f (y : suc _ ≡ 0). absurd (omega arith)) (c .untried)) (w .choices) z
+
+  -- a search without moves to come has listed all that it lists
+  listed-all : (w : Walk) → owedMoves w ≡ 0 → w .listed ++ owed w ≡ w .listed
+  listed-all w e = rw (nothing-owed w e) (append-nil (w .listed))
+
+  -- a search that is over stays over: no move is to come, and the listed entries stay
+  pub move-rests : (w : Walk) → owedMoves w ≡ 0 → (owedMoves (move p table w) ≡ 0) × ((move p table w) .listed ≡ w .listed)
+  move-rests w e =
+      let z : owedMoves (move p table w) ≡ 0 = omega (arith, move-holds w .1) in
+      (z, sym (listed-all (move p table w) z) ∙ move-keeps w ∙ listed-all w e)
+
+  -- after m moves: the entries are kept, and m moves less are to come
+  pub moves-keep :
+      (m : ℕ) (w : Walk)
+      → ((moves p table m w) .listed ++ owed (moves p table m w) ≡ w .listed ++ owed w) × (owedMoves (moves p table m w) ≡ owedMoves w - m)
+  unfolding moves
+  moves-keep zero w = (refl, omega arith)
+  moves-keep (suc m) w =
+      let h = moves-keep m (move p table w) in
+      (h .0 ∙ move-keeps w, h .1 ∙ omega (arith, move-holds w .1))
+
+-- the search of a program after all its moves
+abbrev pub finished : Program → Walk
+finished p =
+    let table = leastDepths (p .types) in
+    moves p table (owedMoves p table (opening p table)) (opening p table)
+
+-- the moves list the entries of the program, and come to an end
+pub moves-list : (p : Program) → ((finished p) .listed ≡ entries p) × (owedMoves p (leastDepths (p .types)) (finished p) ≡ 0)
+unfolding opening entries choicesOwed flatMap
+moves-list p =
+    let table = leastDepths (p .types) in
+    let h = moves-keep p table (owedMoves p table (opening p table)) (opening p table) in
+    let z : owedMoves p table (finished p) ≡ 0 = h .1 ∙ omega arith in
+    (sym (listed-all p table (finished p) z) ∙ h .0 ∙ arrive-adds p table (p .steps) 0 (openInput p) (start p) [] [] .0 ∙ append-nil (entries p), z)
