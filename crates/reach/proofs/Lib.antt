@@ -9,7 +9,6 @@ pub mod Moves
 pub mod Limits
 pub mod EntryLength
 pub mod Lists
-pub mod Examples
 pub mod ClosedInputs
 pub mod Answers
 pub mod Demands

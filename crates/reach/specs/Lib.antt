@@ -12,3 +12,4 @@ pub mod RuleFile
 pub mod Input
 pub mod Lists
 pub mod Answers
+pub mod Examples
