@@ -13,3 +13,4 @@ pub mod Input
 pub mod Lists
 pub mod Answers
 pub mod Examples
+pub mod Places

@@ -1,0 +1,530 @@
+// The third pass over a rule file: bodies. The check of an expression and the checks of its operands and of its alternatives call
+// each other; the nesting that is left falls. Records of types and functions are looked at where the first pass found them.
+// Rests on crate records.
+ghost use mathlib.Core.Path.{_≡_};
+ghost use mathlib.Core.Bool.{_&&_};
+ghost use mathlib.Core.List.{[], _∷_, _++_};
+ghost use Prim.Native.Nat.{ℕ, _+_, _≤_};
+ghost use lib.Dec.{ltb, leb};
+ghost use lib.ListN.{getD, getElem?};
+ghost use Rattle.reach.specs.Places.{bytesAt, constructorsAt};
+ghost use Rattle.records.specs.Steps.{stepOf};
+ghost use Rattle.bodies.specs.Check.{viewOf, fieldsOf, fieldsIn, Small, Narrow, variableAt, callAt, constructAt, caseAt, letAt, targetAt, expressionAt, operandsAt, alternativeAt, alternativesAt, BodyThere, bodyAt, BodiesThere, functionsAt, bodiesStep};
+use reach::Refusal;
+use records::Step;
+use records::Taken;
+use records::byte_or_zero;
+use records::take_byte;
+use records::wide;
+
+const VIEW_LIMIT: usize = 32;
+
+const NESTING_LIMIT: usize = 32;
+
+// The types of the variables in view. A view beyond the limit is refused at the next expression, so 6 more are enough.
+pub struct View {
+    pub types: [u8; 40],
+    pub count: usize,
+}
+
+// Where the fields of a constructor stand, and how many there are.
+pub enum Fields {
+    At(usize, usize),
+    Unknown,
+}
+
+// The entry of a table of places, or 0 past its end.
+pub fn place_or_zero(places: &[u16], n: usize) -> usize
+    ensures { λ r. ⌜ r ≡ getD (now (places .entry)) n 0 ⌝ }
+{
+    if n < places.len() {
+        places[n] as usize
+    } else {
+        0
+    }
+}
+
+// The view with n more variables, whose types stand from a place on.
+pub fn extended(view: View, s: &[u8], at: usize, n: usize) -> View
+    requires { ⌜ (view .count + n ≤ 40) × (at ≤ 1000000) ⌝ }
+    ensures { λ r. ⌜ (viewOf r ≡ viewOf view ++ bytesAt (now (s .entry)) at n) × (r .count ≡ view .count + n) ⌝ }
+{
+    let mut wider = view;
+    let mut place = at;
+    let mut more = n;
+    while 0 < more {
+        let next = wider.count;
+        if place < s.len() {
+            wider.types[next] = s[place];
+        } else {
+            wider.types[next] = 0;
+        }
+        wider.count = next + 1;
+        place += 1;
+        more -= 1;
+    }
+    wider
+}
+
+// Where the fields of constructor c stand, of the n constructors from a place on.
+pub fn fields_at(s: &[u8], at: usize, n: usize, c: usize) -> Fields
+    requires { ⌜ (at ≤ 65536) × (n ≤ 255) ⌝ }
+    ensures { λ r. ⌜ fieldsOf (now (s .entry)) r ≡ getElem? (constructorsAt (now (s .entry)) at n) c ⌝ }
+{
+    if n <= c {
+        return Fields::Unknown;
+    }
+    let mut place = at;
+    let mut more = c;
+    while 0 < more {
+        place = place + 1 + byte_or_zero(s, place);
+        more -= 1;
+    }
+    Fields::At(place + 1, byte_or_zero(s, place))
+}
+
+// Where the fields of constructor c of type t stand.
+pub fn fields_of<'a>(s: &'a [u8], type_at: &'a [u16], t: usize, c: usize) -> Fields
+    ensures { λ r. ⌜ fieldsOf (now (s .entry)) r ≡ fieldsIn (now (s .entry)) (now (type_at .entry)) t c ⌝ }
+{
+    if type_at.len() <= t {
+        return Fields::Unknown;
+    }
+    let place = place_or_zero(type_at, t);
+    fields_at(s, place + 1, byte_or_zero(s, place), c)
+}
+
+// The view with one more variable.
+pub fn with_one(view: View, t: usize) -> View
+    requires { ⌜ (view .count ≤ 38) × (t ≤ 255) ⌝ }
+    ensures { λ r. ⌜ (viewOf r ≡ viewOf view ++ (t ∷ [])) × (r .count ≡ view .count + 1) ⌝ }
+{
+    let mut wider = view;
+    let next = wider.count;
+    wider.types[next] = (t % 256) as u8;
+    wider.count = next + 1;
+    wider
+}
+
+// The expression's own nesting and view are within their limits.
+pub fn in_limits(left: usize, view: View) -> bool
+    ensures { λ r. ⌜ r ≡ (ltb 0 left && leb (view .count) 32) ⌝ }
+{
+    if left == 0 {
+        false
+    } else {
+        view.count <= VIEW_LIMIT
+    }
+}
+
+pub fn variable(body: &[u8], at: usize, left: usize, view: View, expected: usize) -> Step
+    requires { ⌜ view .count ≤ 38 ⌝ }
+    ensures { λ r. ⌜ r ≡ stepOf (variableAt left (viewOf view) expected (now (body .entry)) at) ⌝ }
+{
+    let Taken::Byte(number, next) = take_byte(body, at) else {
+        return Step::Refused(Refusal::Truncated);
+    };
+    let n = wide(number);
+    if view.count <= n {
+        return Step::Refused(Refusal::UnknownNumber);
+    }
+    if !in_limits(left, view) {
+        return Step::Refused(Refusal::OutOfRange);
+    }
+    if wide(view.types[n]) != expected {
+        return Step::Refused(Refusal::TypeMismatch);
+    }
+    Step::Next(next)
+}
+
+pub fn expression<'a>(
+    file: &'a [u8],
+    body: &'a [u8],
+    type_at: &'a [u16],
+    function_at: &'a [u16],
+    at: usize,
+    left: usize,
+    view: View,
+    expected: usize,
+) -> Step
+    requires { ⌜ Small (now file) (now type_at) (now function_at) × (view .count ≤ 38) ⌝ }
+    ensures { λ r. ⌜ r ≡ stepOf (expressionAt (now (file .entry)) (now (type_at .entry)) (now (function_at .entry)) left (viewOf view) expected (now (body .entry)) at) ⌝ }
+{
+    let Taken::Byte(code, next) = take_byte(body, at) else {
+        return Step::Refused(Refusal::Truncated);
+    };
+    match code {
+        0 => variable(body, next, left, view, expected),
+        1 => call_expression(file, body, type_at, function_at, next, left, view, expected),
+        2 => construct_expression(file, body, type_at, function_at, next, left, view, expected),
+        3 => case_expression(file, body, type_at, function_at, next, left, view, expected),
+        4 => let_expression(file, body, type_at, function_at, next, left, view, expected),
+        5 => target_expression(file, body, type_at, function_at, next, left, view, expected),
+        _ => Step::Refused(Refusal::UnknownCode),
+    }
+}
+
+pub fn call_expression<'a>(
+    file: &'a [u8],
+    body: &'a [u8],
+    type_at: &'a [u16],
+    function_at: &'a [u16],
+    at: usize,
+    left: usize,
+    view: View,
+    expected: usize,
+) -> Step
+    requires { ⌜ Small (now file) (now type_at) (now function_at) × (view .count ≤ 38) ⌝ }
+    ensures { λ r. ⌜ r ≡ stepOf (callAt (now (file .entry)) (now (type_at .entry)) (now (function_at .entry)) left (viewOf view) expected (now (body .entry)) at) ⌝ }
+{
+    let Taken::Byte(number, next) = take_byte(body, at) else {
+        return Step::Refused(Refusal::Truncated);
+    };
+    let f = wide(number);
+    if function_at.len() <= f {
+        return Step::Refused(Refusal::UnknownNumber);
+    }
+    if !in_limits(left, view) {
+        return Step::Refused(Refusal::OutOfRange);
+    }
+    let place = place_or_zero(function_at, f);
+    let parameters = byte_or_zero(file, place);
+    if byte_or_zero(file, place + 1 + parameters) != expected {
+        return Step::Refused(Refusal::TypeMismatch);
+    }
+    operands(
+        file,
+        body,
+        type_at,
+        function_at,
+        next,
+        left - 1,
+        view,
+        place + 1,
+        parameters,
+    )
+}
+
+pub fn construct_expression<'a>(
+    file: &'a [u8],
+    body: &'a [u8],
+    type_at: &'a [u16],
+    function_at: &'a [u16],
+    at: usize,
+    left: usize,
+    view: View,
+    expected: usize,
+) -> Step
+    requires { ⌜ Small (now file) (now type_at) (now function_at) × (view .count ≤ 38) ⌝ }
+    ensures { λ r. ⌜ r ≡ stepOf (constructAt (now (file .entry)) (now (type_at .entry)) (now (function_at .entry)) left (viewOf view) expected (now (body .entry)) at) ⌝ }
+{
+    let Taken::Byte(number, middle) = take_byte(body, at) else {
+        return Step::Refused(Refusal::Truncated);
+    };
+    let Taken::Byte(c, next) = take_byte(body, middle) else {
+        return Step::Refused(Refusal::Truncated);
+    };
+    let t = wide(number);
+    let Fields::At(fields, n) = fields_of(file, type_at, t, wide(c)) else {
+        return Step::Refused(Refusal::UnknownNumber);
+    };
+    if !in_limits(left, view) {
+        return Step::Refused(Refusal::OutOfRange);
+    }
+    if t != expected {
+        return Step::Refused(Refusal::TypeMismatch);
+    }
+    operands(
+        file,
+        body,
+        type_at,
+        function_at,
+        next,
+        left - 1,
+        view,
+        fields,
+        n,
+    )
+}
+
+pub fn case_expression<'a>(
+    file: &'a [u8],
+    body: &'a [u8],
+    type_at: &'a [u16],
+    function_at: &'a [u16],
+    at: usize,
+    left: usize,
+    view: View,
+    expected: usize,
+) -> Step
+    requires { ⌜ Small (now file) (now type_at) (now function_at) × (view .count ≤ 38) ⌝ }
+    ensures { λ r. ⌜ r ≡ stepOf (caseAt (now (file .entry)) (now (type_at .entry)) (now (function_at .entry)) left (viewOf view) expected (now (body .entry)) at) ⌝ }
+{
+    let Taken::Byte(number, next) = take_byte(body, at) else {
+        return Step::Refused(Refusal::Truncated);
+    };
+    let t = wide(number);
+    if type_at.len() <= t {
+        return Step::Refused(Refusal::UnknownNumber);
+    }
+    if !in_limits(left, view) {
+        return Step::Refused(Refusal::OutOfRange);
+    }
+    let step = expression(file, body, type_at, function_at, next, left - 1, view, t);
+    let Step::Next(first) = step else {
+        return step;
+    };
+    let place = place_or_zero(type_at, t);
+    alternatives(
+        file,
+        body,
+        type_at,
+        function_at,
+        first,
+        left - 1,
+        view,
+        place + 1,
+        byte_or_zero(file, place),
+        expected,
+    )
+}
+
+pub fn let_expression<'a>(
+    file: &'a [u8],
+    body: &'a [u8],
+    type_at: &'a [u16],
+    function_at: &'a [u16],
+    at: usize,
+    left: usize,
+    view: View,
+    expected: usize,
+) -> Step
+    requires { ⌜ Small (now file) (now type_at) (now function_at) × (view .count ≤ 38) ⌝ }
+    ensures { λ r. ⌜ r ≡ stepOf (letAt (now (file .entry)) (now (type_at .entry)) (now (function_at .entry)) left (viewOf view) expected (now (body .entry)) at) ⌝ }
+{
+    let Taken::Byte(number, next) = take_byte(body, at) else {
+        return Step::Refused(Refusal::Truncated);
+    };
+    let t = wide(number);
+    if type_at.len() <= t {
+        return Step::Refused(Refusal::UnknownNumber);
+    }
+    if !in_limits(left, view) {
+        return Step::Refused(Refusal::OutOfRange);
+    }
+    let step = expression(file, body, type_at, function_at, next, left - 1, view, t);
+    let Step::Next(behind) = step else {
+        return step;
+    };
+    expression(
+        file,
+        body,
+        type_at,
+        function_at,
+        behind,
+        left - 1,
+        with_one(view, t),
+        expected,
+    )
+}
+
+pub fn target_expression<'a>(
+    file: &'a [u8],
+    body: &'a [u8],
+    type_at: &'a [u16],
+    function_at: &'a [u16],
+    at: usize,
+    left: usize,
+    view: View,
+    expected: usize,
+) -> Step
+    requires { ⌜ Small (now file) (now type_at) (now function_at) × (view .count ≤ 38) ⌝ }
+    ensures { λ r. ⌜ r ≡ stepOf (targetAt (now (file .entry)) (now (type_at .entry)) (now (function_at .entry)) left (viewOf view) expected (now (body .entry)) at) ⌝ }
+{
+    let Taken::Byte(_, next) = take_byte(body, at) else {
+        return Step::Refused(Refusal::Truncated);
+    };
+    if !in_limits(left, view) {
+        return Step::Refused(Refusal::OutOfRange);
+    }
+    expression(
+        file,
+        body,
+        type_at,
+        function_at,
+        next,
+        left - 1,
+        view,
+        expected,
+    )
+}
+
+// An expression for each of the n types that stand from a place of the file on.
+pub fn operands<'a>(
+    file: &'a [u8],
+    body: &'a [u8],
+    type_at: &'a [u16],
+    function_at: &'a [u16],
+    at: usize,
+    left: usize,
+    view: View,
+    types: usize,
+    n: usize,
+) -> Step
+    requires { ⌜ Small (now file) (now type_at) (now function_at) × (view .count ≤ 38) × (types ≤ 1000000) × (n ≤ 255) ⌝ }
+    ensures { λ r. ⌜ r ≡ stepOf (operandsAt (now (file .entry)) (now (type_at .entry)) (now (function_at .entry)) left (viewOf view) (bytesAt (now (file .entry)) types n) (now (body .entry)) at) ⌝ }
+{
+    let mut place = at;
+    let mut t = types;
+    let mut more = n;
+    while 0 < more {
+        let step = expression(
+            file,
+            body,
+            type_at,
+            function_at,
+            place,
+            left,
+            view,
+            byte_or_zero(file, t),
+        );
+        let Step::Next(next) = step else {
+            return step;
+        };
+        place = next;
+        t += 1;
+        more -= 1;
+    }
+    Step::Next(place)
+}
+
+// An alternative or none for each of the n constructors whose records stand from a place of the file on.
+pub fn alternatives<'a>(
+    file: &'a [u8],
+    body: &'a [u8],
+    type_at: &'a [u16],
+    function_at: &'a [u16],
+    at: usize,
+    left: usize,
+    view: View,
+    constructors: usize,
+    n: usize,
+    expected: usize,
+) -> Step
+    requires { ⌜ Small (now file) (now type_at) (now function_at) × (view .count ≤ 32) × (constructors ≤ 65536) × (n ≤ 255) × Narrow (constructorsAt (now file) constructors n) ⌝ }
+    ensures { λ r. ⌜ r ≡ stepOf (alternativesAt (now (file .entry)) (now (type_at .entry)) (now (function_at .entry)) left (viewOf view) expected (constructorsAt (now (file .entry)) constructors n) (now (body .entry)) at) ⌝ }
+{
+    let mut place = at;
+    let mut record = constructors;
+    let mut more = n;
+    while 0 < more {
+        let fields = byte_or_zero(file, record);
+        let step = alternative(
+            file,
+            body,
+            type_at,
+            function_at,
+            place,
+            left,
+            view,
+            record + 1,
+            fields,
+            expected,
+        );
+        let Step::Next(next) = step else {
+            return step;
+        };
+        place = next;
+        record = record + 1 + fields;
+        more -= 1;
+    }
+    Step::Next(place)
+}
+
+// A byte: 0 for no alternative, or 1 and an expression that sees the n fields too.
+pub fn alternative<'a>(
+    file: &'a [u8],
+    body: &'a [u8],
+    type_at: &'a [u16],
+    function_at: &'a [u16],
+    at: usize,
+    left: usize,
+    view: View,
+    fields: usize,
+    n: usize,
+    expected: usize,
+) -> Step
+    requires { ⌜ Small (now file) (now type_at) (now function_at) × (view .count ≤ 32) × (fields ≤ 1000000) × (n ≤ 6) ⌝ }
+    ensures { λ r. ⌜ r ≡ stepOf (alternativeAt (now (file .entry)) (now (type_at .entry)) (now (function_at .entry)) left (viewOf view) expected (bytesAt (now (file .entry)) fields n) (now (body .entry)) at) ⌝ }
+{
+    let Taken::Byte(b, next) = take_byte(body, at) else {
+        return Step::Refused(Refusal::Truncated);
+    };
+    if 1 < b {
+        return Step::Refused(Refusal::UnknownCode);
+    }
+    if b == 0 {
+        return Step::Next(next);
+    }
+    expression(
+        file,
+        body,
+        type_at,
+        function_at,
+        next,
+        left,
+        extended(view, file, fields, n),
+        expected,
+    )
+}
+
+// The body of the function whose record stands at a place, and nothing behind its expression.
+pub fn body_of<'a>(file: &'a [u8], type_at: &'a [u16], function_at: &'a [u16], place: usize) -> Step
+    requires { ⌜ Small (now file) (now type_at) (now function_at) × (place ≤ 65535) × BodyThere (now file) place ⌝ }
+    ensures { λ r. ⌜ r ≡ stepOf (bodyAt (now (file .entry)) (now (type_at .entry)) (now (function_at .entry)) place) ⌝ }
+{
+    let n = byte_or_zero(file, place);
+    let result = byte_or_zero(file, place + 1 + n);
+    let size = byte_or_zero(file, place + 2 + n) + 256 * byte_or_zero(file, place + 3 + n);
+    let start = place + 4 + n;
+    let end = start + size;
+    let none = View {
+        types: [0; 40],
+        count: 0,
+    };
+    let parameters = extended(none, file, place + 1, n);
+    let body = &file[..end];
+    let step = expression(
+        file,
+        body,
+        type_at,
+        function_at,
+        start,
+        NESTING_LIMIT,
+        parameters,
+        result,
+    );
+    let Step::Next(behind) = step else {
+        return step;
+    };
+    if behind < end {
+        return Step::Refused(Refusal::TrailingBytes);
+    }
+    step
+}
+
+// All bodies, in file order.
+pub fn bodies<'a>(file: &'a [u8], type_at: &'a [u16], function_at: &'a [u16]) -> Step
+    requires { ⌜ Small (now file) (now type_at) (now function_at) × BodiesThere (now file) (now function_at) ⌝ }
+    ensures { λ r. ⌜ bodiesStep r ≡ bodiesStep (stepOf (functionsAt (now (file .entry)) (now (type_at .entry)) (now (function_at .entry)))) ⌝ }
+{
+    let mut f: usize = 0;
+    while f < function_at.len() {
+        let step = body_of(file, type_at, function_at, function_at[f] as usize);
+        let Step::Next(_) = step else {
+            return step;
+        };
+        f += 1;
+    }
+    Step::Next(0)
+}

@@ -1,0 +1,70 @@
+-- What the first pass leaves: the places of the records, and what the readers of crate reach find there.
+-- Rests on reach's RuleFile and Places and on the structs of src/lib.rt.
+use Prim.Native.Nat.{ℕ, zero, suc, pred}
+use mathlib.Core.List.{List, [], _∷_, map}
+use lib.ListN.{take}
+use Rattle.reach.specs.Syntax.{Types}
+use Rattle.reach.specs.declared.Refusal.the-variants.{UnexpectedMark, TrailingBytes}
+use Rattle.reach.specs.Reader.{Got, got, refused, onGot, Reader, _>>=_, _>>_, give, refuse, atEnd}
+use Rattle.reach.specs.RuleFile.{Mark, onMark, mark, typeRecord, moreTypes, Head, functionRecord, moreFunctions, Goal, goalRecord, Outline}
+use Rattle.reach.specs.Places.{typeAt, headAt, outlineAt}
+use Rattle.records.specs.declared.Step.{Step}
+use Rattle.records.specs.declared.Step.the-variants.{Next, Refused}
+use Rattle.outline.specs.declared.Turn.{Turn}
+use Rattle.outline.specs.declared.Turn.the-variants as Turn
+use Rattle.outline.specs.declared.TypeTable.{TypeTable}
+use Rattle.outline.specs.declared.FunctionTable.{FunctionTable}
+use Rattle.outline.specs.declared.Outlined.{Outlined}
+
+-- a type's record, then up to k more types, up to behind the mark of the first function
+unfoldable pub typesFrom : ℕ → Reader Types
+typesFrom k = do
+  t ← typeRecord
+  ts ← moreTypes k
+  give (t ∷ ts)
+
+-- a function's record, then up to k more functions, up to behind the mark GO
+unfoldable pub functionsFrom : ℕ → Reader (List Head)
+functionsFrom k = do
+  f ← functionRecord
+  fs ← moreFunctions k
+  give (f ∷ fs)
+
+abbrev pub onTurn : {A : Type 0} → (ℕ → Got (List A)) → Turn → Got (List A)
+onTurn again (Turn.Again next) = again next
+onTurn again (Turn.Done next) = got [] next
+onTurn again (Turn.Refused why) = refused why
+
+-- what follows a mark, as the turn says
+abbrev pub typesTurn : List ℕ → ℕ → Turn → Got Types
+typesTurn s more t = onTurn (λ next. typesFrom (pred more) s next) t
+
+abbrev pub functionsTurn : List ℕ → ℕ → Turn → Got (List Head)
+functionsTurn s more t = onTurn (λ next. functionsFrom (pred more) s next) t
+
+abbrev pub onStep : {A : Type 0} → A → Step → Got A
+onStep a (Next next) = got a next
+onStep a (Refused why) = refused why
+
+-- what a table says was read
+abbrev pub typesOf : List ℕ → TypeTable → Got Types
+typesOf s r = onStep (map (typeAt s) (take (r .count) (r .places))) (r .step)
+
+abbrev pub functionsOf : List ℕ → FunctionTable → Got (List Head)
+functionsOf s r = onStep (map (headAt s) (take (r .count) (r .places))) (r .step)
+
+abbrev pub outlinedOf : List ℕ → Outlined → Got Outline
+outlinedOf s r = onStep (outlineAt s (take (r .types) (r .type_at)) (take (r .functions) (r .function_at)) (r .goal_at)) (r .step)
+
+-- the first mark must be that of a type
+unfoldable pub firstMark : Reader (Unit {0})
+firstMark = do
+  m ← mark
+  onMark (give tt) (refuse UnexpectedMark) (refuse UnexpectedMark) (refuse UnexpectedMark) m
+
+-- the goal, and nothing behind it
+unfoldable pub lastRecord : Reader Goal
+lastRecord = do
+  g ← goalRecord
+  atEnd TrailingBytes
+  give g

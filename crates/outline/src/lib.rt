@@ -1,0 +1,244 @@
+// The first pass over a rule file: marks, counts, lengths, D and S, bodies passed over. What it leaves is the places where the
+// records stand. Rests on crate records.
+ghost use mathlib.Core.Path.{_≡_};
+ghost use Prim.Native.Nat.{ℕ, _≤_};
+ghost use lib.ListN.{length};
+ghost use Rattle.reach.specs.RuleFile.{moreTypes, moreFunctions, outline};
+ghost use Rattle.outline.specs.Tables.{typesTurn, functionsTurn, typesFrom, functionsFrom, typesOf, functionsOf, outlinedOf};
+use reach::Refusal;
+use records::Mark;
+use records::Marked;
+use records::Step;
+use records::skip_function;
+use records::skip_goal;
+use records::skip_type;
+use records::take_mark;
+
+const TYPE_LIMIT: usize = 32;
+
+const FUNCTION_LIMIT: usize = 64;
+
+// What the mark behind a record calls for: one more record of its kind, the next kind, or a refusal.
+pub enum Turn {
+    Again(usize),
+    Done(usize),
+    Refused(Refusal),
+}
+
+// The types: how far they go, how many there are, and where each one's record stands behind its mark.
+pub struct TypeTable {
+    pub step: Step,
+    pub count: usize,
+    pub places: [u16; 32],
+}
+
+// The functions, likewise.
+pub struct FunctionTable {
+    pub step: Step,
+    pub count: usize,
+    pub places: [u16; 64],
+}
+
+// A file as the first pass leaves it.
+pub struct Outlined {
+    pub step: Step,
+    pub types: usize,
+    pub type_at: [u16; 32],
+    pub functions: usize,
+    pub function_at: [u16; 64],
+    pub goal_at: usize,
+}
+
+// The mark behind a type, where so many more types may come.
+pub fn turn_after_type(s: &[u8], at: usize, more: usize) -> Turn
+    ensures { λ r. ⌜ moreTypes more (now (s .entry)) at ≡ typesTurn (now (s .entry)) more r ⌝ }
+{
+    let Marked::Mark(mark, next) = take_mark(s, at) else {
+        return Turn::Refused(Refusal::Truncated);
+    };
+    match mark {
+        Mark::Type => {
+            if more == 0 {
+                Turn::Refused(Refusal::OutOfRange)
+            } else {
+                Turn::Again(next)
+            }
+        }
+        Mark::Function => Turn::Done(next),
+        Mark::Goal => Turn::Refused(Refusal::UnexpectedMark),
+        Mark::Other => Turn::Refused(Refusal::UnexpectedMark),
+    }
+}
+
+// The mark behind a function, where so many more functions may come.
+pub fn turn_after_function(s: &[u8], at: usize, more: usize) -> Turn
+    ensures { λ r. ⌜ moreFunctions more (now (s .entry)) at ≡ functionsTurn (now (s .entry)) more r ⌝ }
+{
+    let Marked::Mark(mark, next) = take_mark(s, at) else {
+        return Turn::Refused(Refusal::Truncated);
+    };
+    match mark {
+        Mark::Type => Turn::Refused(Refusal::UnexpectedMark),
+        Mark::Function => {
+            if more == 0 {
+                Turn::Refused(Refusal::OutOfRange)
+            } else {
+                Turn::Again(next)
+            }
+        }
+        Mark::Goal => Turn::Done(next),
+        Mark::Other => Turn::Refused(Refusal::UnexpectedMark),
+    }
+}
+
+// The types from behind the first mark to behind the mark of the first function.
+pub fn read_types(s: &[u8], first: usize) -> TypeTable
+    requires { ⌜ length (now s) ≤ 16384 ⌝ }
+    ensures { λ r. ⌜ typesFrom 31 (now (s .entry)) first ≡ typesOf (now (s .entry)) r ⌝ }
+{
+    let mut places = [0u16; 32];
+    let mut count: usize = 0;
+    let mut at = first;
+    loop {
+        let step = skip_type(s, at);
+        let Step::Next(behind) = step else {
+            return TypeTable {
+                step,
+                count,
+                places,
+            };
+        };
+        places[count] = at as u16;
+        count += 1;
+        match turn_after_type(s, behind, TYPE_LIMIT - count) {
+            Turn::Again(next) => at = next,
+            Turn::Done(next) => {
+                return TypeTable {
+                    step: Step::Next(next),
+                    count,
+                    places,
+                };
+            }
+            Turn::Refused(why) => {
+                return TypeTable {
+                    step: Step::Refused(why),
+                    count,
+                    places,
+                };
+            }
+        }
+    }
+}
+
+// The functions from behind the first mark to behind the mark GO.
+pub fn read_functions(s: &[u8], first: usize) -> FunctionTable
+    requires { ⌜ length (now s) ≤ 16384 ⌝ }
+    ensures { λ r. ⌜ functionsFrom 63 (now (s .entry)) first ≡ functionsOf (now (s .entry)) r ⌝ }
+{
+    let mut places = [0u16; 64];
+    let mut count: usize = 0;
+    let mut at = first;
+    loop {
+        let step = skip_function(s, at);
+        let Step::Next(behind) = step else {
+            return FunctionTable {
+                step,
+                count,
+                places,
+            };
+        };
+        places[count] = at as u16;
+        count += 1;
+        match turn_after_function(s, behind, FUNCTION_LIMIT - count) {
+            Turn::Again(next) => at = next,
+            Turn::Done(next) => {
+                return FunctionTable {
+                    step: Step::Next(next),
+                    count,
+                    places,
+                };
+            }
+            Turn::Refused(why) => {
+                return FunctionTable {
+                    step: Step::Refused(why),
+                    count,
+                    places,
+                };
+            }
+        }
+    }
+}
+
+// The place behind the first mark, which must be that of a type.
+pub fn first_mark(s: &[u8]) -> Step
+    ensures { λ r. ⌜ r ≡ Rattle.records.specs.Steps.stepOf (Rattle.outline.specs.Tables.firstMark (now (s .entry)) 0) ⌝ }
+{
+    let Marked::Mark(mark, next) = take_mark(s, 0) else {
+        return Step::Refused(Refusal::Truncated);
+    };
+    match mark {
+        Mark::Type => Step::Next(next),
+        Mark::Function => Step::Refused(Refusal::UnexpectedMark),
+        Mark::Goal => Step::Refused(Refusal::UnexpectedMark),
+        Mark::Other => Step::Refused(Refusal::UnexpectedMark),
+    }
+}
+
+// An outline that was not read.
+pub fn not_read(step: Step) -> Outlined
+    ensures { λ r. ⌜ r .step ≡ step ⌝ }
+{
+    Outlined {
+        step,
+        types: 0,
+        type_at: [0; 32],
+        functions: 0,
+        function_at: [0; 64],
+        goal_at: 0,
+    }
+}
+
+// The goal and the end of the file.
+pub fn last_record(s: &[u8], at: usize) -> Step
+    ensures { λ r. ⌜ r ≡ Rattle.records.specs.Steps.stepOf (Rattle.outline.specs.Tables.lastRecord (now (s .entry)) at) ⌝ }
+{
+    let step = skip_goal(s, at);
+    let Step::Next(behind) = step else {
+        return step;
+    };
+    if behind < s.len() {
+        return Step::Refused(Refusal::TrailingBytes);
+    }
+    step
+}
+
+pub fn first_pass(s: &[u8]) -> Outlined
+    requires { ⌜ length (now s) ≤ 16384 ⌝ }
+    ensures { λ r. ⌜ outline (now (s .entry)) 0 ≡ outlinedOf (now (s .entry)) r ⌝ }
+{
+    let begin = first_mark(s);
+    let Step::Next(first_type) = begin else {
+        return not_read(begin);
+    };
+    let types = read_types(s, first_type);
+    let typed = types.step;
+    let Step::Next(first_function) = typed else {
+        return not_read(typed);
+    };
+    let functions = read_functions(s, first_function);
+    let defined = functions.step;
+    let Step::Next(goal) = defined else {
+        return not_read(defined);
+    };
+    let last = last_record(s, goal);
+    let type_at = types.places;
+    let function_at = functions.places;
+    Outlined {
+        step: last,
+        types: types.count,
+        type_at,
+        functions: functions.count,
+        function_at,
+        goal_at: goal,
+    }
+}
