@@ -263,3 +263,38 @@ pub fn skip_goal(s: &[u8], at: usize) -> Step
     };
     skip_limits(s, limits)
 }
+
+// The cursor over the lent file: it carries the file and how far it has been read. Its functions are thin: each takes the struct
+// apart and calls the function on the slice and the place.
+pub struct Reader<'a> {
+    pub file: &'a [u8],
+    pub at: usize,
+}
+
+// A reader at the beginning of a file.
+pub fn begin<'a>(file: &'a [u8]) -> Reader<'a>
+    ensures { λ r. ⌜ (r .file ≡ file .entry) × (r .at ≡ 0) ⌝ }
+{
+    Reader { file, at: 0 }
+}
+
+// The reader at another place of its file.
+pub fn moved<'a>(r: Reader<'a>, at: usize) -> Reader<'a>
+    ensures { λ q. ⌜ (q .file ≡ r .entry .file) × (q .at ≡ at) ⌝ }
+{
+    Reader { file: r.file, at }
+}
+
+// The mark where a reader stands.
+pub fn read_mark<'a>(r: Reader<'a>) -> Marked
+    ensures { λ m. ⌜ m ≡ markedOf (mark (now (r .entry .file)) (r .entry .at)) ⌝ }
+{
+    take_mark(r.file, r.at)
+}
+
+// The mark at the beginning of a file: for callers with a plain slice.
+pub fn mark_at_start(s: &[u8]) -> Marked
+    ensures { λ r. ⌜ r ≡ markedOf (mark (now (s .entry)) 0) ⌝ }
+{
+    read_mark(begin(s))
+}

@@ -1,0 +1,4 @@
+pub mod Answers
+pub mod Passing
+pub mod Counts
+pub mod Tails

@@ -1,0 +1,83 @@
+-- So many bytes read one by one, and the same reading so many times, as steps: the value is forgotten.
+-- Rests on Answers and on reach's Reader.
+use Prim.Native.Nat.{ℕ, zero, suc, _+_, _-_, _≤_, _<_}
+use mathlib.Core.Path.{_≡_, refl, sym, _∙_, ap}
+use mathlib.Core.List.{List, [], _∷_}
+use lib.ListN.{length, getD}
+use native.Mathlib.Omega.{arith}
+use native.Mathlib.Decide.{decLe}
+use borrow.Author.Tests.{lt-ltb, le-ltb, le-leb, lt-leb}
+use Rattle.reach.specs.declared.Refusal.{Refusal}
+use Rattle.reach.specs.declared.Refusal.the-variants.{Truncated}
+use Rattle.reach.specs.Reader.{Got, got, refused, onGot, Reader, byte, times, passed}
+use Rattle.records.specs.Steps.{stepOf}
+use Rattle.records.specs.declared.Step.{Step}
+use Rattle.records.proofs.Answers.{step-got, step-refused, step-mapped}
+
+-- a byte below the length, and none from there on
+pub byte-there : (s : List ℕ) (at : ℕ) → at < length s → byte s at ≡ got (getD s at 0) (suc at)
+unfolding byte
+byte-there s at h = rw (lt-ltb at (length s) h)
+
+pub byte-none : (s : List ℕ) (at : ℕ) → length s ≤ at → byte s at ≡ refused Truncated
+unfolding byte
+byte-none s at h = rw (le-ltb at (length s) h)
+
+-- n bytes from a place on that lie within the length, and that do not
+pub passed-there : (n : ℕ) (s : List ℕ) (at : ℕ) → at + n ≤ length s → passed n s at ≡ got at (at + n)
+unfolding passed
+passed-there n s at h = rw (le-leb (at + n) (length s) h)
+
+pub passed-none : (n : ℕ) (s : List ℕ) (at : ℕ) → length s < at + n → passed n s at ≡ refused Truncated
+unfolding passed
+passed-none n s at h = rw (lt-leb (at + n) (length s) h)
+
+module _ {A : Type 0} (m : Reader A) (s : List ℕ) where
+  times-got : (n at : ℕ) {a : A} {next : ℕ} → m s at ≡ got a next → stepOf (times (suc n) m s at) ≡ stepOf (times n m s next)
+  unfolding times
+  times-got n at {a} {next} e = rw e (step-mapped (λ rest. a ∷ rest) (times n m s next))
+
+  times-refused : (n at : ℕ) {why : Refusal} → m s at ≡ refused why → stepOf (times (suc n) m s at) ≡ Step.Refused why
+  unfolding times
+  times-refused n at e = rw e
+
+  -- one reading of more than none, which goes on
+  pub times-next : (more at : ℕ) {next : ℕ} → 0 < more → stepOf (m s at) ≡ Step.Next next → stepOf (times more m s at) ≡ stepOf (times (more - 1) m s next)
+  times-next zero at h e = absurd (omega arith)
+  times-next (suc n) at h e = let z : suc n - 1 ≡ n = omega arith in rw z (times-got n at (step-got (m s at) e .1))
+
+  -- no reading is left
+  pub times-done : (more at : ℕ) → more ≤ 0 → stepOf (times more m s at) ≡ Step.Next at
+  unfolding times
+  times-done zero at h = refl
+  times-done (suc n) at h = absurd (omega arith)
+
+  -- one reading of more than none, which is refused
+  pub times-stops : (more at : ℕ) {why : Refusal} → 0 < more → stepOf (m s at) ≡ Step.Refused why → stepOf (times more m s at) ≡ Step.Refused why
+  times-stops zero at h e = absurd (omega arith)
+  times-stops (suc n) at h e = times-refused n at (step-refused (m s at) e)
+
+module _ (s : List ℕ) where
+  bytes-there : (n at : ℕ) → at + n ≤ length s → stepOf (times n byte s at) ≡ Step.Next (at + n)
+  unfolding times
+  bytes-there zero at h = let z : at + 0 ≡ at = omega arith in rw z
+  bytes-there (suc n) at h =
+      let z : at + suc n ≡ suc at + n = omega arith in
+      rw z (times-got byte s n at (byte-there s at (omega arith)) ∙ bytes-there n (suc at) (omega arith))
+
+  bytes-none : (n at : ℕ) → length s < at + suc n → stepOf (times (suc n) byte s at) ≡ Step.Refused Truncated
+  bytes-none zero at h = times-refused byte s zero at (byte-none s at (omega arith))
+  bytes-none (suc n) at h =
+      elim (decLe (length s) at) [
+        | yes p ↦ times-refused byte s (suc n) at (byte-none s at p)
+        | no p ↦ times-got byte s (suc n) at (byte-there s at (omega arith)) ∙ bytes-none n (suc at) (omega arith)
+      ]
+
+  -- n bytes read one by one, where n is not 0, pass over n bytes
+  pub bytes-passed : (n at : ℕ) → 0 < n → stepOf (times n byte s at) ≡ stepOf (passed n s at)
+  bytes-passed zero at h = absurd (omega arith)
+  bytes-passed (suc n) at h =
+      elim (decLe (at + suc n) (length s)) [
+        | yes p ↦ rw (passed-there (suc n) s at p) (bytes-there (suc n) at p)
+        | no p ↦ let z : length s < at + suc n = omega arith in rw (passed-none (suc n) s at z) (bytes-none n at z)
+      ]

@@ -1,0 +1,12 @@
+use Prim.Native.Nat.{ℕ}
+use lib.ListN.{List·getD-eq-default}
+use native.Mathlib.Omega.{arith}
+use borrow.Author.Needs.{needs}
+use Rattle.records.proofs.byte_or_zero.Statement.{statement}
+use Rattle.records.proofs.byte_or_zero.Tie as tie
+
+returns-2 : tie.Need-returns-2
+returns-2 c = rw (List·getD-eq-default {A = ℕ} _ 0 (c .if1 .left))
+
+pub byte-or-zero-spec : {M : Type 1} → statement M
+byte-or-zero-spec = tie.close (tie.spec (λ c. search needs) (λ c κs. search needs) (λ c. search needs) returns-2)
