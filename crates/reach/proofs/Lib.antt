@@ -11,4 +11,7 @@ pub mod EntryLength
 pub mod Lists
 pub mod ClosedInputs
 pub mod Answers
+pub mod WellTyped
+pub mod NeverStuck
+pub mod Encoding
 pub mod Demands

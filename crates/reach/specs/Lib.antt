@@ -13,4 +13,5 @@ pub mod Input
 pub mod Lists
 pub mod Answers
 pub mod Examples
+pub mod Encoding
 pub mod Places

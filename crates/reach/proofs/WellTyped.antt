@@ -1,0 +1,352 @@
+-- Accepted files are well typed: a typing of expressions, and the theorem that in an accepted program every number names something
+-- and every function's body has the result type, with the parameters in view.
+-- Rests on Syntax, Reader, RuleFile and Answers, and on Finds of Limits.
+use Prim.Native.Nat.{ℕ, zero, suc, _+_, _<_, suc-le-suc, zero-le}
+use mathlib.Core.Path.{_≡_, refl, sym, _∙_, ap, subst}
+use mathlib.Core.Bool.{Bool, true, false, _&&_, and-eq-true-iff}
+use mathlib.Core.List.{List, [], _∷_, _++_, map}
+use mathlib.Core.Option.{Option, none, some}
+use lib.ListN.{length, getD, getElem?, take, length-map}
+use lib.Dec.{ltb, leb, eqb}
+use borrow.Author.Tests.{ltb-true, eqb-true}
+use native.Mathlib.Omega.{arith}
+use native.Mathlib.Nat.{not-suc-le-zero, le-of-suc-le-suc}
+use Rattle.reach.specs.declared.Refusal.{Refusal}
+use Rattle.reach.specs.declared.Refusal.the-variants.{OutOfRange, UnknownNumber, UnknownCode, TypeMismatch, TrailingBytes, EmptyType, DepthTooSmall}
+use Rattle.reach.specs.Base.{pick}
+use Rattle.reach.specs.Limits.{nestingLimit}
+use Rattle.reach.specs.Syntax.{Expr, variable, call, construct, case, bind, target, Exprs, []ₑ, _∷ₑ_, Alternatives, no-more, absent, present, Types, Function, Program, fieldTypes, functionAt}
+use Rattle.reach.specs.Types.{leastDepths}
+use Rattle.reach.specs.Reader.{Got, got, refused, onGot, Reader, demand, byte, atEnd}
+use Rattle.reach.specs.RuleFile.{Head, Outline, outline, allBelow, constructorsExist, typesExist, headsExist, numbersExist, Below, operandsOf, alternatives, inLimits, variableExpr, callOf, callExpr, constructOf, constructExpr, caseOf, caseExpr, letExpr, targetExpr, expressionBy, expression, bodyOf, functionsOf, programOf, noEmptyType, deepEnough, sizeInLimit, ruleFile}
+use Rattle.reach.specs.Answers.{accepted, turnedBack, check}
+use Rattle.reach.proofs.Limits.{clash, Each, Finds, finds-then}
+
+-- What a call has to know of a function.
+pub record Signature : Type 0 where
+  pub parameters : List ℕ
+  pub result : ℕ
+
+-- a type of this number exists
+abbrev pub Exists : Types → ℕ → Type 0
+Exists types t = t < length types
+
+-- An expression has a type, given the types of the variables in view. Numbers in it name something: a variable in view, a function, a
+-- type, a constructor of its type.
+module _ (types : Types) (known : List Signature) where
+  abbrev mutual
+    pub HasType : Expr → List ℕ → ℕ → Type 0
+    HasType (variable n) view t = getElem? view n ≡ some t
+    HasType (call f es) view t = (g : Signature) × (getElem? known f ≡ some g) × (g .result ≡ t) × HaveTypes es view (g .parameters)
+    HasType (construct u c es) view t = (us : List ℕ) × (fieldTypes types u c ≡ some us) × (u ≡ t) × HaveTypes es view us
+    HasType (case u e alts) view t = Exists types u × HasType e view u × Covers alts view (getD types u []) t
+    HasType (bind u e body) view t = Exists types u × HasType e view u × HasType body (view ++ (u ∷ [])) t
+    HasType (target l e) view t = HasType e view t
+
+    -- one expression for each of the types
+    pub HaveTypes : Exprs → List ℕ → List ℕ → Type 0
+    HaveTypes []ₑ view [] = Unit {0}
+    HaveTypes []ₑ view (t ∷ ts) = ⊥
+    HaveTypes (e ∷ₑ es) view [] = ⊥
+    HaveTypes (e ∷ₑ es) view (t ∷ ts) = HasType e view t × HaveTypes es view ts
+
+    -- an alternative or none for each of the constructors; an alternative sees the constructor's fields too
+    pub Covers : Alternatives → List ℕ → List (List ℕ) → ℕ → Type 0
+    Covers no-more view [] t = Unit {0}
+    Covers no-more view (us ∷ cs) t = ⊥
+    Covers (absent alts) view [] t = ⊥
+    Covers (absent alts) view (us ∷ cs) t = Covers alts view cs t
+    Covers (present e alts) view [] t = ⊥
+    Covers (present e alts) view (us ∷ cs) t = HasType e (view ++ us) t × Covers alts view cs t
+
+abbrev pub signatureOf : Function → Signature
+signatureOf f = record { parameters = f .parameters; result = f .result }
+
+abbrev pub signatures : Program → List Signature
+signatures p = map signatureOf (p .functions)
+
+-- the types in a function's head exist, and its body has the result type with the parameters in view
+abbrev pub FunctionTyped : Types → List Signature → Function → Type 0
+FunctionTyped types known f =
+    Each (Exists types) (f .parameters) × Exists types (f .result) × HasType types known (f .body) (f .parameters) (f .result)
+
+-- What the check of a file establishes about its program.
+pub record WellTyped (p : Program) : Type 0 where
+  -- every field of every constructor of every type has a type that exists
+  pub fields-exist : Each (Each (Each (Exists (p .types)))) (p .types)
+  -- every function has a body of its result type
+  pub functions-typed : (f : ℕ) (g : Function) → functionAt p f ≡ some g → FunctionTyped (p .types) (signatures p) g
+  pub source-exists : p .source < length (p .functions)
+
+-- What stands at a number of a list.
+
+pub at-below : {A : Type 0} (xs : List A) (n : ℕ) → n < length xs → (x : A) × (getElem? xs n ≡ some x)
+at-below [] n h = absurd (not-suc-le-zero h)
+at-below (x ∷ xs) zero h = (x, refl)
+at-below (x ∷ xs) (suc n) h = at-below xs n (le-of-suc-le-suc h)
+
+pub at-getD : {A : Type 0} (xs : List A) (n : ℕ) (d x : A) → getElem? xs n ≡ some x → (n < length xs) × (getD xs n d ≡ x)
+at-getD [] n d x h = absurd (clash (cc))
+at-getD (y ∷ xs) zero d x h = (suc-le-suc zero-le, cc)
+at-getD (y ∷ xs) (suc n) d x h = let k = at-getD xs n d x h in (suc-le-suc (k .0), k .1)
+
+at-map : {A B : Type 0} (f : A → B) (xs : List A) (n : ℕ) (x : A) → getElem? xs n ≡ some x → getElem? (map f xs) n ≡ some (f x)
+at-map f [] n x h = absurd (clash (cc))
+at-map f (y ∷ xs) zero x h = let z : y ≡ x = cc in rw z
+at-map f (y ∷ xs) (suc n) x h = at-map f xs n x h
+
+at-cons :
+    {A : Type 0} (P : A → Type 0) (x : A) (xs : List A) → P x → ((n : ℕ) (y : A) → getElem? xs n ≡ some y → P y)
+    → (n : ℕ) (y : A) → getElem? (x ∷ xs) n ≡ some y → P y
+at-cons P x xs h hs zero y e = let z : x ≡ y = cc in subst P z h
+at-cons P x xs h hs (suc n) y e = hs n y e
+
+-- What holds of whatever is found: behind a reader of which nothing is asked, behind a test that was demanded, and by one of two readers.
+
+after-any :
+    {A B : Type 0} (Q : B → ℕ → Type 0) (f : A → ℕ → Got B) (g : Got A) → ((a : A) (next : ℕ) → Finds Q (f a next))
+    → Finds Q (onGot f (λ why. refused why) g)
+after-any Q f (got a next) later = later a next
+after-any Q f (refused why) later = tt
+
+after-test :
+    {B : Type 0} (Q : B → ℕ → Type 0) (f : Unit {0} → ℕ → Got B) (test : Bool) (why : Refusal) (s : List ℕ) (i : ℕ)
+    → (test ≡ true → Finds Q (f tt i)) → Finds Q (onGot f (λ why. refused why) (demand test why s i))
+after-test Q f true why s i later = later refl
+after-test Q f false why s i later = tt
+
+either :
+    {A : Type 0} (Q : A → ℕ → Type 0) (test : Bool) (m n : Reader A) (s : List ℕ) (i : ℕ) → Finds Q (m s i) → Finds Q (n s i)
+    → Finds Q (pick test m n s i)
+either Q true m n s i x y = x
+either Q false m n s i x y = y
+
+-- The third pass. The functions are known by the signatures in their heads: their bodies are still being read.
+
+abbrev headSignature : Head → Signature
+headSignature h = record { parameters = h .parameters; result = h .result }
+
+module _ (o : Outline) where
+  abbrev headSignatures : List Signature
+  headSignatures = map headSignature (o .heads)
+
+  -- whatever the reader of expressions finds has the type expected of it
+  abbrev FindsTyped : Below → Type 0
+  FindsTyped sub = (view : List ℕ) (t : ℕ) (s : List ℕ) (i : ℕ) → Finds (λ e next. HasType (o .types) headSignatures e view t) (sub view t s i)
+
+  module _ (sub : Below) (below : FindsTyped sub) where
+    operands-typed : (view ts s : List ℕ) (i : ℕ) → Finds (λ es next. HaveTypes (o .types) headSignatures es view ts) (operandsOf sub view ts s i)
+    unfolding operandsOf
+    operands-typed view [] s i = tt
+    operands-typed view (t ∷ ts) s i =
+        finds-then _ _ _ (sub view t s i) (below view t s i)
+        (λ e k h. finds-then _ _ _ (operandsOf sub view ts s k) (operands-typed view ts s k)
+        (λ es l hs. (h, hs)))
+
+    alternatives-typed :
+        (view : List ℕ) (t : ℕ) (cs : List (List ℕ)) (s : List ℕ) (i : ℕ)
+        → Finds (λ alts next. Covers (o .types) headSignatures alts view cs t) (alternatives sub view t cs s i)
+    unfolding alternatives
+    alternatives-typed view t [] s i = tt
+    alternatives-typed view t (us ∷ cs) s i =
+        after-any _ _ (byte s i)
+        (λ b k. after-test _ _ (leb b 1) UnknownCode s k
+        (λ u. either _ (eqb b 0) _ _ s k
+        (finds-then _ _ _ (alternatives sub view t cs s k) (alternatives-typed view t cs s k) (λ alts l hs. hs))
+        (finds-then _ _ _ (sub (view ++ us) t s k) (below (view ++ us) t s k)
+        (λ e l h. finds-then _ _ _ (alternatives sub view t cs s l) (alternatives-typed view t cs s l) (λ alts m hs. (h, hs))))))
+
+    -- each kind of expression, whatever the nesting
+    module _ (nested : Bool) (view : List ℕ) (t : ℕ) where
+      abbrev Expected : Expr → ℕ → Type 0
+      Expected e next = HasType (o .types) headSignatures e view t
+
+      variable-typed : (s : List ℕ) (i : ℕ) → Finds Expected (variableExpr o nested sub view t s i)
+      unfolding variableExpr
+      variable-typed s i =
+          after-any _ _ (byte s i)
+          (λ n k. after-test _ _ (ltb n (length view)) UnknownNumber s k
+          (λ there. after-any _ _ (inLimits nested view s k)
+          (λ u l. after-test _ _ (eqb (getD view n 0) t) TypeMismatch s l
+          (λ same. typed n (at-below view n (ltb-true n (length view) there)) (eqb-true (getD view n 0) t same)))))
+        where
+          typed : (n : ℕ) → (x : ℕ) × (getElem? view n ≡ some x) → getD view n 0 ≡ t → getElem? view n ≡ some t
+          typed n found same = let z = (at-getD view n 0 (found .0) (found .1)) .1 in found .1 ∙ ap some (sym z ∙ same)
+
+      call-typed : (s : List ℕ) (i : ℕ) → Finds Expected (callExpr o nested sub view t s i)
+      unfolding callExpr callOf
+      call-typed s i = after-any _ _ (byte s i) (λ f k. by-head f (getElem? (o .heads) f) refl k)
+        where
+          by-head : (f : ℕ) (h : Option Head) → getElem? (o .heads) f ≡ h → (k : ℕ) → Finds Expected (callOf o nested sub view t f h s k)
+          by-head f none g k = tt
+          by-head f (some h) g k =
+              after-any _ _ (inLimits nested view s k)
+              (λ u l. after-test _ _ (eqb (h .result) t) TypeMismatch s l
+              (λ same. finds-then _ _ _ (operandsOf sub view (h .parameters) s l) (operands-typed view (h .parameters) s l)
+              (λ es m hs. (headSignature h, at-map headSignature (o .heads) f h g, eqb-true (h .result) t same, hs))))
+
+      construct-typed : (s : List ℕ) (i : ℕ) → Finds Expected (constructExpr o nested sub view t s i)
+      unfolding constructExpr constructOf
+      construct-typed s i = after-any _ _ (byte s i) (λ u k. after-any _ _ (byte s k) (λ c l. by-fields u c (fieldTypes (o .types) u c) refl l))
+        where
+          by-fields : (u c : ℕ) (us : Option (List ℕ)) → fieldTypes (o .types) u c ≡ us → (k : ℕ) → Finds Expected (constructOf o nested sub view t u c us s k)
+          by-fields u c none g k = tt
+          by-fields u c (some us) g k =
+              after-any _ _ (inLimits nested view s k)
+              (λ v l. after-test _ _ (eqb u t) TypeMismatch s l
+              (λ same. finds-then _ _ _ (operandsOf sub view us s l) (operands-typed view us s l)
+              (λ es m hs. (us, g, eqb-true u t same, hs))))
+
+      case-typed : (s : List ℕ) (i : ℕ) → Finds Expected (caseExpr o nested sub view t s i)
+      unfolding caseExpr caseOf
+      case-typed s i = after-any _ _ (byte s i) (λ u k. by-type u (getElem? (o .types) u) refl k)
+        where
+          by-type : (u : ℕ) (cs : Option (List (List ℕ))) → getElem? (o .types) u ≡ cs → (k : ℕ) → Finds Expected (caseOf o nested sub view t u cs s k)
+          by-type u none g k = tt
+          by-type u (some cs) g k =
+              let there = at-getD (o .types) u [] cs g in
+              after-any _ _ (inLimits nested view s k)
+              (λ v l. finds-then _ _ _ (sub view u s l) (below view u s l)
+              (λ e m h. finds-then _ _ _ (alternatives sub view t cs s m) (alternatives-typed view t cs s m)
+              (λ alts n hs. (there .0, h, rw (there .1) hs))))
+
+      let-typed : (s : List ℕ) (i : ℕ) → Finds Expected (letExpr o nested sub view t s i)
+      unfolding letExpr
+      let-typed s i =
+          after-any _ _ (byte s i)
+          (λ u k. after-test _ _ (ltb u (length (o .types))) UnknownNumber s k
+          (λ there. after-any _ _ (inLimits nested view s k)
+          (λ v l. finds-then _ _ _ (sub view u s l) (below view u s l)
+          (λ e m h. finds-then _ _ _ (sub (view ++ (u ∷ [])) t s m) (below (view ++ (u ∷ [])) t s m)
+          (λ b n g. (ltb-true u (length (o .types)) there, h, g))))))
+
+      target-typed : (s : List ℕ) (i : ℕ) → Finds Expected (targetExpr o nested sub view t s i)
+      unfolding targetExpr
+      target-typed s i =
+          after-any _ _ (byte s i)
+          (λ l k. after-any _ _ (inLimits nested view s k)
+          (λ u m. finds-then _ _ _ (sub view t s m) (below view t s m) (λ e n h. h)))
+
+      by-typed : (s : List ℕ) (i : ℕ) → Finds Expected (expressionBy o nested sub view t s i)
+      unfolding expressionBy
+      by-typed s i =
+          after-any _ _ (byte s i)
+          (λ code k. after-test _ _ (leb code 5) UnknownCode s k
+          (λ u. either _ (eqb code 0) _ _ s k (variable-typed s k)
+          (either _ (eqb code 1) _ _ s k (call-typed s k)
+          (either _ (eqb code 2) _ _ s k (construct-typed s k)
+          (either _ (eqb code 3) _ _ s k (case-typed s k)
+          (either _ (eqb code 4) _ _ s k (let-typed s k) (target-typed s k)))))))
+
+  expression-typed : (n : ℕ) → FindsTyped (expression o n)
+  unfolding expression
+  expression-typed zero view t s i = by-typed (λ view t s here. refused OutOfRange) (λ view t s here. tt) false view t s i
+  expression-typed (suc n) view t s i = by-typed (expression o n) (expression-typed n) true view t s i
+
+-- The second pass.
+
+-- where a test of a whole list tests each element, what the element's test says holds of each
+tested-each :
+    {A : Type 0} (P : A → Type 0) (test : A → Bool) (all : List A → Bool) → ((x : A) (xs : List A) → all (x ∷ xs) ≡ (test x && all xs))
+    → ((x : A) → test x ≡ true → P x) → (xs : List A) → all xs ≡ true → Each P xs
+tested-each P test all step fact [] h = tt
+tested-each P test all step fact (x ∷ xs) h =
+    let both = (and-eq-true-iff (test x) (all xs)) .0 (sym (step x xs) ∙ h) in
+    (fact x (both .0), tested-each P test all step fact xs (both .1))
+
+-- the types that a head names exist
+abbrev HeadExists : Types → Head → Type 0
+HeadExists types h = Each (Exists types) (h .parameters) × Exists types (h .result)
+
+module _ (types : Types) where
+  row-exists : (us : List ℕ) → allBelow (length types) us ≡ true → Each (Exists types) us
+  unfolding allBelow
+  row-exists = tested-each (Exists types) (λ t. ltb t (length types)) (allBelow (length types)) (λ t ts. refl) (λ t. ltb-true t (length types))
+
+  type-exists : (cs : List (List ℕ)) → constructorsExist (length types) cs ≡ true → Each (Each (Exists types)) cs
+  unfolding constructorsExist
+  type-exists = tested-each (Each (Exists types)) (allBelow (length types)) (constructorsExist (length types)) (λ us cs. refl) row-exists
+
+  types-exist : (ts : Types) → typesExist (length types) ts ≡ true → Each (Each (Each (Exists types))) ts
+  unfolding typesExist
+  types-exist = tested-each (Each (Each (Exists types))) (constructorsExist (length types)) (typesExist (length types)) (λ cs ts. refl) type-exists
+
+  heads-exist : (hs : List Head) → headsExist (length types) hs ≡ true → Each (HeadExists types) hs
+  unfolding headsExist
+  heads-exist = tested-each (HeadExists types) test (headsExist (length types)) (λ h hs. refl) one
+    where
+      test : Head → Bool
+      test h = allBelow (length types) (h .parameters) && ltb (h .result) (length types)
+
+      one : (h : Head) → test h ≡ true → HeadExists types h
+      one h t =
+          let both = (and-eq-true-iff (allBelow (length types) (h .parameters)) (ltb (h .result) (length types))) .0 t in
+          (row-exists (h .parameters) (both .0), ltb-true (h .result) (length types) (both .1))
+
+-- the types that TY and the heads name exist, and the source exists
+numbers-exist :
+    (o : Outline) → numbersExist o ≡ true
+    → Each (Each (Each (Exists (o .types)))) (o .types) × Each (HeadExists (o .types)) (o .heads) × (o .goal .source < length (o .heads))
+unfolding numbersExist
+numbers-exist o h =
+    let both = (and-eq-true-iff (typesExist n (o .types) && headsExist n (o .heads)) (ltb (o .goal .source) (length (o .heads)))) .0 h in
+    let types = (and-eq-true-iff (typesExist n (o .types)) (headsExist n (o .heads))) .0 (both .0) in
+    (types-exist (o .types) (o .types) (types .0), heads-exist (o .types) (o .heads) (types .1), ltb-true (o .goal .source) (length (o .heads)) (both .1))
+  where
+    n : ℕ
+    n = length (o .types)
+
+-- The whole file.
+
+module _ (o : Outline) where
+  abbrev AllTyped : List Function → Type 0
+  AllTyped fs = (f : ℕ) (g : Function) → getElem? fs f ≡ some g → FunctionTyped (o .types) (headSignatures o) g
+
+  body-typed : (h : Head) (s : List ℕ) → Finds (λ e next. HasType (o .types) (headSignatures o) e (h .parameters) (h .result)) (bodyOf o h s)
+  unfolding bodyOf
+  body-typed h s =
+      let inside = take (h .body + h .size) s in
+      finds-then _ _ _ (expression o nestingLimit (h .parameters) (h .result) inside (h .body)) (expression-typed o nestingLimit (h .parameters) (h .result) inside (h .body))
+      (λ e k typed. after-any _ _ (atEnd TrailingBytes inside k) (λ u l. typed))
+
+  -- the functions have the heads' signatures, and bodies of their types
+  functions-read :
+      (hs : List Head) → Each (HeadExists (o .types)) hs → (s : List ℕ) (i : ℕ)
+      → Finds (λ fs next. (map signatureOf fs ≡ map headSignature hs) × AllTyped fs) (functionsOf o hs s i)
+  unfolding functionsOf
+  functions-read [] all s i = (refl, λ f g e. absurd (clash (cc)))
+  functions-read (h ∷ hs) all s i =
+      finds-then _ _ _ (bodyOf o h s) (body-typed h s)
+      (λ e k typed. finds-then _ _ _ (functionsOf o hs s k) (functions-read hs (all .1) s k)
+      (λ fs l rest. (ap (_∷_ (headSignature h)) (rest .0), at-cons (FunctionTyped (o .types) (headSignatures o)) _ fs (all .0 .0, all .0 .1, typed) (rest .1))))
+
+  program-typed :
+      (fs : List Function) → numbersExist o ≡ true → map signatureOf fs ≡ headSignatures o → AllTyped fs → WellTyped (programOf o fs)
+  unfolding programOf functionAt
+  program-typed fs exist same all =
+      let exists = numbers-exist o exist in
+      record {
+        fields-exist = exists .0;
+        functions-typed = λ f g e. rw same (all f g e);
+        source-exists = omega (arith, exists .2, length-map fs signatureOf, length-map (o .heads) headSignature, ap length same);
+      }
+
+file-typed : (s : List ℕ) (i : ℕ) → Finds (λ p next. WellTyped p) (ruleFile s i)
+unfolding ruleFile
+file-typed s i =
+    after-any _ _ (sizeInLimit s i)
+    (λ u k. after-any _ _ (outline s k)
+    (λ o l. after-test _ _ (numbersExist o) UnknownNumber s l
+    (λ exist. finds-then _ _ _ (functionsOf o (o .heads) s l) (functions-read o (o .heads) ((numbers-exist o exist) .1) s l)
+    (λ fs m read. after-any _ _ (demand (noEmptyType (leastDepths (o .types))) EmptyType s m)
+    (λ v h. after-any _ _ (demand (deepEnough (programOf o fs)) DepthTooSmall s h)
+    (λ w j. program-typed o fs exist (read .0) (read .1)))))))
+
+accepting : (g : Got Program) (p : Program) → Finds (λ q next. WellTyped q) g → onGot (λ p next. accepted p) turnedBack g ≡ accepted p → WellTyped p
+accepting (got q next) p typed e = let z : q ≡ p = cc in subst WellTyped z typed
+accepting (refused why) p typed e = absurd (clash (cc))
+
+-- an accepted file is well typed
+pub accepted-typed : (file : List ℕ) (p : Program) → check file ≡ accepted p → WellTyped p
+unfolding check
+accepted-typed file p e = accepting (ruleFile file 0) p (file-typed file 0) e
