@@ -1,0 +1,157 @@
+"""Rule files put together from their pieces, and random rule files that are accepted.
+
+Each function gives bytes. Nothing is checked here, so that faulty files can be built as well.
+"""
+
+from blind.rulefile import Type, least_depths
+
+
+# Expressions.
+
+def var(number):
+    return bytes([0, number])
+
+
+def call(function, *arguments):
+    return bytes([1, function]) + b"".join(arguments)
+
+
+def con(type_, constructor, *fields):
+    return bytes([2, type_, constructor]) + b"".join(fields)
+
+
+def case(type_, scrutinee, *alternatives):
+    """An alternative is an expression, or None where there is none."""
+    return bytes([3, type_]) + scrutinee + b"".join(b"\0" if a is None else b"\1" + a for a in alternatives)
+
+
+def let(type_, bound, body):
+    return bytes([4, type_]) + bound + body
+
+
+def target(label, inner):
+    return bytes([5, label]) + inner
+
+
+# Records.
+
+def two(number):
+    return bytes([number % 256, number // 256])
+
+
+def ty(*constructors):
+    """A constructor is the sequence of its fields' types."""
+    return b"TY" + bytes([len(constructors)]) + b"".join(bytes([len(fields), *fields]) for fields in constructors)
+
+
+def fn(parameters, result, body, length=None):
+    """The length stated is that of the body unless another is given."""
+    return b"FN" + bytes([len(parameters), *parameters, result]) + two(len(body) if length is None else length) + body
+
+
+def go(source=0, label=7, depth=8, steps=20):
+    return b"GO" + bytes([source, label, depth]) + two(steps)
+
+
+# Random rule files.
+
+def random_types(rng, most_types, most_constructors, most_fields):
+    """Types that all have a closed value: one constructor of each has only fields of types that come before it in a
+    hidden order."""
+    count = rng.randint(1, most_types)
+    order = rng.sample(range(count), count)
+    types = [None] * count
+    for rank, number in enumerate(order):
+        constructors = [tuple(rng.randrange(count) for _ in range(rng.randint(0, most_fields)))
+                        for _ in range(rng.randint(1, most_constructors))]
+        ground = rng.randint(0, most_fields) if rank and rng.random() < 0.4 else 0
+        constructors[rng.randrange(len(constructors))] = tuple(order[rng.randrange(rank)] for _ in range(ground))
+        types[number] = Type(tuple(constructors))
+    return types
+
+
+class RandomBody:
+    """Writes random expressions of a wanted type; the budget bounds how many of them are no leaves."""
+
+    def __init__(self, rng, types, heads, label):
+        self.rng, self.types, self.heads, self.label = rng, types, heads, label
+        self.depths = least_depths(types)
+
+    def shallowest(self, type_):
+        """The number of a constructor of least depth."""
+        def depth(constructor):
+            return 1 + max((self.depths[field] for field in self.types[type_].constructors[constructor]), default=0)
+        return min(range(len(self.types[type_].constructors)), key=depth)
+
+    def leaf(self, wanted, view):
+        numbers = [number for number, type_ in enumerate(view) if type_ == wanted]
+        if numbers and self.rng.random() < 0.8:
+            return var(self.rng.choice(numbers))
+        constructor = self.shallowest(wanted)
+        return con(wanted, constructor,
+                   *(self.leaf(field, view) for field in self.types[wanted].constructors[constructor]))
+
+    def mark(self):
+        return self.label if self.rng.random() < 0.7 else self.rng.randrange(256)
+
+    def operands(self, wanted, budget, nesting):
+        """Per pair of a type and a view an expression; they share the budget."""
+        return [self.expression(type_, view, budget // len(wanted), nesting + 1) for type_, view in wanted]
+
+    def expression(self, wanted, view, budget, nesting=1):
+        rng = self.rng
+        if budget <= 0 or nesting > 16:
+            leaf = self.leaf(wanted, view)
+            return target(self.mark(), leaf) if rng.random() < 0.3 else leaf
+        budget -= 1
+        form = rng.choices(["call", "construction", "case", "let", "target"], [3, 1, 6, 1, 1])[0]
+
+        callable_ = [number for number, (_, result) in enumerate(self.heads) if result == wanted]
+        if form == "call" and callable_:
+            function = rng.choice(callable_)
+            return call(function, *self.operands([(type_, view) for type_ in self.heads[function][0]], budget, nesting))
+
+        if form == "case":
+            if view and rng.random() < 0.8:
+                number = rng.randrange(len(view))
+                type_, scrutinee = view[number], var(number)
+            else:
+                type_ = rng.randrange(len(self.types))
+                scrutinee = self.expression(type_, view, budget // 3, nesting + 1)
+            kept = [rng.random() < 0.9 and len(view + fields) <= 32 for fields in self.types[type_].constructors]
+            written = iter(self.operands([(wanted, view + fields) for fields, keep
+                                          in zip(self.types[type_].constructors, kept) if keep], budget, nesting))
+            return case(type_, scrutinee, *(next(written) if keep else None for keep in kept))
+
+        if form == "let" and len(view) < 32:
+            type_ = rng.randrange(len(self.types))
+            return let(type_, *self.operands([(type_, view), (wanted, view + (type_,))], budget, nesting))
+
+        if form == "target":
+            return target(self.mark(), *self.operands([(wanted, view)], budget, nesting))
+
+        constructor = rng.randrange(len(self.types[wanted].constructors))
+        fields = self.types[wanted].constructors[constructor]
+        return con(wanted, constructor, *self.operands([(field, view) for field in fields], budget, nesting))
+
+
+def random_program(rng, most_types=4, most_constructors=3, most_fields=3, most_functions=4, most_parameters=3,
+                   budget=12, most_depth=6, most_steps=60):
+    """A random rule file that is accepted; D is raised to what the source's parameters need."""
+    types = random_types(rng, most_types, most_constructors, most_fields)
+    count = len(types)
+    heads = [(tuple(rng.randrange(count) for _ in range(rng.randint(0, most_parameters))), rng.randrange(count))
+             for _ in range(rng.randint(1, most_functions))]
+    label = rng.randrange(256)
+    functions = []
+    for parameters, result in heads:
+        writer = RandomBody(rng, types, heads, label)
+        body = writer.expression(result, parameters, rng.randint(0, budget))
+        while len(body) > 1024:
+            body = writer.expression(result, parameters, 0)
+        functions.append(fn(parameters, result, body))
+    source = rng.randrange(len(heads))
+    depths = least_depths(types)
+    depth = max([rng.randint(1, most_depth)] + [depths[parameter] for parameter in heads[source][0]])
+    return (b"".join(ty(*type_.constructors) for type_ in types) + b"".join(functions)
+            + go(source, label, depth, rng.randint(0, most_steps)))
