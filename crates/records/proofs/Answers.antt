@@ -16,6 +16,7 @@ use Rattle.records.specs.declared.Taken.{Taken}
 use Rattle.records.specs.declared.TakenWord.{TakenWord}
 use Rattle.records.specs.declared.Step.{Step}
 
+-- two numerals, where two constructors would be equal
 pub clash : _≡_ {A = ℕ} 0 1 → ⊥
 clash e = omega arith
 
@@ -44,6 +45,7 @@ word-plain s at = first (byte s at) (byte-plain s at)
     first (got low next) plain = second low (byte s next) (byte-plain s next)
     first (refused why) plain = plain
 
+-- what was read, by cases on it
 byte-cases : (g : Got ℕ) {b next : ℕ} → takenOf g ≡ Taken.Byte b next → g ≡ got b next
 byte-cases (got b next) e = cc
 byte-cases (refused why) e = absurd (clash (cc))

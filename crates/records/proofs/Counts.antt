@@ -6,12 +6,11 @@ use mathlib.Core.Bool.{true, false, _&&_}
 use mathlib.Core.List.{List}
 use lib.Dec.{leb}
 use borrow.Author.Tests.{le-leb, lt-leb}
-use native.Mathlib.Omega.{arith}
-use Rattle.reach.specs.declared.Refusal.{Refusal}
 use Rattle.reach.specs.declared.Refusal.the-variants.{OutOfRange, Truncated}
 use Rattle.reach.specs.Reader.{got, refused, byte}
 use Rattle.reach.specs.RuleFile.{counted}
 
+-- the test of a range, by where the number lies
 module _ (least most n : ℕ) where
   pub between : least ≤ n → n ≤ most → (leb least n && leb n most) ≡ true
   between l h = rw (le-leb least n l, le-leb n most h)
@@ -22,6 +21,7 @@ module _ (least most n : ℕ) where
   pub over : least ≤ n → most < n → (leb least n && leb n most) ≡ false
   over l h = rw (le-leb least n l, lt-leb n most h)
 
+-- a count that is read: within its range, missing, too small, too large
 module _ (least most : ℕ) (s : List ℕ) (at : ℕ) where
   pub counted-got : {n next : ℕ} → byte s at ≡ got n next → least ≤ n → n ≤ most → counted least most s at ≡ got n next
   unfolding counted

@@ -1,15 +1,15 @@
 -- So many bytes read one by one, and the same reading so many times, as steps: the value is forgotten.
 -- Rests on Answers and on reach's Reader.
 use Prim.Native.Nat.{ℕ, zero, suc, _+_, _-_, _≤_, _<_}
-use mathlib.Core.Path.{_≡_, refl, sym, _∙_, ap}
-use mathlib.Core.List.{List, [], _∷_}
+use mathlib.Core.Path.{_≡_, refl, _∙_}
+use mathlib.Core.List.{List, _∷_}
 use lib.ListN.{length, getD}
 use native.Mathlib.Omega.{arith}
 use native.Mathlib.Decide.{decLe}
 use borrow.Author.Tests.{lt-ltb, le-ltb, le-leb, lt-leb}
 use Rattle.reach.specs.declared.Refusal.{Refusal}
 use Rattle.reach.specs.declared.Refusal.the-variants.{Truncated}
-use Rattle.reach.specs.Reader.{Got, got, refused, onGot, Reader, byte, times, passed}
+use Rattle.reach.specs.Reader.{got, refused, Reader, byte, times, passed}
 use Rattle.records.specs.Steps.{stepOf}
 use Rattle.records.specs.declared.Step.{Step}
 use Rattle.records.proofs.Answers.{step-got, step-refused, step-mapped}

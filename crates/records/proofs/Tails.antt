@@ -20,6 +20,7 @@ step-after (got a next) f h alike = alike a next
 step-after (refused why) f h alike = refl
 
 module _ (s : List ℕ) (at : ℕ) where
+  -- a function, behind its result type
   pub function-tail : {n first result r behind : ℕ} {ps : List ℕ}
       → counted 0 parameterLimit s at ≡ got n first → times n byte s first ≡ got ps result → byte s result ≡ got r behind
       → stepOf (functionRecord s at) ≡ stepOf (bodyPart s behind)
@@ -28,6 +29,7 @@ module _ (s : List ℕ) (at : ℕ) where
       rw (e₁, e₂, e₃)
       (step-after (word s behind) _ _ λ l next. step-after (demand (leb 1 l && leb l bodyLimit) OutOfRange s next) _ _ λ _ here. step-mapped _ (passed l s here))
 
+  -- the goal, behind its label
   pub goal-tail : {f label l limits : ℕ}
       → byte s at ≡ got f label → byte s label ≡ got l limits
       → stepOf (goalRecord s at) ≡ stepOf (limitsPart s limits)
