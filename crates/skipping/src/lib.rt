@@ -4,13 +4,24 @@ ghost use mathlib.Core.Path.{_≡_};
 ghost use Prim.Native.Nat.{ℕ, _≤_};
 ghost use Rattle.records.specs.Steps.{stepOf};
 ghost use Rattle.skipping.specs.Skip.{skippedAt, skippedAllAt, skippedAlternativesAt};
-
-use bodies::{Fields, fields_of, place_or_zero};
+use bodies::Fields;
+use bodies::fields_of;
+use bodies::place_or_zero;
 use reach::Refusal;
-use records::{Step, Taken, byte_or_zero, take_byte, wide};
+use records::Step;
+use records::Taken;
+use records::byte_or_zero;
+use records::take_byte;
+use records::wide;
 
 // An expression that nests at most so many deep, itself included.
-pub fn skip_expression<'a>(file: &'a [u8], type_at: &'a [u16], function_at: &'a [u16], at: usize, left: usize) -> Step
+pub fn skip_expression<'a>(
+    file: &'a [u8],
+    type_at: &'a [u16],
+    function_at: &'a [u16],
+    at: usize,
+    left: usize,
+) -> Step
     ensures { λ r. ⌜ r ≡ stepOf (skippedAt (now (file .entry)) (now (type_at .entry)) (now (function_at .entry)) left (now (file .entry)) at) ⌝ }
 {
     if left == 0 {

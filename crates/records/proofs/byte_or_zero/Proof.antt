@@ -1,6 +1,7 @@
+-- `records::byte_or_zero` meets its contract: past the end `getD` gives its default.
+-- Rests on nothing of this crate.
 use Prim.Native.Nat.{ℕ}
 use lib.ListN.{List·getD-eq-default}
-use native.Mathlib.Omega.{arith}
 use borrow.Author.Needs.{needs}
 use Rattle.records.proofs.byte_or_zero.Statement.{statement}
 use Rattle.records.proofs.byte_or_zero.Tie as tie

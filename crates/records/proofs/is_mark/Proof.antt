@@ -1,5 +1,6 @@
+-- `records::is_mark` meets its contract: each test of the code is one of the definition.
+-- Rests on nothing of this crate.
 use borrow.Author.Tests.{eq-eqb, ne-eqb}
-use native.Mathlib.Omega.{arith}
 use borrow.Author.Needs.{needs}
 use Rattle.records.proofs.is_mark.Statement.{statement}
 use Rattle.records.proofs.is_mark.Tie as tie

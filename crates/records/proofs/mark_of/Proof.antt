@@ -1,6 +1,7 @@
-use Rattle.reach.specs.RuleFile.{markOf}
-use native.Mathlib.Omega.{arith}
+-- `records::mark_of` meets its contract: the marks are tried in the definition's order.
+-- Rests on `is_mark`.
 use borrow.Author.Needs.{needs}
+use Rattle.reach.specs.RuleFile.{markOf}
 use Rattle.records.proofs.mark_of.Statement.{statement}
 use Rattle.records.proofs.mark_of.Tie as tie
 
@@ -14,11 +15,27 @@ returns-2 c = rw (← c .before .before .before .before .is-mark .ensures, c .be
 
 returns-3 : tie.Need-returns-3
 unfolding markOf
-returns-3 c = rw (← c .before .before .before .before .before .before .before .is-mark .ensures, c .before .before .before .before .before .before .if1 .left, ← c .before .before .before .before .is-mark2 .ensures, c .before .before .before .if2 .left, ← c .before .is-mark3 .ensures, c .if3 .taken)
+returns-3 c =
+    rw (
+      ← c .before .before .before .before .before .before .before .is-mark .ensures,
+      c .before .before .before .before .before .before .if1 .left,
+      ← c .before .before .before .before .is-mark2 .ensures,
+      c .before .before .before .if2 .left,
+      ← c .before .is-mark3 .ensures,
+      c .if3 .taken,
+    )
 
 returns-4 : tie.Need-returns-4
 unfolding markOf
-returns-4 c = rw (← c .before .before .before .before .before .before .before .is-mark .ensures, c .before .before .before .before .before .before .if1 .left, ← c .before .before .before .before .is-mark2 .ensures, c .before .before .before .if2 .left, ← c .before .is-mark3 .ensures, c .if3 .left)
+returns-4 c =
+    rw (
+      ← c .before .before .before .before .before .before .before .is-mark .ensures,
+      c .before .before .before .before .before .before .if1 .left,
+      ← c .before .before .before .before .is-mark2 .ensures,
+      c .before .before .before .if2 .left,
+      ← c .before .is-mark3 .ensures,
+      c .if3 .left,
+    )
 
 pub mark-of-spec : {M : Type 1} → statement M
 mark-of-spec =

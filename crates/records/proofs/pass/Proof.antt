@@ -1,7 +1,9 @@
-use denote.Ref.{now}
-use Rattle.records.proofs.Passing.{passed-there, passed-none}
+-- `records::pass` meets its contract: the two tests of the code, which cannot wrap, are the one of `passed`.
+-- Rests on Passing.
 use native.Mathlib.Omega.{arith}
+use denote.Ref.{now}
 use borrow.Author.Needs.{needs}
+use Rattle.records.proofs.Passing.{passed-there, passed-none}
 use Rattle.records.proofs.pass.Statement.{statement}
 use Rattle.records.proofs.pass.Tie as tie
 

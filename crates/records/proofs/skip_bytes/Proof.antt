@@ -1,7 +1,9 @@
+-- `records::skip_bytes` meets its contract: no byte is read, or as many are passed over as are read one by one.
+-- Rests on Passing.
 use mathlib.Core.Path.{sym, _∙_}
-use Rattle.records.proofs.Passing.{times-done, bytes-passed}
 use native.Mathlib.Omega.{arith}
 use borrow.Author.Needs.{needs}
+use Rattle.records.proofs.Passing.{times-done, bytes-passed}
 use Rattle.records.proofs.skip_bytes.Statement.{statement}
 use Rattle.records.proofs.skip_bytes.Tie as tie
 

@@ -1,9 +1,11 @@
+-- `records::skip_constructor` meets its contract: the code goes through `constructorRecord` in its order.
+-- Rests on Answers and Counts.
+use native.Mathlib.Omega.{arith}
+use borrow.Author.Needs.{needs}
 use Rattle.reach.specs.Limits.{fieldLimit}
 use Rattle.reach.specs.RuleFile.{constructorRecord}
 use Rattle.records.proofs.Answers.{byte-got, byte-short}
 use Rattle.records.proofs.Counts.{counted-got, counted-short, counted-over}
-use native.Mathlib.Omega.{arith}
-use borrow.Author.Needs.{needs}
 use Rattle.records.proofs.skip_constructor.Statement.{statement}
 use Rattle.records.proofs.skip_constructor.Tie as tie
 
@@ -13,11 +15,18 @@ returns c = rw (counted-short 0 fieldLimit _ _ (byte-short _ _ (c .before .befor
 
 returns-2 : tie.Need-returns-2
 unfolding constructorRecord
-returns-2 c = rw (counted-over 0 fieldLimit _ _ (byte-got _ _ (c .before .before .before .before .before .take-byte .ensures) (c .before .before .before .n .given .1)) (omega arith) (omega arith))
+returns-2 c =
+    rw
+    (counted-over 0 fieldLimit _ _ (byte-got _ _ (c .before .before .before .before .before .take-byte .ensures) (c .before .before .before .n .given .1)) (omega arith) (omega arith))
 
 returns-3 : tie.Need-returns-3
 unfolding constructorRecord
-returns-3 c = rw (counted-got 0 fieldLimit _ _ (byte-got _ _ (c .before .before .before .before .before .before .before .take-byte .ensures) (c .before .before .before .before .before .n .given .1)) (omega arith) (omega arith), c .skip-bytes .ensures, c .before .wide2 .ensures)
+returns-3 c =
+    rw (
+      counted-got 0 fieldLimit _ _ (byte-got _ _ (c .before .before .before .before .before .before .before .take-byte .ensures) (c .before .before .before .before .before .n .given .1)) (omega arith) (omega arith),
+      c .skip-bytes .ensures,
+      c .before .wide2 .ensures,
+    )
 
 pub skip-constructor-spec : {M : Type 1} → statement M
 skip-constructor-spec =

@@ -1,10 +1,11 @@
+-- `records::skip_constructors` meets its contract. The loop's invariant: the constructors that are left, read from the place reached, come to what
+-- all of them come to. The measure is how many are left. Rests on Passing.
 use mathlib.Core.Path.{_≡_, refl, sym, _∙_}
+use borrow.Author.Needs.{needs}
 use Rattle.reach.specs.Reader.{times}
 use Rattle.reach.specs.RuleFile.{constructorRecord}
 use Rattle.records.specs.Steps.{stepOf}
 use Rattle.records.proofs.Passing.{times-done, times-next, times-stops}
-use native.Mathlib.Omega.{arith}
-use borrow.Author.Needs.{needs}
 use Rattle.records.proofs.skip_constructors.Statement.{statement}
 use Rattle.records.proofs.skip_constructors.Tie as tie
 
@@ -18,10 +19,16 @@ loop-holds : tie.Need-loop-holds Inv-loop μ-loop
 loop-holds c = refl
 
 returns : tie.Need-returns Inv-loop μ-loop
-returns c = c .enum-told .given .1 ∙ sym (times-stops constructorRecord _ _ _ (c .before .before .before .loop-test .taken) (sym (c .before .before .skip-constructor .ensures) ∙ c .enum-told .given .1)) ∙ c .before .before .before .before .loop .inv
+returns c =
+    let refusal = c .enum-told .given .1 in
+    refusal
+    ∙ sym (times-stops constructorRecord _ _ _ (c .before .before .before .loop-test .taken) (sym (c .before .before .skip-constructor .ensures) ∙ refusal))
+    ∙ c .before .before .before .before .loop .inv
 
 loop-again : tie.Need-loop-again Inv-loop μ-loop
-loop-again c = sym (times-next constructorRecord _ _ _ (c .before .before .before .before .loop-test .taken) (sym (c .before .before .before .skip-constructor .ensures) ∙ c .before .step .given .1)) ∙ c .before .before .before .before .before .loop .inv
+loop-again c =
+    sym (times-next constructorRecord _ _ _ (c .before .before .before .before .loop-test .taken) (sym (c .before .before .before .skip-constructor .ensures) ∙ c .before .step .given .1))
+    ∙ c .before .before .before .before .before .loop .inv
 
 returns-2 : tie.Need-returns-2 Inv-loop μ-loop
 returns-2 c = sym (times-done constructorRecord _ _ _ (c .loop-test .left)) ∙ c .before .loop .inv

@@ -1,9 +1,10 @@
+-- `records::skip_goal` meets its contract: the code goes through `goalRecord` in its order, and its end is `limitsPart`.
+-- Rests on Answers and Tails.
 use mathlib.Core.Path.{sym, _∙_}
+use borrow.Author.Needs.{needs}
 use Rattle.reach.specs.RuleFile.{goalRecord}
 use Rattle.records.proofs.Answers.{byte-got, byte-short}
 use Rattle.records.proofs.Tails.{goal-tail}
-use native.Mathlib.Omega.{arith}
-use borrow.Author.Needs.{needs}
 use Rattle.records.proofs.skip_goal.Statement.{statement}
 use Rattle.records.proofs.skip_goal.Tie as tie
 
@@ -13,10 +14,19 @@ returns c = rw (byte-short _ _ (c .before .before .take-byte .ensures) (c .enum-
 
 returns-2 : tie.Need-returns-2
 unfolding goalRecord
-returns-2 c = rw (byte-got _ _ (c .before .before .before .before .before .before .take-byte .ensures) (c .before .before .before .before .label .given .1), byte-short _ _ (c .before .before .take-byte2 .ensures) (c .enum-told2 .given .1))
+returns-2 c =
+    rw (
+      byte-got _ _ (c .before .before .before .before .before .before .take-byte .ensures) (c .before .before .before .before .label .given .1),
+      byte-short _ _ (c .before .before .take-byte2 .ensures) (c .enum-told2 .given .1),
+    )
 
 returns-3 : tie.Need-returns-3
-returns-3 c = c .skip-limits .ensures ∙ sym (goal-tail _ _ (byte-got _ _ (c .before .before .before .before .before .before .before .before .take-byte .ensures) (c .before .before .before .before .before .before .label .given .1)) (byte-got _ _ (c .before .before .before .before .take-byte2 .ensures) (c .before .before .limits .given .1)))
+returns-3 c =
+    c .skip-limits .ensures
+    ∙ sym
+    (goal-tail _ _
+    (byte-got _ _ (c .before .before .before .before .before .before .before .before .take-byte .ensures) (c .before .before .before .before .before .before .label .given .1))
+    (byte-got _ _ (c .before .before .before .before .take-byte2 .ensures) (c .before .before .limits .given .1)))
 
 pub skip-goal-spec : {M : Type 1} → statement M
 skip-goal-spec =

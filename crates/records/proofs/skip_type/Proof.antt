@@ -1,9 +1,11 @@
+-- `records::skip_type` meets its contract: the code goes through `typeRecord` in its order.
+-- Rests on Answers and Counts.
+use native.Mathlib.Omega.{arith}
+use borrow.Author.Needs.{needs}
 use Rattle.reach.specs.Limits.{constructorLimit}
 use Rattle.reach.specs.RuleFile.{typeRecord}
 use Rattle.records.proofs.Answers.{byte-got, byte-short}
 use Rattle.records.proofs.Counts.{counted-got, counted-short, counted-under, counted-over}
-use native.Mathlib.Omega.{arith}
-use borrow.Author.Needs.{needs}
 use Rattle.records.proofs.skip_type.Statement.{statement}
 use Rattle.records.proofs.skip_type.Tie as tie
 
@@ -13,15 +15,24 @@ returns c = rw (counted-short 1 constructorLimit _ _ (byte-short _ _ (c .before 
 
 returns-2 : tie.Need-returns-2
 unfolding typeRecord
-returns-2 c = rw (counted-under 1 constructorLimit _ _ (byte-got _ _ (c .before .before .before .before .before .take-byte .ensures) (c .before .before .before .n .given .1)) (omega arith))
+returns-2 c =
+    rw
+    (counted-under 1 constructorLimit _ _ (byte-got _ _ (c .before .before .before .before .before .take-byte .ensures) (c .before .before .before .n .given .1)) (omega arith))
 
 returns-3 : tie.Need-returns-3
 unfolding typeRecord
-returns-3 c = rw (counted-over 1 constructorLimit _ _ (byte-got _ _ (c .before .before .before .before .before .before .before .take-byte .ensures) (c .before .before .before .before .before .n .given .1)) (omega arith) (omega arith))
+returns-3 c =
+    rw
+    (counted-over 1 constructorLimit _ _ (byte-got _ _ (c .before .before .before .before .before .before .before .take-byte .ensures) (c .before .before .before .before .before .n .given .1)) (omega arith) (omega arith))
 
 returns-4 : tie.Need-returns-4
 unfolding typeRecord
-returns-4 c = rw (counted-got 1 constructorLimit _ _ (byte-got _ _ (c .before .before .before .before .before .before .before .before .before .take-byte .ensures) (c .before .before .before .before .before .before .before .n .given .1)) (omega arith) (omega arith), c .skip-constructors .ensures, c .before .wide3 .ensures)
+returns-4 c =
+    rw (
+      counted-got 1 constructorLimit _ _ (byte-got _ _ (c .before .before .before .before .before .before .before .before .before .take-byte .ensures) (c .before .before .before .before .before .before .before .n .given .1)) (omega arith) (omega arith),
+      c .skip-constructors .ensures,
+      c .before .wide3 .ensures,
+    )
 
 pub skip-type-spec : {M : Type 1} → statement M
 skip-type-spec =

@@ -1,7 +1,8 @@
+-- `records::take_mark` meets its contract: the code goes through `mark` in its order.
+-- Rests on Answers.
+use borrow.Author.Needs.{needs}
 use Rattle.reach.specs.RuleFile.{mark}
 use Rattle.records.proofs.Answers.{byte-got, byte-short}
-use native.Mathlib.Omega.{arith}
-use borrow.Author.Needs.{needs}
 use Rattle.records.proofs.take_mark.Statement.{statement}
 use Rattle.records.proofs.take_mark.Tie as tie
 
@@ -11,11 +12,20 @@ returns c = rw (byte-short _ _ (c .before .before .take-byte .ensures) (c .enum-
 
 returns-2 : tie.Need-returns-2
 unfolding mark
-returns-2 c = rw (byte-got _ _ (c .before .before .before .before .before .before .take-byte .ensures) (c .before .before .before .before .a .given .1), byte-short _ _ (c .before .before .take-byte2 .ensures) (c .enum-told2 .given .1))
+returns-2 c =
+    rw (
+      byte-got _ _ (c .before .before .before .before .before .before .take-byte .ensures) (c .before .before .before .before .a .given .1),
+      byte-short _ _ (c .before .before .take-byte2 .ensures) (c .enum-told2 .given .1),
+    )
 
 returns-3 : tie.Need-returns-3
 unfolding mark
-returns-3 c = rw (byte-got _ _ (c .before .before .before .before .before .before .before .before .take-byte .ensures) (c .before .before .before .before .before .before .a .given .1), byte-got _ _ (c .before .before .before .before .take-byte2 .ensures) (c .before .before .b .given .1), c .mark-of .ensures)
+returns-3 c =
+    rw (
+      byte-got _ _ (c .before .before .before .before .before .before .before .before .take-byte .ensures) (c .before .before .before .before .before .before .a .given .1),
+      byte-got _ _ (c .before .before .before .before .take-byte2 .ensures) (c .before .before .b .given .1),
+      c .mark-of .ensures,
+    )
 
 pub take-mark-spec : {M : Type 1} → statement M
 take-mark-spec =
