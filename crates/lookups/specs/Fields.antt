@@ -1,0 +1,18 @@
+-- The fields of a constructor, found in a rule file whose records stand at known places.
+-- Rests on reach's Places and on the enum of src/lib.rt.
+use Prim.Native.Nat.{ℕ}
+use mathlib.Core.List.{List, map}
+use mathlib.Core.Option.{Option, none, some}
+use Rattle.reach.specs.Syntax.{fieldTypes}
+use Rattle.reach.specs.Places.{bytesAt, typeAt}
+use Rattle.lookups.specs.declared.Fields.{Fields}
+use Rattle.lookups.specs.declared.Fields.the-variants as Fields
+
+-- the field types that were found
+abbrev pub fieldsOf : List ℕ → Fields → Option (List ℕ)
+fieldsOf s (Fields.At i n) = some (bytesAt s i n)
+fieldsOf s Fields.Unknown = none
+
+-- the field types of constructor c of type t, the types' records standing at these places
+abbrev pub fieldsIn : List ℕ → List ℕ → ℕ → ℕ → Option (List ℕ)
+fieldsIn s types t c = fieldTypes (map (typeAt s) types) t c
