@@ -1,12 +1,11 @@
 // The place behind an expression that was read before, found by its codes and arities alone. Records of types and functions are
-// looked at where the first pass found them. Rests on crates records and bodies.
+// looked at where the first pass found them. Rests on crates records and lookups.
 ghost use mathlib.Core.Path.{_≡_};
-ghost use Prim.Native.Nat.{ℕ, _≤_};
 ghost use Rattle.records.specs.Steps.{stepOf};
-ghost use Rattle.skipping.specs.Skip.{skippedAt, skippedAllAt, skippedAlternativesAt};
-use bodies::Fields;
-use bodies::fields_of;
-use bodies::place_or_zero;
+ghost use Rattle.skipping.specs.Skip.{skippedAt, skippedAllAt, skippedAlternativesAt, callPart, constructPart, casePart, letPart, numberPart, targetPart};
+use lookups::Fields;
+use lookups::fields_of;
+use lookups::place_or_zero;
 use reach::Refusal;
 use records::Step;
 use records::Taken;
@@ -17,12 +16,12 @@ use records::wide;
 // An expression that nests at most so many deep, itself included.
 pub fn skip_expression<'a>(
     file: &'a [u8],
-    type_at: &'a [u16],
-    function_at: &'a [u16],
+    types: &'a [u16],
+    functions: &'a [u16],
     at: usize,
     left: usize,
 ) -> Step
-    ensures { λ r. ⌜ r ≡ stepOf (skippedAt (now (file .entry)) (now (type_at .entry)) (now (function_at .entry)) left (now (file .entry)) at) ⌝ }
+    ensures { λ r. ⌜ r ≡ stepOf (skippedAt (now (file .entry)) (now (types .entry)) (now (functions .entry)) left (now (file .entry)) at) ⌝ }
 {
     if left == 0 {
         return Step::Refused(Refusal::OutOfRange);
@@ -32,10 +31,205 @@ pub fn skip_expression<'a>(
     };
     match code {
         0 => skip_number(file, next),
-        1 => skip_call(file, type_at, function_at, next, left - 1),
-        2 => skip_construct(file, type_at, function_at, next, left - 1),
-        3 => skip_case(file, type_at, function_at, next, left - 1),
-        4 => skip_let(file, type_at, function_at, next, left - 1),
-        _ => skip_target(file, type_at, function_at, next, left - 1),
+        1 => skip_call(file, types, functions, next, left - 1),
+        2 => skip_construct(file, types, functions, next, left - 1),
+        3 => skip_case(file, types, functions, next, left - 1),
+        4 => skip_let(file, types, functions, next, left - 1),
+        _ => skip_target(file, types, functions, next, left - 1),
     }
+}
+
+// One number.
+pub fn skip_number(file: &[u8], at: usize) -> Step
+    ensures { λ r. ⌜ r ≡ stepOf (numberPart (now (file .entry)) at) ⌝ }
+{
+    let Taken::Byte(_, next) = take_byte(file, at) else {
+        return Step::Refused(Refusal::Truncated);
+    };
+    Step::Next(next)
+}
+
+// A function's number and its arguments, each of which nests at most so many deep.
+pub fn skip_call<'a>(
+    file: &'a [u8],
+    types: &'a [u16],
+    functions: &'a [u16],
+    at: usize,
+    left: usize,
+) -> Step
+    ensures { λ r. ⌜ r ≡ stepOf (callPart (now (file .entry)) (now (types .entry)) (now (functions .entry)) left (now (file .entry)) at) ⌝ }
+{
+    let Taken::Byte(number, next) = take_byte(file, at) else {
+        return Step::Refused(Refusal::Truncated);
+    };
+    let f = wide(number);
+    if functions.len() <= f {
+        return Step::Refused(Refusal::UnknownNumber);
+    }
+    let place = place_or_zero(functions, f);
+    skip_all(
+        file,
+        types,
+        functions,
+        next,
+        left,
+        byte_or_zero(file, place),
+    )
+}
+
+// A type, a constructor and its fields.
+pub fn skip_construct<'a>(
+    file: &'a [u8],
+    types: &'a [u16],
+    functions: &'a [u16],
+    at: usize,
+    left: usize,
+) -> Step
+    ensures { λ r. ⌜ r ≡ stepOf (constructPart (now (file .entry)) (now (types .entry)) (now (functions .entry)) left (now (file .entry)) at) ⌝ }
+{
+    let Taken::Byte(t, middle) = take_byte(file, at) else {
+        return Step::Refused(Refusal::Truncated);
+    };
+    let Taken::Byte(c, next) = take_byte(file, middle) else {
+        return Step::Refused(Refusal::Truncated);
+    };
+    let Fields::At(_, n) = fields_of(file, types, wide(t), wide(c)) else {
+        return Step::Refused(Refusal::UnknownNumber);
+    };
+    skip_all(file, types, functions, next, left, n)
+}
+
+// A type, the scrutinee and the alternatives.
+pub fn skip_case<'a>(
+    file: &'a [u8],
+    types: &'a [u16],
+    functions: &'a [u16],
+    at: usize,
+    left: usize,
+) -> Step
+    ensures { λ r. ⌜ r ≡ stepOf (casePart (now (file .entry)) (now (types .entry)) (now (functions .entry)) left (now (file .entry)) at) ⌝ }
+{
+    let Taken::Byte(number, next) = take_byte(file, at) else {
+        return Step::Refused(Refusal::Truncated);
+    };
+    let t = wide(number);
+    if types.len() <= t {
+        return Step::Refused(Refusal::UnknownNumber);
+    }
+    let step = skip_expression(file, types, functions, next, left);
+    let Step::Next(first) = step else {
+        return step;
+    };
+    let place = place_or_zero(types, t);
+    skip_alternatives(
+        file,
+        types,
+        functions,
+        first,
+        left,
+        byte_or_zero(file, place),
+    )
+}
+
+// A type, the bound expression and the body.
+pub fn skip_let<'a>(
+    file: &'a [u8],
+    types: &'a [u16],
+    functions: &'a [u16],
+    at: usize,
+    left: usize,
+) -> Step
+    ensures { λ r. ⌜ r ≡ stepOf (letPart (now (file .entry)) (now (types .entry)) (now (functions .entry)) left (now (file .entry)) at) ⌝ }
+{
+    let Taken::Byte(_, next) = take_byte(file, at) else {
+        return Step::Refused(Refusal::Truncated);
+    };
+    let step = skip_expression(file, types, functions, next, left);
+    let Step::Next(body) = step else {
+        return step;
+    };
+    skip_expression(file, types, functions, body, left)
+}
+
+// A label and the expression inside the target.
+pub fn skip_target<'a>(
+    file: &'a [u8],
+    types: &'a [u16],
+    functions: &'a [u16],
+    at: usize,
+    left: usize,
+) -> Step
+    ensures { λ r. ⌜ r ≡ stepOf (targetPart (now (file .entry)) (now (types .entry)) (now (functions .entry)) left (now (file .entry)) at) ⌝ }
+{
+    let Taken::Byte(_, next) = take_byte(file, at) else {
+        return Step::Refused(Refusal::Truncated);
+    };
+    skip_expression(file, types, functions, next, left)
+}
+
+// n expressions, one after the other.
+pub fn skip_all<'a>(
+    file: &'a [u8],
+    types: &'a [u16],
+    functions: &'a [u16],
+    at: usize,
+    left: usize,
+    n: usize,
+) -> Step
+    ensures { λ r. ⌜ r ≡ stepOf (skippedAllAt (now (file .entry)) (now (types .entry)) (now (functions .entry)) left n (now (file .entry)) at) ⌝ }
+{
+    let mut place = at;
+    let mut more = n;
+    while 0 < more {
+        let step = skip_expression(file, types, functions, place, left);
+        let Step::Next(next) = step else {
+            return step;
+        };
+        place = next;
+        more -= 1;
+    }
+    Step::Next(place)
+}
+
+// The alternatives of n constructors.
+pub fn skip_alternatives<'a>(
+    file: &'a [u8],
+    types: &'a [u16],
+    functions: &'a [u16],
+    at: usize,
+    left: usize,
+    n: usize,
+) -> Step
+    ensures { λ r. ⌜ r ≡ stepOf (skippedAlternativesAt (now (file .entry)) (now (types .entry)) (now (functions .entry)) left n (now (file .entry)) at) ⌝ }
+{
+    let mut place = at;
+    let mut more = n;
+    while 0 < more {
+        let step = skip_alternative(file, types, functions, place, left);
+        let Step::Next(next) = step else {
+            return step;
+        };
+        place = next;
+        more -= 1;
+    }
+    Step::Next(place)
+}
+
+// A byte: 0 for no alternative, or another and an expression.
+pub fn skip_alternative<'a>(
+    file: &'a [u8],
+    types: &'a [u16],
+    functions: &'a [u16],
+    at: usize,
+    left: usize,
+) -> Step
+    ensures { λ r. ⌜ r ≡ stepOf (Rattle.skipping.specs.Skip.alternativePart (now (file .entry)) (now (types .entry)) (now (functions .entry)) left (now (file .entry)) at) ⌝ }
+{
+    let Taken::Byte(b, next) = take_byte(file, at) else {
+        return Step::Refused(Refusal::Truncated);
+    };
+    if b == 0 {
+        return Step::Next(next);
+    }
+    skip_expression(file, types, functions, next, left)
 }
