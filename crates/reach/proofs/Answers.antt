@@ -15,6 +15,7 @@ use Rattle.reach.specs.Syntax.{Program}
 use Rattle.reach.specs.Search.{Entry, entries}
 use Rattle.reach.specs.Lists.{listBytes, Cut, cut, roomOf}
 use Rattle.reach.specs.Answers.{Checked, accepted, turnedBack, check, SearchAnswer, noSearch, complete, cutShort, cutAnswer, searchChecked, searchAnswer, listed}
+use Rattle.reach.proofs.Base.{picked}
 use Rattle.reach.proofs.Lists.{LongestRun, cut-whole, cut-short}
 
 -- Of an accepted file: 11 where the work slice is too short; else a complete list, which is the search's and fits the room, or with 12 the
@@ -31,14 +32,13 @@ cut-means p work list w false f =
     let whole = cut-whole (roomOf list) (entries p) f in
     (w, whole .0, subst (λ (es : List Entry). length (listBytes es) ≤ roomOf list) (sym (whole .0)) (whole .1))
 
-work-means : (p : Program) (work list : ℕ) (t : Bool) → leb (workWords (p .steps)) work ≡ t
-    → Means p work list (pick t (cutAnswer ((cut (roomOf list) (entries p)) .full) ((cut (roomOf list) (entries p)) .kept)) (noSearch WorkTooShort))
-work-means p work list true h = cut-means p work list (leb-true (workWords (p .steps)) work h) ((cut (roomOf list) (entries p)) .full) refl
-work-means p work list false h = (refl, leb-false (workWords (p .steps)) work h)
-
 pub search-means : (file : List ℕ) (work list : ℕ) (p : Program) → check file ≡ accepted p → Means p work list (searchAnswer file work list)
 unfolding searchAnswer searchChecked
-search-means file work list p h = rw h (work-means p work list (leb (workWords (p .steps)) work) refl)
+search-means file work list p h =
+    rw h
+    (picked (Means p work list) (leb (workWords (p .steps)) work)
+    (λ enough. cut-means p work list (leb-true _ _ enough) ((cut (roomOf list) (entries p)) .full) refl)
+    (λ short. (refl, leb-false _ _ short)))
 
 -- a file that is turned back gets its number, whatever the slices
 pub search-turned-back : (file : List ℕ) (work list : ℕ) (why : Refusal) → check file ≡ turnedBack why → searchAnswer file work list ≡ noSearch why

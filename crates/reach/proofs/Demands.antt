@@ -28,13 +28,14 @@ use Rattle.reach.specs.Answers.{Checked, accepted, turnedBack, check, Se
 use Rattle.reach.proofs.Order.{open-width, open-unbound, open-least}
 use Rattle.reach.proofs.Completing.{below-completes, completes-below}
 use Rattle.reach.proofs.LeastDepths as LeastDepths
-use Rattle.reach.proofs.Depths.{Fit, open-fit, bind-fit, fit-width, fit-typed, fit-depth, typed-fit, typed-width, fits-depth, depth-fits, completion}
+use Rattle.reach.proofs.Depths.{Fit, open-fit, bind-fit, fit-typed, fit-depth, typed-fit, typed-width, fits-depth, completion}
 use Rattle.reach.proofs.Evaluation.{StateIn, NotHalted, start-in, waits-free, Spent, steps-spent, closed-ends}
-use Rattle.reach.proofs.Entries.{Finds, at-target, at-limit, at-limit-waiting, by-step, by-fork, finds, entry-holds, Reopens, entry-reopens}
-use Rattle.reach.proofs.Cover.{covers, Apart, apart, apart-numbers, nth-member}
+use Rattle.reach.proofs.Entries.{Finds, at-target, at-limit, at-limit-waiting, by-step, by-fork, finds, entry-found, entry-holds, Reopens, entry-reopens}
+use Rattle.reach.proofs.Cover.{covers, apart, apart-numbers}
+use Rattle.reach.proofs.Base.{nth-member}
 use Rattle.reach.proofs.Moves as Moves
 use Rattle.reach.proofs.Limits.{Kept, accepted-keeps}
-use Rattle.reach.proofs.EntryLength as EntryLength
+use Rattle.reach.proofs.EntryLength.{entry-within}
 use Rattle.reach.proofs.Lists.{LongestRun, none-empty}
 use Rattle.reach.proofs.Answers.{Means, search-means, search-turned-back, listed-in, complete-is}
 
@@ -57,16 +58,12 @@ entry-fits p (by-fork {i = i} {s = s} q g w m d) f = entry-fits p d (bind-fit (p
 
 -- An entry of a search has the source's types, so that to complete it is to bind at least what it binds.
 module _ (p : Program) where
-  entry-found : (e : Entry) → e ∈ entries p → Finds p (leastDepths (p .types)) (p .steps) 0 (openInput p) (start p) e
-  unfolding entries
-  entry-found e m = finds p (leastDepths (p .types)) (p .steps) 0 (openInput p) (start p) e m
-
   start-there : StateIn (openInput p) (start p)
   start-there = start-in p (openInput p) (start-width p)
 
   entry-typed : (file : List ℕ) → check file ≡ accepted p → (e : Entry) → e ∈ entries p → Typed (p .types) (sourceTypes p) (e .input)
   unfolding sourceSlots
-  entry-typed file h e m = fit-typed (p .types) (sourceTypes p) (p .depth) (e .input) (entry-fits p (entry-found e m) (start-fit file p h))
+  entry-typed file h e m = fit-typed (p .types) (sourceTypes p) (p .depth) (e .input) (entry-fits p (entry-found p e m) (start-fit file p h))
 
   completing : (file : List ℕ) → check file ≡ accepted p → (e : Entry) → e ∈ entries p → (j : Parts) → ClosedInput p j → Completes j (e .input) → e .input ⊑ j
   completing file h e m j c k = completes-below (p .types) (sourceTypes p) (e .input) j (entry-typed file h e m) (c .1) (c .0) k
@@ -74,12 +71,12 @@ module _ (p : Program) where
 -- a closed input within the depth, as the search's invariant has it, and back
 within-fit : (p : Program) (j : Parts) → WithinDepth p j → Fit (p .types) (sourceSlots p) j
 unfolding sourceSlots
-within-fit p j w = typed-fit (p .types) (sourceTypes p) (p .depth) j (w .0 .0) (w .0 .1) (fits-depth (p .types) (sourceTypes p) (p .depth) j (w .0 .0) (w .0 .1) (w .1))
+within-fit p j w = typed-fit (p .types) (sourceTypes p) (p .depth) j (w .0 .0) (w .0 .1) (fits-depth (p .types) (sourceTypes p) (p .depth) j (w .0 .1) .0 (w .1))
 
 fit-within : (p : Program) (j : Parts) → Closed j → Fit (p .types) (sourceSlots p) j → WithinDepth p j
 unfolding sourceSlots
 fit-within p j z f =
-    ((z, fit-typed (p .types) (sourceTypes p) (p .depth) j f), depth-fits (p .types) (sourceTypes p) (p .depth) j (fit-depth (p .types) (sourceTypes p) (p .depth) j f))
+    ((z, fit-typed (p .types) (sourceTypes p) (p .depth) j f), fits-depth (p .types) (sourceTypes p) (p .depth) j (fit-typed (p .types) (sourceTypes p) (p .depth) j f) .1 (fit-depth (p .types) (sourceTypes p) (p .depth) j f))
 
 -- the input with every parameter open is below every closed input
 open-below : (p : Program) (j : Parts) → ClosedInput p j → openInput p ⊑ j
@@ -119,7 +116,7 @@ inputs-apart file work list p h es c a b x y g k ne j z cx cy =
     let same = complete-is file work list p h es c in
     let mx : x ∈ entries p = subst (λ (l : List Entry). x ∈ l) same (nth-member es a x g) in
     let my : y ∈ entries p = subst (λ (l : List Entry). y ∈ l) same (nth-member es b y k) in
-    apart-numbers es (rw same (apart p (p .steps) 0 (openInput p) (start p))) a b x y g k ne j (completing p file h x mx j z cx) (completing p file h y my j z cy)
+    apart-numbers es (rw same (apart p (leastDepths (p .types)) (p .steps) 0 (openInput p) (start p))) a b x y g k ne j (completing p file h x mx j z cx) (completing p file h y my j z cy)
 
 -- Demand 3: "Open any one bound part of any entry again, and the evaluation halts on that very part." Of a list cut short too.
 pub reopened-halts : (file : List ℕ) (work list : ℕ) (p : Program) → check file ≡ accepted p
@@ -202,7 +199,7 @@ move-falls p w k h = Moves.move-falls p (leastDepths (p .types)) w k h
 
 -- 01, "The list": "two-byte length in bytes of what follows": the parameters' bytes of an entry fit it, and its steps fit theirs.
 pub entry-length : (file : List ℕ) (p : Program) → check file ≡ accepted p → (e : Entry) → e ∈ entries p → (length (prefix (e .input)) < 65536) × (e .steps ≤ p .steps)
-entry-length file p h e m = (EntryLength.entry-length file p h e m, EntryLength.entry-steps file p h e m)
+entry-length file p h e m = entry-within file p h e m
 
 -- 01: "The least depth of each type is that of its shallowest closed value." The table has it; 0 stands for a type without a closed value; and 32 rounds are enough.
 pub least-depth-values : (types : Types) (t : ℕ)

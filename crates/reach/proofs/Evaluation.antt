@@ -13,6 +13,7 @@ use Rattle.reach.specs.Base.{pick}
 use Rattle.reach.specs.Syntax.{Expr, variable, call, construct, case, bind, target, Exprs, Alternatives, no-more, absent, present, nthExpr, Function, Program, functionAt, sourceTypes, parametersOf}
 use Rattle.reach.specs.Parts.{Parts, width, Place, Seen, gone, free, has, at, Closed, _⊑_}
 use Rattle.reach.specs.Eval.{Row, parameters, fieldsOf, partOf, Env, empty, operands, inputParts, size, Closure, suspended, inputPart, suspend, lookup, Frame, waiting, State, evaluating, inspecting, missing, stuck, resume, choose, enter, Question, answered, Stop, Next, demands, stops, goes, waits, view, look, answer, next, Run, reached, ended, unfinished, halted, conclude, eval, startOf, start, run}
+use Rattle.reach.proofs.Base.{picked}
 use Rattle.reach.proofs.Order.{There, ⊑-has, ⊑-there, part-there, field-there, free-unbound, closed-has, ⊑-refl}
 
 -- Every place that a state speaks of is there in the input.
@@ -56,24 +57,19 @@ pub frames-more : {e j : Parts} → e ⊑ j → (fs : List Frame) → FramesIn e
 frames-more a [] h = tt
 frames-more a (waiting alts env ∷ fs) h = (env-more a env (h .0), frames-more a fs (h .1))
 
-picked : {A : Type 0} (P : A → Type 0) (t : Bool) {a b : A} → P a → P b → P (pick t a b)
-picked P true x y = x
-picked P false x y = y
-
 -- a variable stands for something that is there
 lookup-in : (e : Parts) (env : Env) (n : ℕ) → EnvIn e env → ClosureIn e (lookup env n)
 unfolding lookup suspend
 lookup-in e empty n h = tt
-lookup-in e (operands outer es inner) n h = picked (ClosureIn e) (ltb n (size outer)) (lookup-in e outer n (h .0)) (of-expr (nthExpr es (n - size outer)))
+lookup-in e (operands outer es inner) n h =
+    picked (ClosureIn e) (ltb n (size outer)) (λ further-out. lookup-in e outer n (h .0)) (λ ours. of-expr (nthExpr es (n - size outer)))
   where
     of-expr : (x : Option Expr) → ClosureIn e (suspend x inner)
     of-expr none = tt
     of-expr (some x) = h .1
-lookup-in e (inputParts outer row k) n h = picked (ClosureIn e) (ltb n (size outer)) (lookup-in e outer n (h .0)) (in-row (ltb (n - size outer) k) refl)
-  where
-    in-row : (t : Bool) → ltb (n - size outer) k ≡ t → ClosureIn e (pick t (some (inputPart (partOf row (n - size outer)))) none)
-    in-row true l = h .1 (n - size outer) (ltb-true (n - size outer) k l)
-    in-row false l = tt
+lookup-in e (inputParts outer row k) n h =
+    picked (ClosureIn e) (ltb n (size outer)) (λ further-out. lookup-in e outer n (h .0))
+    (λ ours. picked (ClosureIn e) (ltb (n - size outer) k) (λ l. h .1 (n - size outer) (ltb-true (n - size outer) k l)) (λ beyond. tt))
 
 resume-in : (e : Parts) (c : Option Closure) (fs : List Frame) → ClosureIn e c → FramesIn e fs → StateIn e (resume c fs)
 unfolding resume
@@ -102,7 +98,7 @@ view-in p e (evaluating (construct t c es) env []) h = tt
 view-in p e (evaluating (construct t c es) env (waiting alts outer ∷ fs)) h = choose-in e alts c (operands outer es env) fs (h .1 .0, h .0) (h .1 .1)
 view-in p e (evaluating (case t x alts) env fs) h = (h .0, (h .0, h .1))
 view-in p e (evaluating (bind t x body) env fs) h = ((h .0, h .0), h .1)
-view-in p e (evaluating (target l x) env fs) h = picked (NextIn e) (eqb l (p .label)) tt h
+view-in p e (evaluating (target l x) env fs) h = picked (NextIn e) (eqb l (p .label)) (λ sought. tt) (λ other. h)
 view-in p e (inspecting q []) h = tt
 view-in p e (inspecting q (waiting alts env ∷ fs)) h = (h .0, h .1 .0, h .1 .1)
 view-in p e missing h = tt
@@ -127,9 +123,9 @@ answer-in e (waits q) h = seen (at e (q .place)) refl
     seen (has c k) g = answered-in e q c k g h
 
 -- so a step leads from places that are there to places that are there
-pub next-in : (p : Program) (e : Parts) (s : State) → StateIn e s → NextIn e (next p e s)
+pub next-in : (p : Program) (e : Parts) (s : State) → StateIn e s → (N : Next) → next p e s ≡ N → NextIn e N
 unfolding next
-next-in p e s h = answer-in e (view p s) (view-in p e s h)
+next-in p e s h N w = subst (NextIn e) w (answer-in e (view p s) (view-in p e s h))
 
 -- the parameters are there in every input of as many parts
 pub start-in : (p : Program) (e : Parts) → width e ≡ length (sourceTypes p) → StateIn e (start p)
@@ -264,7 +260,7 @@ module _ (p : Program) {e j : Parts} (a : e ⊑ j) (q : Place) (m : ℕ) (f : at
   pub halt-more : (left n : ℕ) (s : State) → StateIn e s → eval p e left n s ≡ halted q m → eval p j left n s ≡ halted q m
   unfolding HaltMore
   halt-more zero n s h g = not-halted (unhalted p e n s (next p e s) refl) g
-  halt-more (suc left) n s h g = step-more left n s h (λ s′ i g′. halt-more left (suc n) s′ i g′) (next p e s) refl (next-in p e s h) g
+  halt-more (suc left) n s h g = step-more left n s h (λ s′ i g′. halt-more left (suc n) s′ i g′) (next p e s) refl (next-in p e s h (next p e s) refl) g
 
 -- Steps spent: at most S; an unfinished run has spent them all, one that halts fewer.
 abbrev pub Spent : ℕ → Run → Type 0

@@ -1,3 +1,4 @@
+pub mod Base
 pub mod Order
 pub mod Completing
 pub mod LeastDepths

@@ -15,10 +15,7 @@ use Rattle.reach.specs.declared.Verdict.the-variants.{Found, Undecided, 
 use Rattle.reach.specs.Base.{_∈_, pick}
 use Rattle.reach.specs.Search.{Kind, RE, UN, Entry, withEntry, verdict}
 use Rattle.reach.specs.Lists.{entryBytes, listBytes, Cut, keep, cut}
-
--- two constructors that would be equal make 0 equal to 1
-clash : _≡_ {A = ℕ} 0 1 → ⊥
-clash e = omega arith
+use Rattle.reach.proofs.Base.{clash, picked}
 
 -- the bytes that an entry fills, and those that a list fills
 abbrev size : Entry → ℕ
@@ -47,11 +44,7 @@ at-none P room h = h
 -- and a first entry is kept where it fits the room, and ends the list where it does not
 at-first : (P : Cut → Type 0) (room : ℕ) (e : Entry) (es : List Entry) → (size e ≤ room → P (keep e (cut (room - size e) es))) → (room < size e → P stopped) → P (cut room (e ∷ es))
 unfolding cut
-at-first P room e es fits over = go (leb (size e) room) refl
-  where
-    go : (b : Bool) → leb (size e) room ≡ b → P (pick b (keep e (cut (room - size e) es)) stopped)
-    go true t = fits (leb-true _ _ t)
-    go false t = over (leb-false _ _ t)
+at-first P room e es fits over = picked P (leb (size e) room) (λ t. fits (leb-true _ _ t)) (λ t. over (leb-false _ _ t))
 
 -- every entry that is kept was in the list
 pub kept-member : (room : ℕ) (es : List Entry) (e : Entry) → e ∈ (cut room es) .kept → e ∈ es
