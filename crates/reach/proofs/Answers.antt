@@ -2,19 +2,21 @@
 -- Rests on Lists.
 use Prim.Native.Nat.{ℕ, _≤_, _<_}
 use mathlib.Core.Path.{_≡_, refl, sym, ap, subst}
+use mathlib.Core.Logic.{_↔_}
 use mathlib.Core.Bool.{Bool, true, false}
-use mathlib.Core.List.{List, [], List·Memᴰ·not-nil, Memᴰ·append-left}
+use mathlib.Core.List.{List, List·Memᴰ·not-nil, Memᴰ·append-left}
 use lib.ListN.{length}
+use native.Mathlib.Omega.{arith}
 use lib.Dec.{leb}
 use borrow.Author.Tests.{leb-true, leb-false}
 use Rattle.reach.specs.declared.Refusal.{Refusal}
 use Rattle.reach.specs.declared.Refusal.the-variants.{WorkTooShort}
-use Rattle.reach.specs.Base.{_∈_, pick}
+use Rattle.reach.specs.Base.{_∈_}
 use Rattle.reach.specs.Limits.{workWords}
 use Rattle.reach.specs.Syntax.{Program}
 use Rattle.reach.specs.Search.{Entry, entries}
-use Rattle.reach.specs.Lists.{listBytes, Cut, cut, roomOf}
-use Rattle.reach.specs.Answers.{Checked, accepted, turnedBack, check, SearchAnswer, noSearch, complete, cutShort, cutAnswer, searchChecked, searchAnswer, listed}
+use Rattle.reach.specs.Lists.{listBytes, cut, roomOf}
+use Rattle.reach.specs.Answers.{accepted, turnedBack, check, SearchAnswer, noSearch, complete, cutShort, cutAnswer, searchChecked, searchAnswer, listed}
 use Rattle.reach.proofs.Base.{picked}
 use Rattle.reach.proofs.Lists.{LongestRun, cut-whole, cut-short}
 
@@ -57,3 +59,16 @@ listed-in file work list p h e m = means-in p work list (searchAnswer file work 
 
 pub complete-is : (file : List ℕ) (work list : ℕ) (p : Program) → check file ≡ accepted p → (es : List Entry) → searchAnswer file work list ≡ complete es → es ≡ entries p
 complete-is file work list p h es a = (subst (Means p work list) a (search-means file work list p h)) .1
+
+-- 11 is given exactly where the work slice is too short
+pub work-exactly : (file : List ℕ) (work list : ℕ) (p : Program) → check file ≡ accepted p
+    → (searchAnswer file work list ≡ noSearch WorkTooShort) ↔ (work < workWords (p .steps))
+work-exactly file work list p h = (
+  λ a. (subst (Means p work list) a (search-means file work list p h)) .1,
+  λ short. go short (searchAnswer file work list) (search-means file work list p h),
+)
+  where
+    go : work < workWords (p .steps) → (a : SearchAnswer) → Means p work list a → a ≡ noSearch WorkTooShort
+    go short (noSearch why) m = ap noSearch (m .0)
+    go short (complete es) m = absurd (omega (arith, m .0))
+    go short (cutShort es) m = absurd (omega (arith, m .0))

@@ -283,9 +283,15 @@ spent-step p e left n s ih (goes s′) w =
     rw (eval-step p e left n s s′ w, z) (ih s′)
 spent-step p e left n s ih (waits q) w = rw (eval-wait p e left n s q w) (omega arith)
 
-pub steps-spent : (p : Program) (e : Parts) (left n : ℕ) (s : State) → Spent (left + n) (eval p e left n s)
+steps-spent : (p : Program) (e : Parts) (left n : ℕ) (s : State) → Spent (left + n) (eval p e left n s)
 steps-spent p e zero n s = spent-last p e n s (next p e s) refl
 steps-spent p e (suc left) n s = spent-step p e left n s (λ s′. steps-spent p e left (suc n) s′) (next p e s) refl
+
+pub run-spent : (p : Program) (e : Parts) → Spent (p .steps) (run p e)
+unfolding run
+run-spent p e =
+    let z : p .steps + 0 ≡ p .steps = omega arith in
+    subst (λ (n : ℕ). Spent n (eval p e (p .steps) 0 (start p))) z (steps-spent p e (p .steps) 0 (start p))
 
 -- A closed input never halts: it has no open part.
 closed-settled : (p : Program) (j : Parts) → Closed j → (s : State) (q : Question) → next p j s ≡ waits q → ⊥
@@ -300,6 +306,10 @@ closed-step p j z left n s ih (stops why) w = rw (eval-stops p j (suc left) n s 
 closed-step p j z left n s ih (goes s′) w = rw (eval-step p j left n s s′ w) (ih s′)
 closed-step p j z left n s ih (waits q) w = absurd (closed-settled p j z s q w)
 
-pub closed-ends : (p : Program) (j : Parts) → Closed j → (left n : ℕ) (s : State) → NotHalted (eval p j left n s)
+closed-ends : (p : Program) (j : Parts) → Closed j → (left n : ℕ) (s : State) → NotHalted (eval p j left n s)
 closed-ends p j z zero n s = unhalted p j n s (next p j s) refl
 closed-ends p j z (suc left) n s = closed-step p j z left n s (λ s′. closed-ends p j z left (suc n) s′) (next p j s) refl
+
+pub run-ends : (p : Program) (j : Parts) → Closed j → NotHalted (run p j)
+unfolding run
+run-ends p j z = closed-ends p j z (p .steps) 0 (start p)

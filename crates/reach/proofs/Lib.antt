@@ -12,4 +12,5 @@ pub mod EntryLength
 pub mod Lists
 pub mod ClosedInputs
 pub mod Answers
+pub mod Accepted
 pub mod Demands
