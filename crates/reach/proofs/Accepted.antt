@@ -22,7 +22,7 @@ use Rattle.reach.specs.Answers.{Checked, accepted, turnedBack, check, Se
 use Rattle.reach.proofs.Base.{clash, nth-member}
 use Rattle.reach.proofs.Order.{open-width, open-unbound, open-least}
 use Rattle.reach.proofs.Completing.{below-completes, completes-below}
-use Rattle.reach.proofs.Depths.{Fit, open-fit, bind-fit, fit-typed, fit-depth, typed-fit, typed-width, fits-depth, completion}
+use Rattle.reach.proofs.Depths.{Fit, open-fit, bind-fit, fit-typed, typed-fit, typed-width, fits-depth, completion}
 use Rattle.reach.proofs.Evaluation.{StateIn, start-in, waits-free}
 use Rattle.reach.proofs.Entries.{Finds, at-target, at-limit, at-limit-waiting, by-step, by-fork, entry-found, entry-holds, entry-reopens}
 use Rattle.reach.proofs.Cover.{covers, apart, apart-numbers}
@@ -61,7 +61,7 @@ module _ (file : List ℕ) (p : Program) (h : check file ≡ accepted p) where
   unfolding sourceSlots
   completing e m j c k =
       let typed = fit-typed (p .types) (sourceTypes p) (p .depth) (e .input) (entry-fit e m) in
-      completes-below (p .types) (sourceTypes p) (e .input) j typed (c .1) (c .0) k
+      completes-below (p .types) (sourceTypes p) (e .input) j (typed .0) (c .1) (c .0) k
 
   -- the input with every parameter open is below every closed input
   open-below : (j : Parts) → ClosedInput p j → openInput p ⊑ j
@@ -99,12 +99,14 @@ module _ (file : List ℕ) (p : Program) (h : check file ≡ accepted p) where
   entries-inhabited e m =
       let (j, below, closed, fit) = completion (p .types) (sourceSlots p) (e .input) (entry-fit e m) in
       let typed = fit-typed (p .types) (sourceTypes p) (p .depth) j fit in
-      let deep = fit-depth (p .types) (sourceTypes p) (p .depth) j fit in
-      (j, ((closed, typed), fits-depth (p .types) (sourceTypes p) (p .depth) j typed .1 deep), below-completes below)
+      (j, ((closed, typed .0), fits-depth (p .types) (sourceTypes p) (p .depth) j (typed .0) .1 (typed .1)), below-completes below)
 
   -- there is no entry exactly where every closed input within the depth stops inside the limit
   no-entries : (entries p ≡ []) ↔ ((j : Parts) → WithinDepth p j → StopsInside (run p j))
-  no-entries = (λ none j w t. let found = entries-cover j w t in List·Memᴰ·not-nil (subst (λ es. found .0 ∈ es) none (found .1)), λ all. go (entries p) refl all)
+  no-entries = (
+    λ nothing j w t. let found = entries-cover j w t in List·Memᴰ·not-nil (subst (λ es. found .0 ∈ es) nothing (found .1)),
+    λ all. go (entries p) refl all,
+  )
     where
       shown : (k : Kind) (n : ℕ) → ReachedOrUnfinished (says k n)
       shown RE n = tt
@@ -127,7 +129,8 @@ pub none-answer : (file : List ℕ) (work list : ℕ) (a : SearchAnswer) → sea
 unfolding verdictOf refusalOf
 none-answer file work list (noSearch why) h = (λ v. absurd (Option·none-ne-some None v), λ g. absurd (Option·some-ne-none why (g .0)))
 none-answer file work list (complete es) h = (
-  λ v. (refl, λ p c. no-entries file p c .0 (sym (complete-is file work list p c es h) ∙ none-empty es .0 (Option·some-injective (verdict es) None v))),
+  λ v. let nothing = none-empty es .0 (Option·some-injective (verdict es) None v) in
+      (refl, λ p c. no-entries file p c .0 (sym (complete-is file work list p c es h) ∙ nothing)),
   λ g. ap some (none-empty es .1 (empty (check file) refl (g .1))),
 )
   where

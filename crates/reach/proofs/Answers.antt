@@ -1,5 +1,5 @@
 -- What each answer of a search says: under which condition it is given, and what the list then holds.
--- Rests on Lists.
+-- Rests on Lists for the list cut to its room.
 use Prim.Native.Nat.{ℕ, _≤_, _<_}
 use mathlib.Core.Path.{_≡_, refl, sym, ap, subst}
 use mathlib.Core.Logic.{_↔_}
@@ -27,7 +27,8 @@ Means p work list (noSearch why) = (why ≡ WorkTooShort) × (work < workWords (
 Means p work list (complete es) = (workWords (p .steps) ≤ work) × (es ≡ entries p) × (length (listBytes es) ≤ roomOf list)
 Means p work list (cutShort es) = (workWords (p .steps) ≤ work) × LongestRun (roomOf list) (entries p) es
 
-cut-means : (p : Program) (work list : ℕ) → workWords (p .steps) ≤ work → (t : Bool) → (cut (roomOf list) (entries p)) .full ≡ t → Means p work list (cutAnswer t ((cut (roomOf list) (entries p)) .kept))
+cut-means : (p : Program) (work list : ℕ) → workWords (p .steps) ≤ work
+    → (t : Bool) → (cut (roomOf list) (entries p)) .full ≡ t → Means p work list (cutAnswer t ((cut (roomOf list) (entries p)) .kept))
 unfolding cutAnswer
 cut-means p work list w true f = (w, cut-short (roomOf list) (entries p) f)
 cut-means p work list w false f =
@@ -54,10 +55,12 @@ means-in p work list (noSearch why) h e m = absurd (List·Memᴰ·not-nil m)
 means-in p work list (complete es) h e m = subst (λ (xs : List Entry). e ∈ xs) (h .1) m
 means-in p work list (cutShort es) h e m = rw (h .1 .2) (Memᴰ·append-left _ m)
 
-pub listed-in : (file : List ℕ) (work list : ℕ) (p : Program) → check file ≡ accepted p → (e : Entry) → e ∈ listed (searchAnswer file work list) → e ∈ entries p
+pub listed-in : (file : List ℕ) (work list : ℕ) (p : Program) → check file ≡ accepted p
+    → (e : Entry) → e ∈ listed (searchAnswer file work list) → e ∈ entries p
 listed-in file work list p h e m = means-in p work list (searchAnswer file work list) (search-means file work list p h) e m
 
-pub complete-is : (file : List ℕ) (work list : ℕ) (p : Program) → check file ≡ accepted p → (es : List Entry) → searchAnswer file work list ≡ complete es → es ≡ entries p
+pub complete-is : (file : List ℕ) (work list : ℕ) (p : Program) → check file ≡ accepted p
+    → (es : List Entry) → searchAnswer file work list ≡ complete es → es ≡ entries p
 complete-is file work list p h es a = (subst (Means p work list) a (search-means file work list p h)) .1
 
 -- 11 is given exactly where the work slice is too short

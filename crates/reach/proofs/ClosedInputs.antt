@@ -1,20 +1,18 @@
 -- Refusal 10 under exactly its condition: bytes are read as a closed input if and only if they are the prefix form of a closed input
 -- within the depth, and then it is that input.
 -- A place of the bytes is spoken of by the bytes from there on, `drop i s`.
--- Rests on Input and Types, and on IfFound of Limits.
+-- Rests on Depths for the depth of a row, and on Limits for what a reader finds.
 use Prim.Native.Nat.{ℕ, zero, suc, _≤_, _<_, zero-le}
 use mathlib.Core.Path.{_≡_, refl, ap, subst}
-use mathlib.Core.Bool.{Bool, true, false}
 use mathlib.Core.List.{List, [], _∷_, _++_, append-assoc, append-nil}
 use mathlib.Core.Logic.{_↔_}
 use mathlib.Core.Option.{Option, none, some}
 use native.Mathlib.Omega.{arith}
-use lib.ListN.{length, getD, drop, length-drop, drop-of-length-le}
+use lib.ListN.{length, drop, length-drop, drop-of-length-le}
 use lib.Seq.{drop-cons}
 use lib.Dec.{ltb}
 use borrow.Author.Tests.{ltb-true, ltb-false, lt-ltb, le-ltb}
-use Rattle.reach.specs.declared.Refusal.the-variants.{Truncated, BadInput}
-use Rattle.reach.specs.Base.{pick}
+use Rattle.reach.specs.declared.Refusal.the-variants.{BadInput}
 use Rattle.reach.specs.Syntax.{Types, Program, fieldTypes, sourceTypes}
 use Rattle.reach.specs.Parts.{Parts, end, opened, bound, Closed, depth, prefix}
 use Rattle.reach.specs.Types.{Typed, slots, sourceSlots, Fits, WithinDepth}

@@ -32,10 +32,14 @@ module _ (p : Program) where
   cover-last : (n : ℕ) (i : Parts) (s : State) (j : Parts) → i ⊑ j → StateIn i s → ReachedOrUnfinished (eval p j zero n s)
       → (N : Next) → next p i s ≡ N → Covered zero n i s j
   unfolding gather
-  cover-last n i s j a h t demands w = (record { kind = RE; steps = n; input = i }, rw (search-last p table n i s demands w) (List·Memᴰ·head refl), a)
-  cover-last n i s j a h t (stops why) w = absurd (subst ReachedOrUnfinished (eval-stops p j zero n s why (next-more p a s h (stops why) tt w)) t)
-  cover-last n i s j a h t (goes s′) w = (record { kind = UN; steps = n; input = i }, rw (search-last p table n i s (goes s′) w) (List·Memᴰ·head refl), a)
-  cover-last n i s j a h t (waits q) w = (record { kind = UN; steps = n; input = i }, rw (search-last p table n i s (waits q) w) (List·Memᴰ·head refl), a)
+  cover-last n i s j a h t demands w =
+      (record { kind = RE; steps = n; input = i }, rw (search-last p table n i s demands w) (List·Memᴰ·head refl), a)
+  cover-last n i s j a h t (stops why) w =
+      absurd (subst ReachedOrUnfinished (eval-stops p j zero n s why (next-more p a s h (stops why) tt w)) t)
+  cover-last n i s j a h t (goes s′) w =
+      (record { kind = UN; steps = n; input = i }, rw (search-last p table n i s (goes s′) w) (List·Memᴰ·head refl), a)
+  cover-last n i s j a h t (waits q) w =
+      (record { kind = UN; steps = n; input = i }, rw (search-last p table n i s (waits q) w) (List·Memᴰ·head refl), a)
 
   cover-step : (left n : ℕ) (i : Parts) (s : State) (j : Parts) → i ⊑ j → Closed j → Fit (p .types) (sourceSlots p) j → StateIn i s
       → ReachedOrUnfinished (eval p j (suc left) n s)
@@ -119,7 +123,8 @@ module _ (p : Program) (table : List ℕ) where
 
   -- entries behind two constructors of one fork
   branches-disjoint : (left n : ℕ) (i : Parts) (s : State) (q : Question) → next p i s ≡ waits q
-      → (f g : Fork) (x y : Entry) → f .constructor ≢ g .constructor → x ∈ branch p table left n i q f → y ∈ branch p table left n i q g → Disjoint x y
+      → (f g : Fork) (x y : Entry) → f .constructor ≢ g .constructor
+      → x ∈ branch p table left n i q f → y ∈ branch p table left n i q g → Disjoint x y
   branches-disjoint left n i s q w f g x y ne m m′ j a b = ne (ap constructorOf (sym (bound-to f x m a) ∙ bound-to g y m′ b))
     where
       bound-to : (h : Fork) (z : Entry) → z ∈ branch p table left n i q h → z .input ⊑ j → at j (q .place) ≡ has (h .constructor) (h .fields)

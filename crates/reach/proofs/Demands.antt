@@ -114,7 +114,8 @@ pub work-exactly : (file : List ℕ) (work list : ℕ) (p : Program) → check f
     → (searchAnswer file work list ≡ noSearch WorkTooShort) ↔ (work < workWords (p .steps))
 work-exactly file work list p h = Answers.work-exactly file work list p h
 
--- 01, "Turned back": "With 12 the list holds all earlier entries": the longest run of first entries that fits the room, and the next one does not fit.
+-- 01, "Turned back": "With 12 the list holds all earlier entries": the longest run of first entries that fits the room, and the next one
+-- does not fit.
 pub full-prefix : (file : List ℕ) (work list : ℕ) (p : Program) → check file ≡ accepted p
     → (es : List Entry) → searchAnswer file work list ≡ cutShort es
     → (next : Entry) × (rest : List Entry) × (entries p ≡ es ++ (next ∷ rest)) × (length (listBytes es) ≤ roomOf list)

@@ -1,6 +1,6 @@
 -- The table of least depths is right: an entry above 0 is the depth of the shallowest closed value of its type, and a type with entry 0
 -- has no closed value. As many rounds as there are types are enough.
--- Rests on Types and Parts.
+-- Rests on Types and Parts of specs/.
 use Prim.Native.Nat.{ℕ, zero, suc, _+_, _-_, _≤_, _<_, zero-le}
 use native.Mathlib.Nat.{le-refl, le-trans, le-suc, zero-add, suc-add, sub-add-cancel}
 use native.Mathlib.Omega.{arith}
@@ -160,8 +160,9 @@ module _ (types : Types) where
   entry-bound zero t = rw no-round zero-le
   entry-bound (suc d) t =
       let before = le-trans (entry-bound d t) (le-suc d) in
-      let least : ℕ → Type 0 = λ n. n ≤ suc d in
-      rw one-round (picked least (ltb 0 (getD (rounds types d) t 0)) (λ old. before) (λ none-yet. picked least (inhabited (rounds types d) (getD types t [])) (λ yes. le-refl _) (λ no. zero-le)))
+      let few : ℕ → Type 0 = λ n. n ≤ suc d in
+      let now = picked few (inhabited (rounds types d) (getD types t [])) (λ filled. le-refl _) (λ empty. zero-le) in
+      rw one-round (picked few (ltb 0 (getD (rounds types d) t 0)) (λ old. before) (λ new. now))
 
   -- a number, once given, stays
   kept : (d t e : ℕ) → getD (rounds types d) t 0 ≡ suc e → getD (rounds types (suc d)) t 0 ≡ suc e

@@ -1,3 +1,4 @@
+-- What is proved of the definitions, each file behind those that it rests on. Demands is the one to read first.
 pub mod Base
 pub mod Order
 pub mod Completing

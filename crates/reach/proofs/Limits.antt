@@ -1,13 +1,12 @@
 -- What an accepted file keeps to: the limits of 01, no type without a closed value, and parameters that fit the depth.
 -- Each reader promises a fact of whatever it finds; the promises are joined along the reader's own text.
--- Rests on Reader, RuleFile and Answers.
+-- Rests on Reader, RuleFile and Answers of specs/.
 use Prim.Native.Nat.{ℕ, zero, suc, pred, _≤_, zero-le, suc-le-suc}
 use mathlib.Core.Path.{_≡_, refl, subst}
 use mathlib.Core.Bool.{Bool, true, _&&_, and-eq-true-iff}
 use mathlib.Core.List.{List, [], _∷_}
 use mathlib.Core.Option.{Option, none, some}
 use native.Mathlib.Nat.{le-trans}
-use native.Mathlib.Omega.{arith}
 use lib.ListN.{length, getD, getElem?}
 use lib.Dec.{leb}
 use borrow.Author.Tests.{leb-true}
@@ -17,7 +16,8 @@ use Rattle.reach.specs.Limits.{typeLimit, constructorLimit, fieldLimit, 
 use Rattle.reach.specs.Syntax.{Function, Program, fieldTypes, functionAt, parametersOf, sourceTypes}
 use Rattle.reach.specs.Types.{leastDepths}
 use Rattle.reach.specs.Reader.{Got, got, refused, onGot, Reader, _>>=_, _>>_, give, refuse, demand, byte, word, times, passed, atEnd}
-use Rattle.reach.specs.RuleFile.{Mark, TY, FN, GO, other, onMark, mark, counted, constructorRecord, typeRecord, Head, functionRecord, Goal, goalRecord, moreTypes, moreFunctions, Outline, outline, numbersExist, bodyOf, functionsOf, programOf, noEmptyType, deepEnough, sizeInLimit, ruleFile}
+use Rattle.reach.specs.RuleFile.{Mark, TY, FN, GO, other, onMark, mark, counted, constructorRecord, typeRecord, Head, functionRecord, Goal, goalRecord}
+use Rattle.reach.specs.RuleFile.{moreTypes, moreFunctions, Outline, outline, numbersExist, bodyOf, functionsOf, programOf, noEmptyType, deepEnough, sizeInLimit, ruleFile}
 use Rattle.reach.specs.Answers.{accepted, turnedBack, check}
 use Rattle.reach.proofs.Base.{clash, picked, nth-member, Each, each-member, each-getD}
 
@@ -66,7 +66,11 @@ anything {A} m = record { found = λ s i. go (m s i) }
 module _ {A B : Type 0} {P : A → Type 0} {Q : B → Type 0} {m : Reader A} where
   -- one reader and then another promise what the second promises of every value that the first may find
   then : {f : A → Reader B} → Promises P m → ((a : A) → P a → Promises Q (f a)) → Promises Q (m >>= f)
-  then {f} first second = record { found = λ s i. if-found-then (λ a next. P a) (λ b next. Q b) (λ a. f a s) (m s i) (first .found s i) (λ a next h. (second a h) .found s next) }
+  then {f} first second =
+      record {
+        found = λ s i.
+            if-found-then (λ a next. P a) (λ b next. Q b) (λ a. f a s) (m s i) (first .found s i) (λ a next h. (second a h) .found s next);
+      }
 
   then-on : {f : Reader B} → Promises P m → ((a : A) → P a → Promises Q f) → Promises Q (m >> f)
   then-on {f} first second = then {f = λ a. f} first second
@@ -78,7 +82,8 @@ timed zero each = giving (zero-le, tt)
 timed (suc n) each = then each (λ a h. then (timed n each) (λ xs hs. giving (suc-le-suc (hs .0), (h, hs .1))))
 
 -- a promise for each mark that may be met
-marked : {A : Type 0} {P : A → Type 0} {ty fn go wrong : Reader A} → Promises P ty → Promises P fn → Promises P go → Promises P wrong → (m : Mark) → Promises P (onMark ty fn go wrong m)
+marked : {A : Type 0} {P : A → Type 0} {ty fn go wrong : Reader A} → Promises P ty → Promises P fn → Promises P go → Promises P wrong
+    → (m : Mark) → Promises P (onMark ty fn go wrong m)
 marked a b c d TY = a
 marked a b c d FN = b
 marked a b c d GO = c
@@ -101,7 +106,8 @@ abbrev TypeKept : List (List ℕ) → Type 0
 TypeKept cs = (length cs ≤ constructorLimit) × Each ConstructorKept cs
 
 -- a count within the limit, then so many of them
-counted-kept : {A : Type 0} {P : A → Type 0} {m : Reader A} (least most : ℕ) → Promises P m → Promises (λ xs. (length xs ≤ most) × Each P xs) (counted least most >>= λ n. times n m)
+counted-kept : {A : Type 0} {P : A → Type 0} {m : Reader A} (least most : ℕ) → Promises P m
+    → Promises (λ xs. (length xs ≤ most) × Each P xs) (counted least most >>= λ n. times n m)
 counted-kept least most each = then (counting least most) (λ n h. weakened (λ xs hs. (le-trans (hs .0) (h .1), hs .1)) (timed n each))
 
 constructor-kept : Promises ConstructorKept constructorRecord
@@ -176,14 +182,21 @@ outline-kept =
     (λ f k. then (more-functions (pred functionLimit))
     (λ fs ks. then goal-kept
     (λ g l. then-on (anything (atEnd TrailingBytes))
-    (λ x y. giving (record { types-count = suc-le-suc (hs .0); types-kept = (h, hs .1); heads-count = suc-le-suc (ks .0); heads-kept = (k, ks .1); goal = l }))))))))
+    (λ x y. giving (record {
+      types-count = suc-le-suc (hs .0);
+      types-kept = (h, hs .1);
+      heads-count = suc-le-suc (ks .0);
+      heads-kept = (k, ks .1);
+      goal = l;
+    }))))))))
 
 -- a function within the limits
 abbrev FunctionKept : Function → Type 0
 FunctionKept f = length (f .parameters) ≤ parameterLimit
 
 -- the functions are no more than the heads, and have their parameters
-functions-kept : (o : Outline) (hs : List Head) → Each HeadKept hs → Promises (λ fs. (length fs ≤ length hs) × Each FunctionKept fs) (functionsOf o hs)
+functions-kept : (o : Outline) (hs : List Head) → Each HeadKept hs
+    → Promises (λ fs. (length fs ≤ length hs) × Each FunctionKept fs) (functionsOf o hs)
 unfolding functionsOf
 functions-kept o [] all = giving (zero-le, tt)
 functions-kept o (h ∷ hs) all =
@@ -203,7 +216,8 @@ pub record Kept (p : Program) : Type 0 where
   pub no-empty : noEmptyType (leastDepths (p .types)) ≡ true
   pub deep-enough : deepEnough p ≡ true
 
-parameters-of : (f : Option Function) (fs : List Function) (i : ℕ) → getElem? fs i ≡ f → Each FunctionKept fs → length (parametersOf f) ≤ parameterLimit
+parameters-of : (f : Option Function) (fs : List Function) (i : ℕ) → getElem? fs i ≡ f → Each FunctionKept fs
+    → length (parametersOf f) ≤ parameterLimit
 parameters-of none fs i e all = zero-le
 parameters-of (some f) fs i e all = each-member FunctionKept all (nth-member fs i f e)
 
