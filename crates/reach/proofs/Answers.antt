@@ -64,9 +64,9 @@ pub complete-is : (file : List ℕ) (work list : ℕ) (p : Program) → check fi
 complete-is file work list p h es a = (subst (Means p work list) a (search-means file work list p h)) .1
 
 -- 11 is given exactly where the work slice is too short
-pub work-exactly : (file : List ℕ) (work list : ℕ) (p : Program) → check file ≡ accepted p
+pub short-work : (file : List ℕ) (work list : ℕ) (p : Program) → check file ≡ accepted p
     → (searchAnswer file work list ≡ noSearch WorkTooShort) ↔ (work < workWords (p .steps))
-work-exactly file work list p h = (
+short-work file work list p h = (
   λ a. (subst (Means p work list) a (search-means file work list p h)) .1,
   λ short. go short (searchAnswer file work list) (search-means file work list p h),
 )

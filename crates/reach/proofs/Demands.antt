@@ -28,8 +28,7 @@ use Rattle.reach.proofs.Evaluation.{NotHalted, Spent, run-spent, run-en
 use Rattle.reach.proofs.Moves as Moves
 use Rattle.reach.proofs.EntryLength.{entry-within}
 use Rattle.reach.proofs.ClosedInputs as ClosedInputs
-use Rattle.reach.proofs.Answers as Answers
-use Rattle.reach.proofs.Answers.{Means, search-means, listed-in, complete-is}
+use Rattle.reach.proofs.Answers.{Means, search-means, listed-in, complete-is, short-work}
 use Rattle.reach.proofs.Accepted.{entries-true, entries-cover, entries-apart, entries-reopen, entries-inhabited, none-answer}
 
 -- Demand 2: "Every listed entry is true: each closed input that completes it within the depth ends as the entry says, reached or unfinished,
@@ -112,7 +111,7 @@ input-exactly p bytes j = ClosedInputs.input-exactly p bytes j
 -- 01, "Turned back", refusal 11: "the work slice of 32-bit words is shorter than 64 × S + 1,024".
 pub work-exactly : (file : List ℕ) (work list : ℕ) (p : Program) → check file ≡ accepted p
     → (searchAnswer file work list ≡ noSearch WorkTooShort) ↔ (work < workWords (p .steps))
-work-exactly file work list p h = Answers.work-exactly file work list p h
+work-exactly file work list p h = short-work file work list p h
 
 -- 01, "Turned back": "With 12 the list holds all earlier entries": the longest run of first entries that fits the room, and the next one
 -- does not fit.
