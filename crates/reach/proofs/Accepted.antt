@@ -68,10 +68,12 @@ module _ (file : List ℕ) (p : Program) (h : check file ≡ accepted p) where
   unfolding openInput
   open-below j c = subst (λ (n : ℕ). allOpen n ⊑ j) (typed-width (p .types) (sourceTypes p) j (c .1)) (open-least j)
 
+  -- every closed input that completes an entry ends as it says, after exactly its steps
   pub entries-true : (e : Entry) → e ∈ entries p → (j : Parts) → ClosedInput p j → Completes j (e .input) → run p j ≡ says (e .kind) (e .steps)
   unfolding run
   entries-true e m j c k = entry-holds p (leastDepths (p .types)) (entry-found p e m) start-there j (completing e m j c k)
 
+  -- every closed input within the depth that is reached or unfinished completes an entry
   pub entries-cover : (j : Parts) → WithinDepth p j → ReachedOrUnfinished (run p j) → (e : Entry) × (e ∈ entries p) × Completes j (e .input)
   unfolding run entries sourceSlots
   entries-cover j w t =
@@ -80,6 +82,7 @@ module _ (file : List ℕ) (p : Program) (h : check file ≡ accepted p) where
       let found = covers p (p .steps) 0 (openInput p) (start p) j (open-below j (w .0)) (w .0 .0) fit start-there t in
       (found .0, found .1, below-completes (found .2))
 
+  -- no closed input completes two
   pub entries-apart : (a b : ℕ) (x y : Entry) → getElem? (entries p) a ≡ some x → getElem? (entries p) b ≡ some y → a ≢ b
       → (j : Parts) → ClosedInput p j → Completes j (x .input) → ¬ Completes j (y .input)
   unfolding entries
@@ -87,6 +90,7 @@ module _ (file : List ℕ) (p : Program) (h : check file ≡ accepted p) where
       apart-numbers (entries p) (apart p (leastDepths (p .types)) (p .steps) 0 (openInput p) (start p)) a b x y g k ne
       j (completing x (nth-member (entries p) a x g) j c cx) (completing y (nth-member (entries p) b y k) j c cy)
 
+  -- with any bound part opened, the evaluation halts on it
   pub entries-reopen : (e : Entry) → e ∈ entries p → (q : Place) → BoundPart (e .input) q
       → (n : ℕ) × (run p (openAt q (e .input)) ≡ halted q n) × (n < p .steps)
   unfolding run openInput
@@ -94,6 +98,7 @@ module _ (file : List ℕ) (p : Program) (h : check file ≡ accepted p) where
       entry-reopens p (leastDepths (p .types)) (entry-found p e m) start-width start-there (omega arith, λ j a. refl)
       (λ r c k bound. absurd (open-unbound (length (sourceTypes p)) r bound)) q (b .0) (b .1 .0) (b .1 .1)
 
+  -- every entry has a completion within the depth
   pub entries-inhabited : (e : Entry) → e ∈ entries p → (j : Parts) × WithinDepth p j × Completes j (e .input)
   unfolding sourceSlots
   entries-inhabited e m =
