@@ -1,44 +1,32 @@
 -- Refusal 10 under exactly its condition: bytes are read as a closed input if and only if they are the prefix form of a closed input
 -- within the depth, and then it is that input.
 -- A place of the bytes is spoken of by the bytes from there on, `drop i s`.
--- Rests on Input and Types, and on Finds of Limits.
+-- Rests on Depths for the depth of a row, and on Limits for what a reader finds.
 use Prim.Native.Nat.{ℕ, zero, suc, _≤_, _<_, zero-le}
 use mathlib.Core.Path.{_≡_, refl, ap, subst}
-use mathlib.Core.Bool.{Bool, true, false}
 use mathlib.Core.List.{List, [], _∷_, _++_, append-assoc, append-nil}
 use mathlib.Core.Logic.{_↔_}
 use mathlib.Core.Option.{Option, none, some}
 use native.Mathlib.Omega.{arith}
-use lib.ListN.{length, getD, drop, length-drop, drop-of-length-le}
+use lib.ListN.{length, drop, length-drop, drop-of-length-le}
 use lib.Seq.{drop-cons}
 use lib.Dec.{ltb}
 use borrow.Author.Tests.{ltb-true, ltb-false, lt-ltb, le-ltb}
-use Rattle.reach.specs.declared.Refusal.the-variants.{Truncated, BadInput}
-use Rattle.reach.specs.Base.{pick}
+use Rattle.reach.specs.declared.Refusal.the-variants.{BadInput}
 use Rattle.reach.specs.Syntax.{Types, Program, fieldTypes, sourceTypes}
 use Rattle.reach.specs.Parts.{Parts, end, opened, bound, Closed, depth, prefix}
 use Rattle.reach.specs.Types.{Typed, slots, sourceSlots, Fits, WithinDepth}
 use Rattle.reach.specs.Reader.{Got, got, refused, onGot, Reader, _>>=_, _>>_, give, byte, atEnd}
 use Rattle.reach.specs.Input.{orBad, rowBy, row, inputOf}
-use Rattle.reach.proofs.Limits.{clash, Finds, finds-then}
+use Rattle.reach.proofs.Base.{clash, picked}
+use Rattle.reach.proofs.Depths.{fits-depth}
+use Rattle.reach.proofs.Limits.{IfFound, if-found-then}
 
 -- What a reader of rows looks for: a row that is closed, of these types, and at most so deep.
 record ClosedRow (types : Types) (d : ℕ) (us : List ℕ) (j : Parts) : Type 0 where
   closed : Closed j
   typed : Typed types us j
   shallow : depth j ≤ d
-
--- slots that are all of one depth allow what that depth allows
-fits-depth : (types : Types) (d : ℕ) (us : List ℕ) (j : Parts) → Typed types us j → Fits (slots us d) j ↔ (depth j ≤ d)
-unfolding slots depth
-fits-depth types d [] end t = (λ f. zero-le, λ h. tt)
-fits-depth types d [] (opened r) t = absurd t
-fits-depth types d [] (bound c fs r) t = absurd t
-fits-depth types d (u ∷ us) end t = absurd t
-fits-depth types d (u ∷ us) (opened r) t = fits-depth types d us r t
-fits-depth types d (u ∷ us) (bound c fs r) t =
-    let rest = fits-depth types d us r (t .3) in
-    (λ f. omega (arith, f .0, rest .0 (f .1)), λ h. (omega arith, rest .1 (omega arith)))
 
 -- a closed input within the depth is such a row
 within-row : (p : Program) (j : Parts) → WithinDepth p j ↔ ClosedRow (p .types) (p .depth) (sourceTypes p) j
@@ -49,25 +37,22 @@ within-row p j = (
 )
   where
     fits : Typed (p .types) (sourceTypes p) j → Fits (slots (sourceTypes p) (p .depth)) j ↔ (depth j ≤ p .depth)
-    fits t = fits-depth (p .types) (p .depth) (sourceTypes p) j t
+    fits t = fits-depth (p .types) (sourceTypes p) (p .depth) j t
 
 -- From the reader to the bytes: what it finds is such a row, and the bytes begin with the row's prefix form.
 
-byte-finds : (s : List ℕ) (i : ℕ) → Finds (λ c next. drop i s ≡ c ∷ drop next s) (byte s i)
+byte-finds : (s : List ℕ) (i : ℕ) → IfFound (λ c next. drop i s ≡ c ∷ drop next s) (byte s i)
 unfolding byte
-byte-finds s i = go (ltb i (length s)) refl
-  where
-    go : (b : Bool) → ltb i (length s) ≡ b → Finds (λ c next. drop i s ≡ c ∷ drop next s) (pick b (got (getD s i 0) (suc i)) (refused Truncated))
-    go true t = drop-cons s i 0 (ltb-true i (length s) t)
-    go false t = tt
+byte-finds s i =
+    picked (IfFound (λ c next. drop i s ≡ c ∷ drop next s)) (ltb i (length s)) (λ more. drop-cons s i 0 (ltb-true i (length s) more)) (λ over. tt)
 
-orBad-finds : (o : Option (List ℕ)) (s : List ℕ) (i : ℕ) → Finds (λ us next. (o ≡ some us) × (i ≡ next)) (orBad o s i)
+orBad-finds : (o : Option (List ℕ)) (s : List ℕ) (i : ℕ) → IfFound (λ us next. (o ≡ some us) × (i ≡ next)) (orBad o s i)
 orBad-finds none s i = tt
 orBad-finds (some us) s i = (refl, refl)
 
 -- what is found for these types stands in the bytes
 abbrev FindsRows : Types → ℕ → (List ℕ → Reader Parts) → List ℕ → Type 0
-FindsRows types d m s = (us : List ℕ) (i : ℕ) → Finds (λ j next. ClosedRow types d us j × (drop i s ≡ prefix j ++ drop next s)) (m us s i)
+FindsRows types d m s = (us : List ℕ) (i : ℕ) → IfFound (λ j next. ClosedRow types d us j × (drop i s ≡ prefix j ++ drop next s)) (m us s i)
 
 no-row : (types : Types) (d : ℕ) → ClosedRow types d [] end
 unfolding depth
@@ -78,10 +63,10 @@ rowBy-finds :
 unfolding rowBy prefix depth
 rowBy-finds types d m s below [] i = (no-row types (suc d), refl)
 rowBy-finds types d m s below (t ∷ ts) i =
-    finds-then _ _ _ (byte s i) (byte-finds s i)
-    (λ c k first. finds-then _ _ _ (orBad (fieldTypes types t c) s k) (orBad-finds (fieldTypes types t c) s k)
-    (λ us l has. finds-then _ _ _ (m us s l) (below us l)
-    (λ fs h inner. finds-then _ _ _ (rowBy types m ts s h) (rowBy-finds types d m s below ts h)
+    if-found-then _ _ _ (byte s i) (byte-finds s i)
+    (λ c k first. if-found-then _ _ _ (orBad (fieldTypes types t c) s k) (orBad-finds (fieldTypes types t c) s k)
+    (λ us l has. if-found-then _ _ _ (m us s l) (below us l)
+    (λ fs h inner. if-found-then _ _ _ (rowBy types m ts s h) (rowBy-finds types d m s below ts h)
     (λ r n outer. (
       record { closed = (inner .0 .closed, outer .0 .closed); typed = (us, has .0, inner .0 .typed, outer .0 .typed); shallow = omega arith },
       cc (append-assoc (prefix fs) (prefix r) (drop n s)),
@@ -159,18 +144,15 @@ row-there types (suc d) s us i j rest fits e = rowBy-there types d (row types d)
 abbrev whole : Types → ℕ → List ℕ → Reader Parts
 whole types d us = row types d us >>= λ j. atEnd BadInput >> give j
 
-end-finds : (s : List ℕ) (i : ℕ) → Finds (λ u next. drop i s ≡ []) (atEnd BadInput s i)
+end-finds : (s : List ℕ) (i : ℕ) → IfFound (λ u next. drop i s ≡ []) (atEnd BadInput s i)
 unfolding atEnd
-end-finds s i = go (ltb i (length s)) refl
-  where
-    go : (b : Bool) → ltb i (length s) ≡ b → Finds (λ u next. drop i s ≡ []) (pick b (refused BadInput) (got (tt {0}) i))
-    go true t = tt
-    go false t = drop-of-length-le s (ltb-false i (length s) t)
+end-finds s i =
+    picked (IfFound (λ u next. drop i s ≡ [])) (ltb i (length s)) (λ more. tt) (λ over. drop-of-length-le s (ltb-false i (length s) over))
 
-whole-finds : (types : Types) (d : ℕ) (us s : List ℕ) → Finds (λ j next. ClosedRow types d us j × (prefix j ≡ s)) (whole types d us s 0)
+whole-finds : (types : Types) (d : ℕ) (us s : List ℕ) → IfFound (λ j next. ClosedRow types d us j × (prefix j ≡ s)) (whole types d us s 0)
 whole-finds types d us s =
-    finds-then _ _ _ (row types d us s 0) (row-finds types d s us 0)
-    (λ j n found. finds-then _ _ _ (atEnd BadInput s n) (end-finds s n)
+    if-found-then _ _ _ (row types d us s 0) (row-finds types d s us 0)
+    (λ j n found. if-found-then _ _ _ (atEnd BadInput s n) (end-finds s n)
     (λ u k over. (found .0, cc (append-nil (prefix j)))))
 
 whole-there :
@@ -181,7 +163,7 @@ whole-there types d us s j fits e =
     let over : length s ≤ there .0 = omega (arith, ap length (there .2), length-drop (there .0) s) in
     (there .0, rw (there .1, le-ltb (there .0) (length s) over))
 
-of-found : (P : Parts → Type 0) (g : Got Parts) (j : Parts) → Finds (λ i next. P i) g → onGot (λ i next. some i) (λ why. none) g ≡ some j → P j
+of-found : (P : Parts → Type 0) (g : Got Parts) (j : Parts) → IfFound (λ i next. P i) g → onGot (λ i next. some i) (λ why. none) g ≡ some j → P j
 of-found P (got i next) j h e = let z : i ≡ j = cc in subst P z h
 of-found P (refused why) j h e = absurd (clash (cc))
 

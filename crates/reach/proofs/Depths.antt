@@ -1,121 +1,93 @@
 -- The inputs of a search keep to their types and depths: every open part has a completion that fits, and a closed input within the depth
 -- goes to one of the constructors of each fork.
--- Rests on Order and LeastDepths.
-use Prim.Native.Nat.{ℕ, zero, suc, _+_, _-_, _≤_, _<_, max}
+-- Rests on Order for places and on LeastDepths for what the table of least depths says.
+use Prim.Native.Nat.{ℕ, zero, suc, _+_, _-_, _≤_}
 use mathlib.Core.Path.{_≡_, refl, sym, _∙_, ap, subst}
-use mathlib.Core.Bool.{Bool, true, false, _&&_}
-use mathlib.Core.List.{List, [], _∷_, head?, tail, List·Memᴰ·not-nil, List·Memᴰ·cases-cons, List·Memᴰ·head, List·Memᴰ·tail}
-use mathlib.Core.Option.{Option, none, some, Option·some-injective, Option·none-ne-some}
-use mathlib.Core.Logic.{_⊎_, inl, inr}
+use mathlib.Core.Bool.{true}
+use mathlib.Core.List.{List, [], _∷_, List·Memᴰ·not-nil, List·Memᴰ·cases-cons, List·Memᴰ·head, List·Memᴰ·tail}
+use mathlib.Core.Option.{some, Option·some-injective, Option·none-ne-some}
+use mathlib.Core.Logic.{_↔_, ⊎-elim}
 use lib.ListN.{length, getD, getElem?}
-use lib.Dec.{ltb, leb}
 use native.Mathlib.Omega.{arith}
-use Rattle.reach.specs.Base.{_∈_, pick}
+use Rattle.reach.specs.Base.{_∈_}
 use Rattle.reach.specs.Syntax.{Types, fieldTypes}
-use Rattle.reach.specs.Parts.{Parts, end, opened, bound, width, allOpen, Place, here, after, inside, Seen, gone, free, has, at, bindAt, Closed, depth, _⊑_, ⊑-end, ⊑-open, ⊑-bind, ⊑-same}
-use Rattle.reach.specs.Types.{Typed, Slot, slots, slotsOf, fieldSlots, slotAt, Fits, leastDepths, shallow, Fork, forksFrom, forks, forksAt}
+use Rattle.reach.specs.Parts.{Parts, end, opened, bound, width, allOpen, Place, here, after, inside}
+use Rattle.reach.specs.Parts.{free, has, at, bindAt, Closed, depth, _⊑_, ⊑-end, ⊑-open, ⊑-bind, ⊑-same}
+use Rattle.reach.specs.Types.{Typed, Slot, slots, fieldSlots, slotAt, Fits, leastDepths, shallow, Fork, forksFrom, forks, forksAt}
+use Rattle.reach.proofs.Base.{picked}
 use Rattle.reach.proofs.Order.{There, free-unbound}
-use Rattle.reach.proofs.LeastDepths.{shallow-covers, shallow-filled}
+use Rattle.reach.proofs.LeastDepths.{shallow-head, shallow-cons, shallow-covers, shallow-filled}
 
-both-left : (a b : Bool) → (a && b) ≡ true → a ≡ true
-both-left true b h = refl
-both-left false b h = h
-
-both-right : (a b : Bool) → (a && b) ≡ true → b ≡ true
-both-right true b h = h
-both-right false b h = cc
-
-both : {a b : Bool} → a ≡ true → b ≡ true → (a && b) ≡ true
-both h g = rw (h, g)
-
--- the first of some types that all have a shallow value has one, and so have the others
-shallow-first : (table : List ℕ) (d t : ℕ) (ts : List ℕ) → shallow table d (t ∷ ts) ≡ true → shallow table d (t ∷ []) ≡ true
-unfolding shallow
-shallow-first table d t ts h = both {b = true} (both-left (ltb 0 (getD table t 0) && leb (getD table t 0) d) (shallow table d ts) h) refl
-
-shallow-rest : (table : List ℕ) (d t : ℕ) (ts : List ℕ) → shallow table d (t ∷ ts) ≡ true → shallow table d ts ≡ true
-unfolding shallow
-shallow-rest table d t ts h = both-right (ltb 0 (getD table t 0) && leb (getD table t 0) d) (shallow table d ts) h
-
--- Which constructors a fork takes: those of the type whose fields all have a value that fits below.
+-- A fork takes a constructor of the type, counted from c, whose fields all have a value that fits below.
 abbrev pub Taken : List ℕ → ℕ → ℕ → List (List ℕ) → Fork → Type 0
-Taken table d c cs f = (m : ℕ) × (us : List ℕ) × (f .constructor ≡ c + m) × (getElem? cs m ≡ some us) × (f .fields ≡ length us) × (shallow table d us ≡ true)
+Taken table d c cs f =
+    (m : ℕ) × (us : List ℕ) × (f .constructor ≡ c + m) × (getElem? cs m ≡ some us) × (f .fields ≡ length us) × (shallow table d us ≡ true)
 
 taken-tail : (table : List ℕ) (d c : ℕ) (us : List ℕ) (cs : List (List ℕ)) (f : Fork) → Taken table d (suc c) cs f → Taken table d c (us ∷ cs) f
 taken-tail table d c us cs f h = (suc (h .0), h .1, h .2 ∙ omega arith, h .3, h .4, h .5)
 
+-- a fork takes only such constructors
 pub forks-taken : (table : List ℕ) (d c : ℕ) (cs : List (List ℕ)) (f : Fork) → f ∈ forksFrom table d c cs → Taken table d c cs f
 unfolding forksFrom
-forks-taken table d c [] f m = absurd (List·Memᴰ·not-nil m)
-forks-taken table d c (us ∷ cs) f m = by-test (shallow table d us) refl m (λ g. forks-taken table d (suc c) cs f g)
-  where
-    by-test : (t : Bool) → shallow table d us ≡ t → f ∈ pick t (record { constructor = c; fields = length us } ∷ forksFrom table d (suc c) cs) (forksFrom table d (suc c) cs)
-        → (f ∈ forksFrom table d (suc c) cs → Taken table d (suc c) cs f) → Taken table d c (us ∷ cs) f
-    by-test true h g ih = first (List·Memᴰ·cases-cons g)
-      where
-        first : (f ≡ record { constructor = c; fields = length us }) ⊎ (f ∈ forksFrom table d (suc c) cs) → Taken table d c (us ∷ cs) f
-        first (inl e) = (zero, us, ap (λ (x : Fork). x .constructor) e ∙ omega arith, refl, ap (λ (x : Fork). x .fields) e, h)
-        first (inr g′) = taken-tail table d c us cs f (ih g′)
-    by-test false h g ih = taken-tail table d c us cs f (ih g)
+forks-taken table d c [] f = λ m. absurd (List·Memᴰ·not-nil m)
+forks-taken table d c (us ∷ cs) f =
+    let later : f ∈ forksFrom table d (suc c) cs → Taken table d c (us ∷ cs) f =
+    λ m. taken-tail table d c us cs f (forks-taken table d (suc c) cs f m) in
+    picked (λ (fs : List Fork). f ∈ fs → Taken table d c (us ∷ cs) f) (shallow table d us)
+    (λ fits m. ⊎-elim (λ same. (zero, us, ap (λ (x : Fork). x .constructor) same ∙ omega arith, refl, ap (λ (x : Fork). x .fields) same, fits))
+    later
+    (List·Memᴰ·cases-cons m))
+    (λ fails. later)
 
-taken-forks : (table : List ℕ) (d c m : ℕ) (cs : List (List ℕ)) (us : List ℕ) → getElem? cs m ≡ some us → shallow table d us ≡ true → record { constructor = c + m; fields = length us } ∈ forksFrom table d c cs
+-- and all of those
+taken-forks : (table : List ℕ) (d c m : ℕ) (cs : List (List ℕ)) (us : List ℕ) → getElem? cs m ≡ some us → shallow table d us ≡ true
+    → record { constructor = c + m; fields = length us } ∈ forksFrom table d c cs
 unfolding forksFrom
 taken-forks table d c m [] us h g = absurd (Option·none-ne-some us h)
 taken-forks table d c zero (vs ∷ cs) us h g =
     let same : vs ≡ us = Option·some-injective vs us h in
     let z : c + 0 ≡ c = omega arith in
     rw (z, same, g) (List·Memᴰ·head refl)
-taken-forks table d c (suc m) (vs ∷ cs) us h g = later (shallow table d vs) (subst (λ (k : ℕ). record { constructor = k; fields = length us } ∈ forksFrom table d (suc c) cs) (omega arith) (taken-forks table d (suc c) m cs us h g))
-  where
-    later : (t : Bool) → record { constructor = c + suc m; fields = length us } ∈ forksFrom table d (suc c) cs
-        → record { constructor = c + suc m; fields = length us } ∈ pick t (record { constructor = c; fields = length vs } ∷ forksFrom table d (suc c) cs) (forksFrom table d (suc c) cs)
-    later true k = List·Memᴰ·tail k
-    later false k = k
+taken-forks table d c (suc m) (vs ∷ cs) us h g =
+    let fork : ℕ → Fork = λ n. record { constructor = n; fields = length us } in
+    let later : fork (c + suc m) ∈ forksFrom table d (suc c) cs =
+    subst (λ (n : ℕ). fork n ∈ forksFrom table d (suc c) cs) (omega arith) (taken-forks table d (suc c) m cs us h g) in
+    picked (λ (fs : List Fork). fork (c + suc m) ∈ fs) (shallow table d vs) (λ fits. List·Memᴰ·tail later) (λ fails. later)
 
--- A partial row fits its slots: an open part has a closed value that fits, a bound part has a constructor of its type over fields that fit one less deep.
+-- A partial row fits its slots: an open part has a closed value that fits, a bound part has a constructor of its type over fields that fit
+-- one less deep.
 abbrev pub Fit : Types → List Slot → Parts → Type 0
 Fit types [] end = Unit {0}
 Fit types [] (opened r) = ⊥
 Fit types [] (bound c fs r) = ⊥
 Fit types (s ∷ ss) end = ⊥
 Fit types (s ∷ ss) (opened r) = (shallow (leastDepths types) (s .room) (s .type ∷ []) ≡ true) × Fit types ss r
-Fit types (s ∷ ss) (bound c fs r) = (d : ℕ) × (us : List ℕ) × (s .room ≡ suc d) × (fieldTypes types (s .type) c ≡ some us) × Fit types (slots us d) fs × Fit types ss r
+Fit types (s ∷ ss) (bound c fs r) =
+    (d : ℕ) × (us : List ℕ) × (s .room ≡ suc d) × (fieldTypes types (s .type) c ≡ some us) × Fit types (slots us d) fs × Fit types ss r
 
 module _ (types : Types) where
   -- open parts fit where each type has a value that fits
   pub open-fit : (ts : List ℕ) (d : ℕ) → shallow (leastDepths types) d ts ≡ true → Fit types (slots ts d) (allOpen (length ts))
   unfolding slots allOpen
   open-fit [] d h = tt
-  open-fit (t ∷ ts) d h = (shallow-first (leastDepths types) d t ts h, open-fit ts d (shallow-rest (leastDepths types) d t ts h))
+  open-fit (t ∷ ts) d h =
+      let first = shallow-head (leastDepths types) d t ts h in
+      (shallow-cons (leastDepths types) d t (first .0) [] (first .1) (first .2) (unfold shallow in refl), open-fit ts d (first .3))
 
-  pub fit-width : (ts : List ℕ) (d : ℕ) (e : Parts) → Fit types (slots ts d) e → width e ≡ length ts
-  unfolding slots width
-  fit-width [] d end h = refl
-  fit-width [] d (opened r) h = absurd h
-  fit-width [] d (bound c fs r) h = absurd h
-  fit-width (t ∷ ts) d end h = absurd h
-  fit-width (t ∷ ts) d (opened r) h = ap suc (fit-width ts d r (h .1))
-  fit-width (t ∷ ts) d (bound c fs r) h = ap suc (fit-width ts d r (h .5))
-
-  -- a row that is closed fits exactly where it has the types and is not too deep
-  pub fit-typed : (ts : List ℕ) (d : ℕ) (e : Parts) → Fit types (slots ts d) e → Typed types ts e
-  unfolding slots
-  fit-typed [] d end h = tt
+  -- a row that fits has the types and is at most d deep
+  pub fit-typed : (ts : List ℕ) (d : ℕ) (e : Parts) → Fit types (slots ts d) e → Typed types ts e × (depth e ≤ d)
+  unfolding slots depth
+  fit-typed [] d end h = (tt, omega arith)
   fit-typed [] d (opened r) h = absurd h
   fit-typed [] d (bound c fs r) h = absurd h
   fit-typed (t ∷ ts) d end h = absurd h
   fit-typed (t ∷ ts) d (opened r) h = fit-typed ts d r (h .1)
-  fit-typed (t ∷ ts) d (bound c fs r) h = (h .1, h .3, fit-typed (h .1) (h .0) fs (h .4), fit-typed ts d r (h .5))
+  fit-typed (t ∷ ts) d (bound c fs r) h =
+      let inner = fit-typed (h .1) (h .0) fs (h .4) in
+      let rest = fit-typed ts d r (h .5) in
+      ((h .1, h .3, inner .0, rest .0), omega (arith, inner .1, rest .1, h .2))
 
-  pub fit-depth : (ts : List ℕ) (d : ℕ) (e : Parts) → Fit types (slots ts d) e → depth e ≤ d
-  unfolding slots depth
-  fit-depth [] d end h = omega arith
-  fit-depth [] d (opened r) h = absurd h
-  fit-depth [] d (bound c fs r) h = absurd h
-  fit-depth (t ∷ ts) d end h = absurd h
-  fit-depth (t ∷ ts) d (opened r) h = fit-depth ts d r (h .1)
-  fit-depth (t ∷ ts) d (bound c fs r) h = omega (arith, fit-depth (h .1) (h .0) fs (h .4), fit-depth ts d r (h .5), h .2)
-
+  -- and a closed row that has the types and is at most d deep fits
   pub typed-fit : (ts : List ℕ) (d : ℕ) (e : Parts) → Closed e → Typed types ts e → depth e ≤ d → Fit types (slots ts d) e
   unfolding slots depth
   typed-fit [] d end z h l = tt
@@ -124,8 +96,10 @@ module _ (types : Types) where
   typed-fit (t ∷ ts) d end z h l = absurd h
   typed-fit (t ∷ ts) d (opened r) z h l = absurd z
   typed-fit (t ∷ ts) zero (bound c fs r) z h l = absurd (omega (arith, l))
-  typed-fit (t ∷ ts) (suc d) (bound c fs r) z h l = (d, h .0, refl, h .1, typed-fit (h .0) d fs (z .0) (h .2) (omega (arith, l)), typed-fit ts (suc d) r (z .1) (h .3) (omega (arith, l)))
+  typed-fit (t ∷ ts) (suc d) (bound c fs r) z h l =
+      (d, h .0, refl, h .1, typed-fit (h .0) d fs (z .0) (h .2) (omega (arith, l)), typed-fit ts (suc d) r (z .1) (h .3) (omega (arith, l)))
 
+  -- a row has as many parts as types
   pub typed-width : (ts : List ℕ) (e : Parts) → Typed types ts e → width e ≡ length ts
   unfolding width
   typed-width [] end h = refl
@@ -136,46 +110,53 @@ module _ (types : Types) where
   typed-width (t ∷ ts) (bound c fs r) h = ap suc (typed-width ts r (h .3))
 
   -- every part is at most d deep exactly where the whole row is
-  pub fits-depth : (ts : List ℕ) (d : ℕ) (e : Parts) → Closed e → Typed types ts e → Fits (slots ts d) e → depth e ≤ d
+  pub fits-depth : (ts : List ℕ) (d : ℕ) (e : Parts) → Typed types ts e → Fits (slots ts d) e ↔ (depth e ≤ d)
   unfolding slots depth
-  fits-depth [] d end z h f = omega arith
-  fits-depth [] d (opened r) z h f = absurd h
-  fits-depth [] d (bound c fs r) z h f = absurd h
-  fits-depth (t ∷ ts) d end z h f = absurd h
-  fits-depth (t ∷ ts) d (opened r) z h f = absurd z
-  fits-depth (t ∷ ts) d (bound c fs r) z h f = omega (arith, f .0, fits-depth ts d r (z .1) (h .3) (f .1))
-
-  pub depth-fits : (ts : List ℕ) (d : ℕ) (e : Parts) → depth e ≤ d → Fits (slots ts d) e
-  unfolding slots depth
-  depth-fits [] d e l = tt
-  depth-fits (t ∷ ts) d end l = tt
-  depth-fits (t ∷ ts) d (opened r) l = depth-fits ts d r l
-  depth-fits (t ∷ ts) d (bound c fs r) l = (omega (arith, l), depth-fits ts d r (omega (arith, l)))
+  fits-depth [] d end h = (λ f. omega arith, λ l. tt)
+  fits-depth [] d (opened r) h = absurd h
+  fits-depth [] d (bound c fs r) h = absurd h
+  fits-depth (t ∷ ts) d end h = absurd h
+  fits-depth (t ∷ ts) d (opened r) h = fits-depth ts d r h
+  fits-depth (t ∷ ts) d (bound c fs r) h =
+      let rest = fits-depth ts d r (h .3) in
+      (λ f. omega (arith, f .0, rest .0 (f .1)), λ l. (omega arith, rest .1 (omega arith)))
 
   -- the fields' slots of a bound part that fits
-  field-slots : (s : Slot) (c d : ℕ) (us : List ℕ) → s .room ≡ suc d → fieldTypes types (s .type) c ≡ some us → slots us d ≡ fieldSlots types (some s) c
+  field-slots : (s : Slot) (c d : ℕ) (us : List ℕ) → s .room ≡ suc d → fieldTypes types (s .type) c ≡ some us
+      → slots us d ≡ fieldSlots types (some s) c
   unfolding fieldSlots
   field-slots s c d us h g =
       let z : s .room - 1 ≡ d = omega (arith, h) in
       rw (g, z)
 
-  -- what a fork takes of the constructors in a slot
-  forks-of : (s : Slot) (f : Fork) → f ∈ forks types (leastDepths types) (s .type) (s .room)
-      → (d : ℕ) × (us : List ℕ) × (s .room ≡ suc d) × (fieldTypes types (s .type) (f .constructor) ≡ some us) × (f .fields ≡ length us) × (shallow (leastDepths types) d us ≡ true)
+  -- what a fork takes in a slot: a constructor of its type whose fields all have a value that fits below
+  abbrev pub TakenIn : Slot → Fork → Type 0
+  TakenIn s f =
+      (d : ℕ) × (us : List ℕ) × (s .room ≡ suc d) × (fieldTypes types (s .type) (f .constructor) ≡ some us) × (f .fields ≡ length us)
+      × (shallow (leastDepths types) d us ≡ true)
+
+  pub forks-of : (s : Slot) (f : Fork) → f ∈ forks types (leastDepths types) (s .type) (s .room) → TakenIn s f
   unfolding forks fieldTypes
   forks-of s f m = by-room (s .room) refl m
     where
-      by-room : (n : ℕ) → s .room ≡ n → f ∈ forks types (leastDepths types) (s .type) n
-          → (d : ℕ) × (us : List ℕ) × (s .room ≡ suc d) × (fieldTypes types (s .type) (f .constructor) ≡ some us) × (f .fields ≡ length us) × (shallow (leastDepths types) d us ≡ true)
+      by-room : (n : ℕ) → s .room ≡ n → f ∈ forks types (leastDepths types) (s .type) n → TakenIn s f
       by-room zero h g = absurd (List·Memᴰ·not-nil g)
       by-room (suc d) h g =
           let k = forks-taken (leastDepths types) d 0 (getD types (s .type) []) f g in
           let same : f .constructor ≡ k .0 = omega (arith, k .2) in
           (d, k .1, h, ap (getElem? (getD types (s .type) [])) same ∙ k .3, k .4, k .5)
 
+  of-forks : (s : Slot) (f : Fork) → TakenIn s f → f ∈ forks types (leastDepths types) (s .type) (s .room)
+  unfolding forks fieldTypes
+  of-forks s f h =
+      let z : 0 + f .constructor ≡ f .constructor = omega arith in
+      let fork : ℕ → Fork = λ n. record { constructor = n; fields = f .fields } in
+      rw (h .2) (subst (λ (n : ℕ). fork n ∈ forksFrom (leastDepths types) (h .0) 0 (getD types (s .type) [])) z
+      (rw (h .4) (taken-forks (leastDepths types) (h .0) 0 (f .constructor) (getD types (s .type) []) (h .1) (h .3) (h .5))))
+
   -- an input that fits still does so when an open part is bound by a fork
-  pub bind-fit : (ss : List Slot) (e : Parts) (q : Place) (f : Fork) → Fit types ss e → at e q ≡ free → f ∈ forksAt types (leastDepths types) (slotAt types e q ss)
-      → Fit types ss (bindAt q (f .constructor) (f .fields) e)
+  pub bind-fit : (ss : List Slot) (e : Parts) (q : Place) (f : Fork) → Fit types ss e → at e q ≡ free
+      → f ∈ forksAt types (leastDepths types) (slotAt types e q ss) → Fit types ss (bindAt q (f .constructor) (f .fields) e)
   unfolding at bindAt slotAt forksAt
   bind-fit ss end q f h g m = h
   bind-fit [] (opened r) q f h g m = absurd h
@@ -189,14 +170,8 @@ module _ (types : Types) where
   bind-fit (s ∷ ss) (bound c fs r) (after q) f h g m = (h .0, h .1, h .2, h .3, h .4, bind-fit ss r q f (h .5) g m)
   bind-fit (s ∷ ss) (bound c fs r) (inside q) f h g m =
       let same = field-slots s c (h .0) (h .1) (h .2) (h .3) in
-      (h .0, h .1, h .2, h .3, bind-fit (slots (h .1) (h .0)) fs q f (h .4) g (subst (λ (x : List Slot). f ∈ forksAt types (leastDepths types) (slotAt types fs q x)) (sym same) m), h .5)
-
-  in-fork : (s : Slot) (c k d : ℕ) (us : List ℕ) → s .room ≡ suc d → fieldTypes types (s .type) c ≡ some us → k ≡ length us → shallow (leastDepths types) d us ≡ true
-      → record { constructor = c; fields = k } ∈ forks types (leastDepths types) (s .type) (s .room)
-  unfolding forks fieldTypes
-  in-fork s c k d us h g w t =
-      let z : 0 + c ≡ c = omega arith in
-      rw (h, w) (subst (λ (n : ℕ). record { constructor = n; fields = length us } ∈ forksFrom (leastDepths types) d 0 (getD types (s .type) [])) z (taken-forks (leastDepths types) d 0 c (getD types (s .type) []) us g t))
+      let taken = subst (λ (x : List Slot). f ∈ forksAt types (leastDepths types) (slotAt types fs q x)) (sym same) m in
+      (h .0, h .1, h .2, h .3, bind-fit (slots (h .1) (h .0)) fs q f (h .4) g taken, h .5)
 
   -- where a row is open, a closed row that completes it and fits has one of the fork's constructors
   pub fork-covers : (ss : List Slot) {e j : Parts} → e ⊑ j → Closed j → Fit types ss j → (q : Place) → at e q ≡ free
@@ -205,19 +180,17 @@ module _ (types : Types) where
   fork-covers ss ⊑-end z h q g = absurd (subst There (sym g) tt)
   fork-covers ss (⊑-open a) z h q g = absurd z
   fork-covers [] (⊑-bind a) z h q g = absurd h
-  fork-covers (s ∷ ss) (⊑-bind {gs = gs} {d = c} a) z h here g = (
-    c,
-    width gs,
-    refl,
-    in-fork s c (width gs) (h .0) (h .1) (h .2) (h .3) (fit-width (h .1) (h .0) gs (h .4))
-        (shallow-covers types (h .1) gs (h .0) (z .0) (fit-typed (h .1) (h .0) gs (h .4)) (fit-depth (h .1) (h .0) gs (h .4))),
-  )
+  fork-covers (s ∷ ss) (⊑-bind {gs = gs} {d = c} a) z h here g =
+      let typed = fit-typed (h .1) (h .0) gs (h .4) in
+      let small = shallow-covers types (h .1) gs (h .0) (z .0) (typed .0) (typed .1) in
+      (c, width gs, refl, of-forks s _ (h .0, h .1, h .2, h .3, typed-width (h .1) gs (typed .0), small))
   fork-covers (s ∷ ss) (⊑-bind a) z h (after q) g = fork-covers ss a (z .1) (h .5) q g
   fork-covers (s ∷ ss) (⊑-bind a) z h (inside q) g = absurd (subst There (sym g) tt)
   fork-covers [] (⊑-same f a) z h q g = absurd h
   fork-covers (s ∷ ss) (⊑-same f a) z h here g = absurd (free-unbound (sym g))
   fork-covers (s ∷ ss) (⊑-same f a) z h (after q) g = fork-covers ss a (z .1) (h .5) q g
-  fork-covers (s ∷ ss) (⊑-same {c = c} f a) z h (inside q) g = rw (← field-slots s c (h .0) (h .1) (h .2) (h .3)) (fork-covers (slots (h .1) (h .0)) f (z .0) (h .4) q g)
+  fork-covers (s ∷ ss) (⊑-same {c = c} f a) z h (inside q) g =
+      rw (← field-slots s c (h .0) (h .1) (h .2) (h .3)) (fork-covers (slots (h .1) (h .0)) f (z .0) (h .4) q g)
 
   -- a closed value that is at most n deep, taken apart
   single : (t n : ℕ) (v : Parts) → Closed v → Typed types (t ∷ []) v → depth v ≤ n

@@ -1,7 +1,7 @@
 -- An expression is its bytes: what was read at a place is exactly the encoding that stands there, its operands follow in order, and an
 -- encoding determines its expression. Each body of an accepted file stands at the place that its head tells, and the place behind an
 -- expression is found by passing over it.
--- Rests on Encoding and RuleFile, and on Finds of Limits.
+-- Rests on Encoding and RuleFile, and on IfFound of Limits.
 use Prim.Native.Nat.{ℕ, zero, suc, pred, _+_, _≤_, _<_, zero-le}
 use mathlib.Core.Path.{_≡_, refl, ap, subst}
 use mathlib.Core.Bool.{Bool, true, false, _&&_}
@@ -22,7 +22,8 @@ use Rattle.reach.specs.RuleFile.{Mark, TY, FN, GO, other, onMark, mark, 
 use Rattle.reach.specs.Types.{leastDepths}
 use Rattle.reach.specs.Answers.{accepted, turnedBack, check}
 use Rattle.reach.specs.Encoding.{encode, encodeAll, encodeAlternatives, ByteAt, BytesAt, Stands, StandsAll, StandsAlternatives, countAlternatives, Arity, ArityAll, ArityAlternatives, nesting, nestingAll, nestingAlternatives, Skip, skippedAll, skippedAlternatives, skippedCall, skippedConstruct, skippedCase, skippedBy, skipped}
-use Rattle.reach.proofs.Limits.{clash, Each, Finds, finds-then}
+use Rattle.reach.proofs.Base.{clash, Each}
+use Rattle.reach.proofs.Limits.{IfFound, if-found-then}
 
 -- Bytes that stand at a place.
 
@@ -142,25 +143,25 @@ reads-then {s} {i} {k} {n} {bs} {cs} first second =
 reads-as : {s : List ℕ} {i k b c : ℕ} → Reads s i (b ∷ []) k → b ≡ c → Reads s i (c ∷ []) k
 reads-as {s} {i} {k} first is = subst (λ (b : ℕ). Reads s i (b ∷ []) k) is first
 
-byte-finds : (s : List ℕ) (i : ℕ) → Finds (λ b next. Reads s i (b ∷ []) next) (byte s i)
+byte-finds : (s : List ℕ) (i : ℕ) → IfFound (λ b next. Reads s i (b ∷ []) next) (byte s i)
 unfolding byte
 byte-finds s i = go (ltb i (length s)) refl
   where
-    go : (t : Bool) → ltb i (length s) ≡ t → Finds (λ b next. Reads s i (b ∷ []) next) (pick t (got (getD s i 0) (suc i)) (refused Truncated))
+    go : (t : Bool) → ltb i (length s) ≡ t → IfFound (λ b next. Reads s i (b ∷ []) next) (pick t (got (getD s i 0) (suc i)) (refused Truncated))
     go true t = record { stand = drop-cons s i 0 (ltb-true i (length s) t); behind = omega arith }
     go false t = tt
 
 -- what is found after a test that was demanded
 demand-then :
-    {B : Type 0} (Q : B → ℕ → Type 0) (f : ℕ → Got B) (test : Bool) (why : Refusal) (i : ℕ) → (test ≡ true → Finds Q (f i))
-    → Finds Q (onGot (λ (u : Unit {0}) next. f next) (λ why. refused why) (pick test (got tt i) (refused why)))
+    {B : Type 0} (Q : B → ℕ → Type 0) (f : ℕ → Got B) (test : Bool) (why : Refusal) (i : ℕ) → (test ≡ true → IfFound Q (f i))
+    → IfFound Q (onGot (λ (u : Unit {0}) next. f next) (λ why. refused why) (pick test (got tt i) (refused why)))
 demand-then Q f true why i passed = passed refl
 demand-then Q f false why i passed = tt
 
 -- what is found after a choice
 pick-finds :
     {A : Type 0} (P : A → ℕ → Type 0) (test : Bool) (a b : Reader A) (s : List ℕ) (i : ℕ)
-    → (test ≡ true → Finds P (a s i)) → (test ≡ false → Finds P (b s i)) → Finds P (pick test a b s i)
+    → (test ≡ true → IfFound P (a s i)) → (test ≡ false → IfFound P (b s i)) → IfFound P (pick test a b s i)
 pick-finds P true a b s i passed failed = passed refl
 pick-finds P false a b s i passed failed = failed refl
 
@@ -178,28 +179,28 @@ module _ (o : Outline) (n : ℕ) (s : List ℕ) where
 
   -- whatever the reader finds is such an expression
   abbrev FindsExprs : Below → Type 0
-  FindsExprs sub = (view : List ℕ) (t i : ℕ) → Finds (Found i) (sub view t s i)
+  FindsExprs sub = (view : List ℕ) (t i : ℕ) → IfFound (Found i) (sub view t s i)
 
 module _ (o : Outline) (n : ℕ) (s : List ℕ) (sub : Below) (below : FindsExprs o n s sub) (view : List ℕ) where
-  operands-find : (ts : List ℕ) (i : ℕ) → Finds (FoundAll o n s (length ts) i) (operandsOf sub view ts s i)
+  operands-find : (ts : List ℕ) (i : ℕ) → IfFound (FoundAll o n s (length ts) i) (operandsOf sub view ts s i)
   unfolding operandsOf encode nesting count
   operands-find [] i = (reads-none, tt, zero-le, refl)
   operands-find (t ∷ ts) i =
-      finds-then _ _ _ (sub view t s i) (below view t i)
-      (λ e k first. finds-then _ _ _ (operandsOf sub view ts s k) (operands-find ts k)
+      if-found-then _ _ _ (sub view t s i) (below view t i)
+      (λ e k first. if-found-then _ _ _ (operandsOf sub view ts s k) (operands-find ts k)
       (λ es l others. (reads-then (first .0) (others .0), (first .1, others .1), omega arith, ap suc (others .3))))
 
-  alternatives-find : (t : ℕ) (cs : List (List ℕ)) (i : ℕ) → Finds (FoundAlternatives o n s (length cs) i) (alternatives sub view t cs s i)
+  alternatives-find : (t : ℕ) (cs : List (List ℕ)) (i : ℕ) → IfFound (FoundAlternatives o n s (length cs) i) (alternatives sub view t cs s i)
   unfolding alternatives encode nesting countAlternatives
   alternatives-find t [] i = (reads-none, tt, zero-le, refl)
   alternatives-find t (us ∷ cs) i =
-      finds-then _ _ _ (byte s i) (byte-finds s i)
+      if-found-then _ _ _ (byte s i) (byte-finds s i)
       (λ b k first. demand-then _ _ (leb b 1) _ k
       (λ small. pick-finds _ (eqb b 0) _ _ s k
-      (λ is. finds-then _ _ _ (alternatives sub view t cs s k) (alternatives-find t cs k)
+      (λ is. if-found-then _ _ _ (alternatives sub view t cs s k) (alternatives-find t cs k)
       (λ alts l others. (reads-then (reads-as first (eqb-true b 0 is)) (others .0), others .1, others .2, ap suc (others .3))))
-      (λ not. finds-then _ _ _ (sub (view ++ us) t s k) (below (view ++ us) t k)
-      (λ e l second. finds-then _ _ _ (alternatives sub view t cs s l) (alternatives-find t cs l)
+      (λ not. if-found-then _ _ _ (sub (view ++ us) t s k) (below (view ++ us) t k)
+      (λ e l second. if-found-then _ _ _ (alternatives sub view t cs s l) (alternatives-find t cs l)
       (λ alts j others. (
         reads-then (reads-as first (omega (arith, eqb-false b 0 not, leb-true b 1 small))) (reads-then (second .0) (others .0)),
         (second .1, others .1),
@@ -218,88 +219,88 @@ module _
   where
     -- what is found where the expression's own nesting and view are within their limits
     limits-then :
-        (f : ℕ → Got Expr) (why : Refusal) (l : ℕ) → (n < m → Finds (Found o m s i) (f l))
-        → Finds (Found o m s i) (onGot (λ (u : Unit {0}) next. f next) (λ why. refused why) (pick (nested && leb (length view) viewLimit) (got tt l) (refused why)))
+        (f : ℕ → Got Expr) (why : Refusal) (l : ℕ) → (n < m → IfFound (Found o m s i) (f l))
+        → IfFound (Found o m s i) (onGot (λ (u : Unit {0}) next. f next) (λ why. refused why) (pick (nested && leb (length view) viewLimit) (got tt l) (refused why)))
     limits-then f why l then = demand-then _ f (nested && leb (length view) viewLimit) why l (λ b. then (deeper (both-true nested _ b)))
 
-    variable-finds : (k : ℕ) → Reads s i (0 ∷ []) k → Finds (Found o m s i) (variableExpr o nested sub view t s k)
+    variable-finds : (k : ℕ) → Reads s i (0 ∷ []) k → IfFound (Found o m s i) (variableExpr o nested sub view t s k)
     unfolding variableExpr encode nesting
     variable-finds k code =
-        finds-then _ _ _ (byte s k) (byte-finds s k)
+        if-found-then _ _ _ (byte s k) (byte-finds s k)
         (λ v l number. demand-then _ _ (ltb v (length view)) _ l
         (λ known. limits-then _ _ l
         (λ room. demand-then _ _ (eqb (getD view v 0) t) _ l
         (λ typed. (reads-then code number, tt, omega arith)))))
 
-    call-finds : (k : ℕ) → Reads s i (1 ∷ []) k → Finds (Found o m s i) (callExpr o nested sub view t s k)
+    call-finds : (k : ℕ) → Reads s i (1 ∷ []) k → IfFound (Found o m s i) (callExpr o nested sub view t s k)
     unfolding callExpr callOf encode nesting
-    call-finds k code = finds-then _ _ _ (byte s k) (byte-finds s k) (λ f l number. go f l number (getElem? (o .heads) f) refl)
+    call-finds k code = if-found-then _ _ _ (byte s k) (byte-finds s k) (λ f l number. go f l number (getElem? (o .heads) f) refl)
       where
-        go : (f l : ℕ) → Reads s k (f ∷ []) l → (x : Option Head) → getElem? (o .heads) f ≡ x → Finds (Found o m s i) (callOf o nested sub view t f x s l)
+        go : (f l : ℕ) → Reads s k (f ∷ []) l → (x : Option Head) → getElem? (o .heads) f ≡ x → IfFound (Found o m s i) (callOf o nested sub view t f x s l)
         go f l number none is = tt
         go f l number (some h) is =
             limits-then _ _ l
             (λ room. demand-then _ _ (eqb (h .result) t) _ l
-            (λ typed. finds-then _ _ _ (operandsOf sub view (h .parameters) s l) (operands-find o n s sub below view (h .parameters) l)
+            (λ typed. if-found-then _ _ _ (operandsOf sub view (h .parameters) s l) (operands-find o n s sub below view (h .parameters) l)
             (λ es j others. (reads-then code (reads-then number (others .0)), (h, is, others .3, others .1), omega arith))))
 
-    construct-finds : (k : ℕ) → Reads s i (2 ∷ []) k → Finds (Found o m s i) (constructExpr o nested sub view t s k)
+    construct-finds : (k : ℕ) → Reads s i (2 ∷ []) k → IfFound (Found o m s i) (constructExpr o nested sub view t s k)
     unfolding constructExpr constructOf encode nesting
     construct-finds k code =
-        finds-then _ _ _ (byte s k) (byte-finds s k)
-        (λ u l type. finds-then _ _ _ (byte s l) (byte-finds s l)
+        if-found-then _ _ _ (byte s k) (byte-finds s k)
+        (λ u l type. if-found-then _ _ _ (byte s l) (byte-finds s l)
         (λ c j number. go u c j (reads-then type number) (fieldTypes (o .types) u c) refl))
       where
-        go : (u c j : ℕ) → Reads s k (u ∷ c ∷ []) j → (x : Option (List ℕ)) → fieldTypes (o .types) u c ≡ x → Finds (Found o m s i) (constructOf o nested sub view t u c x s j)
+        go : (u c j : ℕ) → Reads s k (u ∷ c ∷ []) j → (x : Option (List ℕ)) → fieldTypes (o .types) u c ≡ x → IfFound (Found o m s i) (constructOf o nested sub view t u c x s j)
         go u c j numbers none is = tt
         go u c j numbers (some us) is =
             limits-then _ _ j
             (λ room. demand-then _ _ (eqb u t) _ j
-            (λ typed. finds-then _ _ _ (operandsOf sub view us s j) (operands-find o n s sub below view us j)
+            (λ typed. if-found-then _ _ _ (operandsOf sub view us s j) (operands-find o n s sub below view us j)
             (λ es h others. (reads-then code (reads-then numbers (others .0)), (us, is, others .3, others .1), omega arith))))
 
-    case-finds : (k : ℕ) → Reads s i (3 ∷ []) k → Finds (Found o m s i) (caseExpr o nested sub view t s k)
+    case-finds : (k : ℕ) → Reads s i (3 ∷ []) k → IfFound (Found o m s i) (caseExpr o nested sub view t s k)
     unfolding caseExpr caseOf encode nesting
-    case-finds k code = finds-then _ _ _ (byte s k) (byte-finds s k) (λ u l number. go u l number (getElem? (o .types) u) refl)
+    case-finds k code = if-found-then _ _ _ (byte s k) (byte-finds s k) (λ u l number. go u l number (getElem? (o .types) u) refl)
       where
-        go : (u l : ℕ) → Reads s k (u ∷ []) l → (x : Option (List (List ℕ))) → getElem? (o .types) u ≡ x → Finds (Found o m s i) (caseOf o nested sub view t u x s l)
+        go : (u l : ℕ) → Reads s k (u ∷ []) l → (x : Option (List (List ℕ))) → getElem? (o .types) u ≡ x → IfFound (Found o m s i) (caseOf o nested sub view t u x s l)
         go u l number none is = tt
         go u l number (some cs) is =
             limits-then _ _ l
-            (λ room. finds-then _ _ _ (sub view u s l) (below view u l)
-            (λ e j first. finds-then _ _ _ (alternatives sub view t cs s j) (alternatives-find o n s sub below view t cs j)
+            (λ room. if-found-then _ _ _ (sub view u s l) (below view u l)
+            (λ e j first. if-found-then _ _ _ (alternatives sub view t cs s j) (alternatives-find o n s sub below view t cs j)
             (λ alts h others. (
               reads-then code (reads-then number (reads-then (first .0) (others .0))),
               (cs, is, others .3, first .1, others .1),
               omega arith,
             ))))
 
-    let-finds : (k : ℕ) → Reads s i (4 ∷ []) k → Finds (Found o m s i) (letExpr o nested sub view t s k)
+    let-finds : (k : ℕ) → Reads s i (4 ∷ []) k → IfFound (Found o m s i) (letExpr o nested sub view t s k)
     unfolding letExpr encode nesting
     let-finds k code =
-        finds-then _ _ _ (byte s k) (byte-finds s k)
+        if-found-then _ _ _ (byte s k) (byte-finds s k)
         (λ u l number. demand-then _ _ (ltb u (length (o .types))) _ l
         (λ known. limits-then _ _ l
-        (λ room. finds-then _ _ _ (sub view u s l) (below view u l)
-        (λ e j first. finds-then _ _ _ (sub (view ++ (u ∷ [])) t s j) (below (view ++ (u ∷ [])) t j)
+        (λ room. if-found-then _ _ _ (sub view u s l) (below view u l)
+        (λ e j first. if-found-then _ _ _ (sub (view ++ (u ∷ [])) t s j) (below (view ++ (u ∷ [])) t j)
         (λ b h second. (
           reads-then code (reads-then number (reads-then (first .0) (second .0))),
           (ltb-true u (length (o .types)) known, first .1, second .1),
           omega arith,
         ))))))
 
-    target-finds : (k : ℕ) → Reads s i (5 ∷ []) k → Finds (Found o m s i) (targetExpr o nested sub view t s k)
+    target-finds : (k : ℕ) → Reads s i (5 ∷ []) k → IfFound (Found o m s i) (targetExpr o nested sub view t s k)
     unfolding targetExpr encode nesting
     target-finds k code =
-        finds-then _ _ _ (byte s k) (byte-finds s k)
+        if-found-then _ _ _ (byte s k) (byte-finds s k)
         (λ l j number. limits-then _ _ j
-        (λ room. finds-then _ _ _ (sub view t s j) (below view t j)
+        (λ room. if-found-then _ _ _ (sub view t s j) (below view t j)
         (λ e h inner. (reads-then code (reads-then number (inner .0)), inner .1, omega arith))))
 
-    expressionBy-finds : Finds (Found o m s i) (expressionBy o nested sub view t s i)
+    expressionBy-finds : IfFound (Found o m s i) (expressionBy o nested sub view t s i)
     unfolding expressionBy
     expressionBy-finds =
-        finds-then _ _ _ (byte s i) (byte-finds s i)
+        if-found-then _ _ _ (byte s i) (byte-finds s i)
         (λ code k first. demand-then _ _ (leb code 5) _ k
         (λ small. pick-finds _ (eqb code 0) _ _ s k (λ is. variable-finds k (reads-as first (eqb-true code 0 is)))
         (λ not0. pick-finds _ (eqb code 1) _ _ s k (λ is. call-finds k (reads-as first (eqb-true code 1 is)))
@@ -317,7 +318,7 @@ expression-finds o (suc n) s view t i = expressionBy-finds o true n (suc n) (λ 
 
 module _ (o : Outline) (n : ℕ) (view : List ℕ) (t : ℕ) (s : List ℕ) (i : ℕ) (e : Expr) (next : ℕ) (was-read : expression o n view t s i ≡ got e next) where
   expression-found : Found o n s i e next
-  expression-found = subst (Finds (Found o n s i)) was-read (expression-finds o n s view t i)
+  expression-found = subst (IfFound (Found o n s i)) was-read (expression-finds o n s view t i)
 
   -- what was read at a place is the encoding that stands there, and the place behind it is the end of those bytes
   pub expression-bytes : (drop i s ≡ encode e ++ drop next s) × (next ≡ i + length (encode e)) × (next ≤ length s)
@@ -336,12 +337,12 @@ module _ (o : Outline) (n : ℕ) (view : List ℕ) (t : ℕ) (s : List ℕ) (i :
 -- The bodies of a file.
 
 -- what holds of whatever is found second
-any-then : {A B : Type 0} (Q : B → ℕ → Type 0) (f : A → ℕ → Got B) (g : Got A) → ((a : A) (next : ℕ) → Finds Q (f a next)) → Finds Q (onGot f (λ why. refused why) g)
+any-then : {A B : Type 0} (Q : B → ℕ → Type 0) (f : A → ℕ → Got B) (g : Got A) → ((a : A) (next : ℕ) → IfFound Q (f a next)) → IfFound Q (onGot f (λ why. refused why) g)
 any-then Q f (got a next) second = second a next
 any-then Q f (refused why) second = tt
 
 -- what is found at each mark
-mark-finds : {A : Type 0} (P : A → ℕ → Type 0) (s : List ℕ) (i : ℕ) (ty fn go : Reader A) (m : Mark) → Finds P (ty s i) → Finds P (fn s i) → Finds P (go s i) → Finds P (onMark ty fn go (refuse UnexpectedMark) m s i)
+mark-finds : {A : Type 0} (P : A → ℕ → Type 0) (s : List ℕ) (i : ℕ) (ty fn go : Reader A) (m : Mark) → IfFound P (ty s i) → IfFound P (fn s i) → IfFound P (go s i) → IfFound P (onMark ty fn go (refuse UnexpectedMark) m s i)
 mark-finds P s i ty fn go TY a b c = a
 mark-finds P s i ty fn go FN a b c = b
 mark-finds P s i ty fn go GO a b c = c
@@ -352,15 +353,15 @@ module _ (s : List ℕ) where
   abbrev BodyInside : Head → Type 0
   BodyInside h = h .body + h .size ≤ length s
 
-  passed-inside : (n i : ℕ) → Finds (λ b next. b + n ≤ length s) (passed n s i)
+  passed-inside : (n i : ℕ) → IfFound (λ b next. b + n ≤ length s) (passed n s i)
   unfolding passed
   passed-inside n i = go (leb (i + n) (length s)) refl
     where
-      go : (t : Bool) → leb (i + n) (length s) ≡ t → Finds (λ b next. b + n ≤ length s) (pick t (got i (i + n)) (refused Truncated))
+      go : (t : Bool) → leb (i + n) (length s) ≡ t → IfFound (λ b next. b + n ≤ length s) (pick t (got i (i + n)) (refused Truncated))
       go true t = leb-true (i + n) (length s) t
       go false t = tt
 
-  head-inside : (i : ℕ) → Finds (λ h next. BodyInside h) (functionRecord s i)
+  head-inside : (i : ℕ) → IfFound (λ h next. BodyInside h) (functionRecord s i)
   unfolding functionRecord
   head-inside i =
       any-then _ _ (counted 0 parameterLimit s i)
@@ -368,26 +369,26 @@ module _ (s : List ℕ) where
       (λ ps k. any-then _ _ (byte s k)
       (λ r l. any-then _ _ (word s l)
       (λ z p. any-then _ _ (demand (leb 1 z && leb z bodyLimit) OutOfRange s p)
-      (λ u q. finds-then _ _ _ (passed z s q) (passed-inside z q) (λ b next h. h))))))
+      (λ u q. if-found-then _ _ _ (passed z s q) (passed-inside z q) (λ b next h. h))))))
 
-  heads-inside : (n i : ℕ) → Finds (λ hs next. Each BodyInside hs) (moreFunctions n s i)
+  heads-inside : (n i : ℕ) → IfFound (λ hs next. Each BodyInside hs) (moreFunctions n s i)
   unfolding moreFunctions
   heads-inside zero i = any-then _ _ (mark s i) (λ m k. mark-finds _ s k _ _ _ m tt tt tt)
   heads-inside (suc n) i =
       any-then _ _ (mark s i)
       (λ m k. mark-finds _ s k _ _ _ m tt
-      (finds-then _ _ _ (functionRecord s k) (head-inside k)
-      (λ h l first. finds-then _ _ _ (moreFunctions n s l) (heads-inside n l) (λ hs next others. (first, others))))
+      (if-found-then _ _ _ (functionRecord s k) (head-inside k)
+      (λ h l first. if-found-then _ _ _ (moreFunctions n s l) (heads-inside n l) (λ hs next others. (first, others))))
       tt)
 
-  outline-inside : (i : ℕ) → Finds (λ o next. Each BodyInside (o .heads)) (outline s i)
+  outline-inside : (i : ℕ) → IfFound (λ o next. Each BodyInside (o .heads)) (outline s i)
   unfolding outline
   outline-inside i =
       any-then _ _ (mark s i)
       (λ m j. any-then _ _ (onMark typeRecord (refuse UnexpectedMark) (refuse UnexpectedMark) (refuse UnexpectedMark) m s j)
       (λ t k. any-then _ _ (moreTypes (pred typeLimit) s k)
-      (λ ts l. finds-then _ _ _ (functionRecord s l) (head-inside l)
-      (λ h p first. finds-then _ _ _ (moreFunctions (pred functionLimit) s p) (heads-inside (pred functionLimit) p)
+      (λ ts l. if-found-then _ _ _ (functionRecord s l) (head-inside l)
+      (λ h p first. if-found-then _ _ _ (moreFunctions (pred functionLimit) s p) (heads-inside (pred functionLimit) p)
       (λ hs q others. any-then _ _ (goalRecord s q)
       (λ g r. any-then _ _ (atEnd TrailingBytes s r)
       (λ u next. (first, others))))))))
@@ -404,11 +405,11 @@ pub record BodyAt (o : Outline) (file : List ℕ) (h : Head) (g : Function) : Ty
 abbrev functionOf : Head → Expr → Function
 functionOf h e = record { parameters = h .parameters; result = h .result; body = e }
 
-end-finds : (s : List ℕ) (why : Refusal) (i : ℕ) → Finds (λ u next. length s ≤ i) (atEnd why s i)
+end-finds : (s : List ℕ) (why : Refusal) (i : ℕ) → IfFound (λ u next. length s ≤ i) (atEnd why s i)
 unfolding atEnd
 end-finds s why i = go (ltb i (length s)) refl
   where
-    go : (t : Bool) → ltb i (length s) ≡ t → Finds (λ u next. length s ≤ i) (pick t (refused why) (got (tt {0}) i))
+    go : (t : Bool) → ltb i (length s) ≡ t → IfFound (λ u next. length s ≤ i) (pick t (refused why) (got (tt {0}) i))
     go true t = tt
     go false t = ltb-false i (length s) t
 
@@ -431,12 +432,12 @@ module _ (o : Outline) (s : List ℕ) where
         result = refl;
       }
 
-  body-finds : (h : Head) → BodyInside s h → Finds (λ e next. BodyAt o s h (functionOf h e)) (bodyOf o h s)
+  body-finds : (h : Head) → BodyInside s h → IfFound (λ e next. BodyAt o s h (functionOf h e)) (bodyOf o h s)
   unfolding bodyOf
   body-finds h fits =
       let cut = take (h .body + h .size) s in
-      finds-then _ _ _ (expression o nestingLimit (h .parameters) (h .result) cut (h .body)) (expression-finds o nestingLimit cut (h .parameters) (h .result) (h .body))
-      (λ e k found. finds-then _ _ _ (atEnd TrailingBytes cut k) (end-finds cut TrailingBytes k) (λ u next over. body-at h e k fits found over))
+      if-found-then _ _ _ (expression o nestingLimit (h .parameters) (h .result) cut (h .body)) (expression-finds o nestingLimit cut (h .parameters) (h .result) (h .body))
+      (λ e k found. if-found-then _ _ _ (atEnd TrailingBytes cut k) (end-finds cut TrailingBytes k) (λ u next over. body-at h e k fits found over))
 
   -- each function of the one list has the body that the head of the same number in the other list tells of
   abbrev Bodies : List Head → List Function → Type 0
@@ -445,12 +446,12 @@ module _ (o : Outline) (s : List ℕ) where
   Bodies (h ∷ hs) [] = ⊥
   Bodies (h ∷ hs) (g ∷ gs) = BodyAt o s h g × Bodies hs gs
 
-  bodies-find : (hs : List Head) (i : ℕ) → Each (BodyInside s) hs → Finds (λ fs next. Bodies hs fs) (functionsOf o hs s i)
+  bodies-find : (hs : List Head) (i : ℕ) → Each (BodyInside s) hs → IfFound (λ fs next. Bodies hs fs) (functionsOf o hs s i)
   unfolding functionsOf
   bodies-find [] i fit = tt
   bodies-find (h ∷ hs) i fit =
-      finds-then _ _ _ (bodyOf o h s) (body-finds h (fit .0))
-      (λ e k first. finds-then _ _ _ (functionsOf o hs s k) (bodies-find hs k (fit .1)) (λ fs next others. (first, others)))
+      if-found-then _ _ _ (bodyOf o h s) (body-finds h (fit .0))
+      (λ e k first. if-found-then _ _ _ (functionsOf o hs s k) (bodies-find hs k (fit .1)) (λ fs next others. (first, others)))
 
   function-of : (hs : List Head) (gs : List Function) → Bodies hs gs → (f : ℕ) (h : Head) → getElem? hs f ≡ some h → (g : Function) × (getElem? gs f ≡ some g) × BodyAt o s h g
   function-of [] gs all f h is = absurd (clash (cc))
@@ -465,7 +466,7 @@ module _ (o : Outline) (s : List ℕ) where
   head-of (h ∷ hs) (k ∷ gs) all (suc f) g is = head-of hs gs (all .1) f g is
 
 -- what is found, was found
-found-is : {A : Type 0} (g : Got A) → Finds (λ a next. g ≡ got a next) g
+found-is : {A : Type 0} (g : Got A) → IfFound (λ a next. g ≡ got a next) g
 found-is (got a next) = refl
 found-is (refused why) = tt
 
@@ -474,8 +475,8 @@ bodies-are :
     (file : List ℕ) (o : Outline) (n : ℕ) → outline file 0 ≡ got o n
     → (i : ℕ) (fs : List Function) (next : ℕ) → functionsOf o (o .heads) file i ≡ got fs next → Bodies o file (o .heads) fs
 bodies-are file o n is i fs next are =
-    let fit : Each (BodyInside file) (o .heads) = subst (Finds (λ o next. Each (BodyInside file) (o .heads))) is (outline-inside file 0) in
-    subst (Finds (λ fs next. Bodies o file (o .heads) fs)) are (bodies-find o file (o .heads) i fit)
+    let fit : Each (BodyInside file) (o .heads) = subst (IfFound (λ o next. Each (BodyInside file) (o .heads))) is (outline-inside file 0) in
+    subst (IfFound (λ fs next. Bodies o file (o .heads) fs)) are (bodies-find o file (o .heads) i fit)
 
 -- each body stands in the file at the place that its head tells
 pub body-bytes :
@@ -494,13 +495,13 @@ pub record Outlined (file : List ℕ) (p : Program) (o : Outline) : Type 0 where
   pub function-of : (f : ℕ) (h : Head) → getElem? (o .heads) f ≡ some h → (g : Function) × (functionAt p f ≡ some g) × BodyAt o file h g
   pub head-of : (f : ℕ) (g : Function) → functionAt p f ≡ some g → (h : Head) × (getElem? (o .heads) f ≡ some h) × BodyAt o file h g
 
-file-finds : (file : List ℕ) → Finds (λ p next. (o : Outline) × Outlined file p o) (ruleFile file 0)
+file-finds : (file : List ℕ) → IfFound (λ p next. (o : Outline) × Outlined file p o) (ruleFile file 0)
 unfolding ruleFile sizeInLimit programOf functionAt
 file-finds file =
     demand-then _ _ (leb (length file) fileLimit) _ 0
-    (λ small. finds-then _ _ _ (outline file 0) (found-is (outline file 0))
+    (λ small. if-found-then _ _ _ (outline file 0) (found-is (outline file 0))
     (λ o n is. demand-then _ _ (numbersExist o) _ n
-    (λ exist. finds-then _ _ _ (functionsOf o (o .heads) file n) (found-is (functionsOf o (o .heads) file n))
+    (λ exist. if-found-then _ _ _ (functionsOf o (o .heads) file n) (found-is (functionsOf o (o .heads) file n))
     (λ fs k are. demand-then _ _ (noEmptyType (leastDepths (o .types))) _ k
     (λ filled. demand-then _ _ (deepEnough (programOf o fs)) _ k
     (λ deep. let all = bodies-are file o n is n fs k are in
@@ -511,7 +512,7 @@ pub accepted-outlined : (file : List ℕ) (p : Program) → check file ≡ accep
 unfolding check
 accepted-outlined file p is = go (ruleFile file 0) (file-finds file) is
   where
-    go : (g : Got Program) → Finds (λ p next. (o : Outline) × Outlined file p o) g → onGot (λ p next. accepted p) turnedBack g ≡ accepted p → (o : Outline) × Outlined file p o
+    go : (g : Got Program) → IfFound (λ p next. (o : Outline) × Outlined file p o) g → onGot (λ p next. accepted p) turnedBack g ≡ accepted p → (o : Outline) × Outlined file p o
     go (got q next) found is = let z : q ≡ p = cc in subst (λ p. (o : Outline) × Outlined file p o) z found
     go (refused why) found is = absurd (clash (cc))
 

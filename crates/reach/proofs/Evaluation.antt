@@ -1,18 +1,21 @@
--- Laws of the evaluation: what happens on a partial input happens on every input that binds at least as much, up to the place where it halts.
+-- Laws of the evaluation: what happens on a partial input happens on every input that binds at least as much, up to the place where it
+-- halts. A run takes at most S steps, all of them where it is unfinished; a closed input never halts.
 -- Rests on specs/Eval and Order.
 use Prim.Native.Nat.{ℕ, zero, suc, _+_, _-_, _≤_, _<_}
 use mathlib.Core.Path.{_≡_, refl, sym, _∙_, ap, subst}
-use mathlib.Core.Bool.{Bool, true, false}
 use mathlib.Core.List.{List, [], _∷_}
 use mathlib.Core.Option.{Option, none, some}
 use lib.ListN.{length}
 use lib.Dec.{ltb, eqb}
 use native.Mathlib.Omega.{arith}
 use borrow.Author.Tests.{ltb-true}
-use Rattle.reach.specs.Base.{pick}
-use Rattle.reach.specs.Syntax.{Expr, variable, call, construct, case, bind, target, Exprs, Alternatives, no-more, absent, present, nthExpr, Function, Program, functionAt, sourceTypes, parametersOf}
+use Rattle.reach.specs.Syntax.{Expr, variable, call, construct, case, bind, target}
+use Rattle.reach.specs.Syntax.{Exprs, Alternatives, no-more, absent, present, nthExpr, Function, Program, functionAt, sourceTypes, parametersOf}
 use Rattle.reach.specs.Parts.{Parts, width, Place, Seen, gone, free, has, at, Closed, _⊑_}
-use Rattle.reach.specs.Eval.{Row, parameters, fieldsOf, partOf, Env, empty, operands, inputParts, size, Closure, suspended, inputPart, suspend, lookup, Frame, waiting, State, evaluating, inspecting, missing, stuck, resume, choose, enter, Question, answered, Stop, Next, demands, stops, goes, waits, view, look, answer, next, Run, reached, ended, unfinished, halted, conclude, eval, startOf, start, run}
+use Rattle.reach.specs.Eval.{fieldsOf, partOf, Env, empty, operands, inputParts, size, Closure, suspended, inputPart, suspend, lookup, Frame, waiting}
+use Rattle.reach.specs.Eval.{State, evaluating, inspecting, missing, stuck, resume, choose, enter, Question, answered, Stop, Next, demands, stops, goes, waits}
+use Rattle.reach.specs.Eval.{view, look, answer, next, Run, reached, ended, unfinished, halted, conclude, eval, startOf, start, run}
+use Rattle.reach.proofs.Base.{picked}
 use Rattle.reach.proofs.Order.{There, ⊑-has, ⊑-there, part-there, field-there, free-unbound, closed-has, ⊑-refl}
 
 -- Every place that a state speaks of is there in the input.
@@ -56,24 +59,19 @@ pub frames-more : {e j : Parts} → e ⊑ j → (fs : List Frame) → FramesIn e
 frames-more a [] h = tt
 frames-more a (waiting alts env ∷ fs) h = (env-more a env (h .0), frames-more a fs (h .1))
 
-picked : {A : Type 0} (P : A → Type 0) (t : Bool) {a b : A} → P a → P b → P (pick t a b)
-picked P true x y = x
-picked P false x y = y
-
 -- a variable stands for something that is there
 lookup-in : (e : Parts) (env : Env) (n : ℕ) → EnvIn e env → ClosureIn e (lookup env n)
 unfolding lookup suspend
 lookup-in e empty n h = tt
-lookup-in e (operands outer es inner) n h = picked (ClosureIn e) (ltb n (size outer)) (lookup-in e outer n (h .0)) (of-expr (nthExpr es (n - size outer)))
+lookup-in e (operands outer es inner) n h =
+    picked (ClosureIn e) (ltb n (size outer)) (λ further-out. lookup-in e outer n (h .0)) (λ ours. of-expr (nthExpr es (n - size outer)))
   where
     of-expr : (x : Option Expr) → ClosureIn e (suspend x inner)
     of-expr none = tt
     of-expr (some x) = h .1
-lookup-in e (inputParts outer row k) n h = picked (ClosureIn e) (ltb n (size outer)) (lookup-in e outer n (h .0)) (in-row (ltb (n - size outer) k) refl)
-  where
-    in-row : (t : Bool) → ltb (n - size outer) k ≡ t → ClosureIn e (pick t (some (inputPart (partOf row (n - size outer)))) none)
-    in-row true l = h .1 (n - size outer) (ltb-true (n - size outer) k l)
-    in-row false l = tt
+lookup-in e (inputParts outer row k) n h =
+    picked (ClosureIn e) (ltb n (size outer)) (λ further-out. lookup-in e outer n (h .0))
+    (λ ours. picked (ClosureIn e) (ltb (n - size outer) k) (λ l. h .1 (n - size outer) (ltb-true (n - size outer) k l)) (λ beyond. tt))
 
 resume-in : (e : Parts) (c : Option Closure) (fs : List Frame) → ClosureIn e c → FramesIn e fs → StateIn e (resume c fs)
 unfolding resume
@@ -102,7 +100,7 @@ view-in p e (evaluating (construct t c es) env []) h = tt
 view-in p e (evaluating (construct t c es) env (waiting alts outer ∷ fs)) h = choose-in e alts c (operands outer es env) fs (h .1 .0, h .0) (h .1 .1)
 view-in p e (evaluating (case t x alts) env fs) h = (h .0, (h .0, h .1))
 view-in p e (evaluating (bind t x body) env fs) h = ((h .0, h .0), h .1)
-view-in p e (evaluating (target l x) env fs) h = picked (NextIn e) (eqb l (p .label)) tt h
+view-in p e (evaluating (target l x) env fs) h = picked (NextIn e) (eqb l (p .label)) (λ sought. tt) (λ other. h)
 view-in p e (inspecting q []) h = tt
 view-in p e (inspecting q (waiting alts env ∷ fs)) h = (h .0, h .1 .0, h .1 .1)
 view-in p e missing h = tt
@@ -112,7 +110,9 @@ view-in p e stuck h = tt
 pub answered-in : (e : Parts) (q : Question) (c k : ℕ) → at e (q .place) ≡ has c k → QuestionIn e q → StateIn e (answered q c k)
 unfolding answered partOf
 answered-in e q c k h g =
-    choose-in e (q .alternatives) c (inputParts (q .environment) (fieldsOf (q .place)) k) (q .frames) (g .1, λ n l. field-there e (q .place) c k n h l) (g .2)
+    choose-in e (q .alternatives) c (inputParts (q .environment) (fieldsOf (q .place)) k) (q .frames)
+    (g .1, λ n l. field-there e (q .place) c k n h l)
+    (g .2)
 
 answer-in : (e : Parts) (N : Next) → NextIn e N → NextIn e (answer e N)
 unfolding answer look
@@ -127,9 +127,9 @@ answer-in e (waits q) h = seen (at e (q .place)) refl
     seen (has c k) g = answered-in e q c k g h
 
 -- so a step leads from places that are there to places that are there
-pub next-in : (p : Program) (e : Parts) (s : State) → StateIn e s → NextIn e (next p e s)
+pub next-in : (p : Program) (e : Parts) (s : State) → StateIn e s → (N : Next) → next p e s ≡ N → NextIn e N
 unfolding next
-next-in p e s h = answer-in e (view p s) (view-in p e s h)
+next-in p e s h N w = subst (NextIn e) w (answer-in e (view p s) (view-in p e s h))
 
 -- the parameters are there in every input of as many parts
 pub start-in : (p : Program) (e : Parts) → width e ≡ length (sourceTypes p) → StateIn e (start p)
@@ -192,7 +192,8 @@ pub waits-look : (p : Program) (e j : Parts) (s : State) (q : Question) → next
 unfolding next answer
 waits-look p e j s q h = ap (answer j) ((answer-waits e (view p s) q h) .0)
 
-pub waits-answered : (p : Program) (e j : Parts) (s : State) (q : Question) (c k : ℕ) → next p e s ≡ waits q → at j (q .place) ≡ has c k → next p j s ≡ goes (answered q c k)
+pub waits-answered : (p : Program) (e j : Parts) (s : State) (q : Question) (c k : ℕ) → next p e s ≡ waits q → at j (q .place) ≡ has c k
+    → next p j s ≡ goes (answered q c k)
 unfolding look
 waits-answered p e j s q c k h g = waits-look p e j s q h ∙ ap (look q) g
 
@@ -201,7 +202,8 @@ pub eval-step : (p : Program) (e : Parts) (left n : ℕ) (s s′ : State) → ne
 unfolding eval conclude
 eval-step p e left n s s′ h = rw h
 
-pub eval-wait : (p : Program) (e : Parts) (left n : ℕ) (s : State) (q : Question) → next p e s ≡ waits q → eval p e (suc left) n s ≡ halted (q .place) n
+pub eval-wait : (p : Program) (e : Parts) (left n : ℕ) (s : State) (q : Question) → next p e s ≡ waits q
+    → eval p e (suc left) n s ≡ halted (q .place) n
 unfolding eval conclude
 eval-wait p e left n s q h = rw h
 
@@ -250,13 +252,14 @@ module _ (p : Program) {e j : Parts} (a : e ⊑ j) (q : Place) (m : ℕ) (f : at
   not-halted : {r : Run} {A : Type 0} → NotHalted r → r ≡ halted q m → A
   not-halted t w = absurd (subst NotHalted w t)
 
-  step-more : (left n : ℕ) (s : State) → StateIn e s → ((s′ : State) → StateIn e s′ → HaltMore left (suc n) s′) → (N : Next) → next p e s ≡ N → NextIn e N → HaltMore (suc left) n s
+  step-more : (left n : ℕ) (s : State) → StateIn e s → ((s′ : State) → StateIn e s′ → HaltMore left (suc n) s′)
+      → (N : Next) → next p e s ≡ N → HaltMore (suc left) n s
   unfolding HaltMore look
-  step-more left n s h ih demands w i g = not-halted tt (sym (eval-demands p e (suc left) n s w) ∙ g)
-  step-more left n s h ih (stops why) w i g = not-halted tt (sym (eval-stops p e (suc left) n s why w) ∙ g)
-  step-more left n s h ih (goes s′) w i g =
-      eval-step p j left n s s′ (next-more p a s h (goes s′) tt w) ∙ ih s′ i (sym (eval-step p e left n s s′ w) ∙ g)
-  step-more left n s h ih (waits r) w i g =
+  step-more left n s h ih demands w g = not-halted tt (sym (eval-demands p e (suc left) n s w) ∙ g)
+  step-more left n s h ih (stops why) w g = not-halted tt (sym (eval-stops p e (suc left) n s why w) ∙ g)
+  step-more left n s h ih (goes s′) w g =
+      eval-step p j left n s s′ (next-more p a s h (goes s′) tt w) ∙ ih s′ (next-in p e s h (goes s′) w) (sym (eval-step p e left n s s′ w) ∙ g)
+  step-more left n s h ih (waits r) w g =
       let same : halted (r .place) n ≡ halted q m = sym (eval-wait p e left n s r w) ∙ g in
       let place : r .place ≡ q = cc in
       eval-wait p j left n s r (waits-look p e j s r w ∙ ap (look r) (ap (at j) place ∙ f)) ∙ same
@@ -264,7 +267,7 @@ module _ (p : Program) {e j : Parts} (a : e ⊑ j) (q : Place) (m : ℕ) (f : at
   pub halt-more : (left n : ℕ) (s : State) → StateIn e s → eval p e left n s ≡ halted q m → eval p j left n s ≡ halted q m
   unfolding HaltMore
   halt-more zero n s h g = not-halted (unhalted p e n s (next p e s) refl) g
-  halt-more (suc left) n s h g = step-more left n s h (λ s′ i g′. halt-more left (suc n) s′ i g′) (next p e s) refl (next-in p e s h) g
+  halt-more (suc left) n s h g = step-more left n s h (λ s′ i g′. halt-more left (suc n) s′ i g′) (next p e s) refl g
 
 -- Steps spent: at most S; an unfinished run has spent them all, one that halts fewer.
 abbrev pub Spent : ℕ → Run → Type 0
@@ -279,7 +282,8 @@ spent-last p e n s (stops why) w = rw (eval-stops p e zero n s why w) (omega ari
 spent-last p e n s (goes s′) w = rw (eval-spent p e n s s′ w) (omega arith)
 spent-last p e n s (waits q) w = rw (eval-spent-wait p e e n s q w) (omega arith)
 
-spent-step : (p : Program) (e : Parts) (left n : ℕ) (s : State) → ((s′ : State) → Spent (left + suc n) (eval p e left (suc n) s′)) → (N : Next) → next p e s ≡ N → Spent (suc left + n) (eval p e (suc left) n s)
+spent-step : (p : Program) (e : Parts) (left n : ℕ) (s : State) → ((s′ : State) → Spent (left + suc n) (eval p e left (suc n) s′))
+    → (N : Next) → next p e s ≡ N → Spent (suc left + n) (eval p e (suc left) n s)
 spent-step p e left n s ih demands w = rw (eval-demands p e (suc left) n s w) (omega arith)
 spent-step p e left n s ih (stops why) w = rw (eval-stops p e (suc left) n s why w) (omega arith)
 spent-step p e left n s ih (goes s′) w =
@@ -287,9 +291,15 @@ spent-step p e left n s ih (goes s′) w =
     rw (eval-step p e left n s s′ w, z) (ih s′)
 spent-step p e left n s ih (waits q) w = rw (eval-wait p e left n s q w) (omega arith)
 
-pub steps-spent : (p : Program) (e : Parts) (left n : ℕ) (s : State) → Spent (left + n) (eval p e left n s)
+steps-spent : (p : Program) (e : Parts) (left n : ℕ) (s : State) → Spent (left + n) (eval p e left n s)
 steps-spent p e zero n s = spent-last p e n s (next p e s) refl
 steps-spent p e (suc left) n s = spent-step p e left n s (λ s′. steps-spent p e left (suc n) s′) (next p e s) refl
+
+pub run-spent : (p : Program) (e : Parts) → Spent (p .steps) (run p e)
+unfolding run
+run-spent p e =
+    let z : p .steps + 0 ≡ p .steps = omega arith in
+    subst (λ (n : ℕ). Spent n (eval p e (p .steps) 0 (start p))) z (steps-spent p e (p .steps) 0 (start p))
 
 -- A closed input never halts: it has no open part.
 closed-settled : (p : Program) (j : Parts) → Closed j → (s : State) (q : Question) → next p j s ≡ waits q → ⊥
@@ -298,12 +308,17 @@ closed-settled p j z s q w =
     let k = closed-has (⊑-refl j) z (q .place) open-there in
     free-unbound (sym open-there ∙ k .2)
 
-closed-step : (p : Program) (j : Parts) → Closed j → (left n : ℕ) (s : State) → ((s′ : State) → NotHalted (eval p j left (suc n) s′)) → (N : Next) → next p j s ≡ N → NotHalted (eval p j (suc left) n s)
+closed-step : (p : Program) (j : Parts) → Closed j → (left n : ℕ) (s : State) → ((s′ : State) → NotHalted (eval p j left (suc n) s′))
+    → (N : Next) → next p j s ≡ N → NotHalted (eval p j (suc left) n s)
 closed-step p j z left n s ih demands w = rw (eval-demands p j (suc left) n s w) tt
 closed-step p j z left n s ih (stops why) w = rw (eval-stops p j (suc left) n s why w) tt
 closed-step p j z left n s ih (goes s′) w = rw (eval-step p j left n s s′ w) (ih s′)
 closed-step p j z left n s ih (waits q) w = absurd (closed-settled p j z s q w)
 
-pub closed-ends : (p : Program) (j : Parts) → Closed j → (left n : ℕ) (s : State) → NotHalted (eval p j left n s)
+closed-ends : (p : Program) (j : Parts) → Closed j → (left n : ℕ) (s : State) → NotHalted (eval p j left n s)
 closed-ends p j z zero n s = unhalted p j n s (next p j s) refl
 closed-ends p j z (suc left) n s = closed-step p j z left n s (λ s′. closed-ends p j z left (suc n) s′) (next p j s) refl
+
+pub run-ends : (p : Program) (j : Parts) → Closed j → NotHalted (run p j)
+unfolding run
+run-ends p j z = closed-ends p j z (p .steps) 0 (start p)

@@ -1,12 +1,12 @@
 -- The table of least depths is right: an entry above 0 is the depth of the shallowest closed value of its type, and a type with entry 0
 -- has no closed value. As many rounds as there are types are enough.
--- Rests on Types and Parts.
+-- Rests on Types and Parts of specs/.
 use Prim.Native.Nat.{ℕ, zero, suc, _+_, _-_, _≤_, _<_, zero-le}
 use native.Mathlib.Nat.{le-refl, le-trans, le-suc, zero-add, suc-add, sub-add-cancel}
 use native.Mathlib.Omega.{arith}
 use mathlib.Core.Path.{_≡_, refl, sym, ap, _∙_}
 use mathlib.Core.Logic.{_⊎_, inl, inr, ⊎-elim}
-use mathlib.Core.Bool.{Bool, true, false, _&&_, _||_, false≢true, or-true, and-eq-true-iff}
+use mathlib.Core.Bool.{Bool, true, false, _&&_, _||_, false≢true, and-true, or-true, and-eq-true-iff}
 use mathlib.Core.Option.{some}
 use mathlib.Core.List.{List, [], _∷_, zipWith}
 use lib.ListN.{length, getD, getElem?, replicate, length-replicate}
@@ -16,6 +16,7 @@ use Rattle.reach.specs.Base.{pick}
 use Rattle.reach.specs.Syntax.{Types, fieldTypes}
 use Rattle.reach.specs.Parts.{Parts, end, opened, bound, Closed, depth}
 use Rattle.reach.specs.Types.{Typed, ValueOf, LeastDepth, known, inhabited, round, rounds, leastDepths, shallow}
+use Rattle.reach.proofs.Base.{picked}
 
 -- ---- lists and choices
 
@@ -38,14 +39,6 @@ getD-zeros : (n t : ℕ) → getD {A = ℕ} (replicate n 0) t 0 ≡ 0
 getD-zeros zero t = refl
 getD-zeros (suc n) zero = refl
 getD-zeros (suc n) (suc t) = getD-zeros n t
-
-pick-le : {a b d : ℕ} (test : Bool) → a ≤ d → b ≤ d → pick test a b ≤ d
-pick-le true h k = h
-pick-le false h k = k
-
-and-true : (b : Bool) → (b && true) ≡ b
-and-true true = refl
-and-true false = refl
 
 -- ---- one round
 
@@ -97,7 +90,7 @@ settled-or-grows p d (cs ∷ types) (suc old ∷ table) e = go (settled-or-grows
 -- ---- tests on rows of types
 
 -- the first type of a shallow row has a number that is at most d, and the rest of the row is shallow
-shallow-head : (table : List ℕ) (d t : ℕ) (ts : List ℕ) → shallow table d (t ∷ ts) ≡ true
+pub shallow-head : (table : List ℕ) (d t : ℕ) (ts : List ℕ) → shallow table d (t ∷ ts) ≡ true
     → (e : ℕ) × (getD table t 0 ≡ suc e) × (suc e ≤ d) × (shallow table d ts ≡ true)
 unfolding shallow
 shallow-head table d t ts h = go (getD table t 0) h
@@ -108,7 +101,7 @@ shallow-head table d t ts h = go (getD table t 0) h
         let both = and-eq-true-iff _ _ .0 k in
         (e, refl, leb-true (suc e) d (and-eq-true-iff (ltb 0 (suc e)) _ .0 (both .0) .1), both .1)
 
-shallow-cons : (table : List ℕ) (d t e : ℕ) (ts : List ℕ) → getD table t 0 ≡ suc e → suc e ≤ d → shallow table d ts ≡ true
+pub shallow-cons : (table : List ℕ) (d t e : ℕ) (ts : List ℕ) → getD table t 0 ≡ suc e → suc e ≤ d → shallow table d ts ≡ true
     → shallow table d (t ∷ ts) ≡ true
 unfolding shallow
 shallow-cons table d t e ts q h rest = rw (q, lt-ltb 0 (suc e) (omega arith), le-leb (suc e) d h) rest
@@ -167,7 +160,9 @@ module _ (types : Types) where
   entry-bound zero t = rw no-round zero-le
   entry-bound (suc d) t =
       let before = le-trans (entry-bound d t) (le-suc d) in
-      rw one-round (pick-le (ltb 0 (getD (rounds types d) t 0)) before (pick-le (inhabited (rounds types d) (getD types t [])) (le-refl _) zero-le))
+      let few : ℕ → Type 0 = λ n. n ≤ suc d in
+      let now = picked few (inhabited (rounds types d) (getD types t [])) (λ filled. le-refl _) (λ empty. zero-le) in
+      rw one-round (picked few (ltb 0 (getD (rounds types d) t 0)) (λ old. before) (λ new. now))
 
   -- a number, once given, stays
   kept : (d t e : ℕ) → getD (rounds types d) t 0 ≡ suc e → getD (rounds types (suc d)) t 0 ≡ suc e

@@ -1,3 +1,5 @@
+-- What is proved of the definitions, each file behind those that it rests on. Demands is the one to read first.
+pub mod Base
 pub mod Order
 pub mod Completing
 pub mod LeastDepths
@@ -14,4 +16,5 @@ pub mod Answers
 pub mod WellTyped
 pub mod NeverStuck
 pub mod Encoding
+pub mod Accepted
 pub mod Demands

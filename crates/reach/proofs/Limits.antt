@@ -1,13 +1,12 @@
 -- What an accepted file keeps to: the limits of 01, no type without a closed value, and parameters that fit the depth.
 -- Each reader promises a fact of whatever it finds; the promises are joined along the reader's own text.
--- Rests on Reader, RuleFile and Answers.
+-- Rests on Reader, RuleFile and Answers of specs/.
 use Prim.Native.Nat.{ℕ, zero, suc, pred, _≤_, zero-le, suc-le-suc}
 use mathlib.Core.Path.{_≡_, refl, subst}
-use mathlib.Core.Bool.{Bool, true, false, _&&_}
+use mathlib.Core.Bool.{Bool, true, _&&_, and-eq-true-iff}
 use mathlib.Core.List.{List, [], _∷_}
 use mathlib.Core.Option.{Option, none, some}
 use native.Mathlib.Nat.{le-trans}
-use native.Mathlib.Omega.{arith}
 use lib.ListN.{length, getD, getElem?}
 use lib.Dec.{leb}
 use borrow.Author.Tests.{leb-true}
@@ -17,74 +16,61 @@ use Rattle.reach.specs.Limits.{typeLimit, constructorLimit, fieldLimit, 
 use Rattle.reach.specs.Syntax.{Function, Program, fieldTypes, functionAt, parametersOf, sourceTypes}
 use Rattle.reach.specs.Types.{leastDepths}
 use Rattle.reach.specs.Reader.{Got, got, refused, onGot, Reader, _>>=_, _>>_, give, refuse, demand, byte, word, times, passed, atEnd}
-use Rattle.reach.specs.RuleFile.{Mark, TY, FN, GO, other, onMark, mark, counted, constructorRecord, typeRecord, Head, functionRecord, Goal, goalRecord, moreTypes, moreFunctions, Outline, outline, numbersExist, bodyOf, functionsOf, programOf, noEmptyType, deepEnough, sizeInLimit, ruleFile}
+use Rattle.reach.specs.RuleFile.{Mark, TY, FN, GO, other, onMark, mark, counted, constructorRecord, typeRecord, Head, functionRecord, Goal, goalRecord}
+use Rattle.reach.specs.RuleFile.{moreTypes, moreFunctions, Outline, outline, numbersExist, bodyOf, functionsOf, programOf, noEmptyType, deepEnough, sizeInLimit, ruleFile}
 use Rattle.reach.specs.Answers.{accepted, turnedBack, check}
-
-pub clash : _≡_ {A = ℕ} 0 1 → ⊥
-clash e = omega arith
-
--- the fact holds of each element of the list
-abbrev pub Each : {A : Type 0} → (A → Type 0) → List A → Type 0
-Each P [] = Unit {0}
-Each P (x ∷ xs) = P x × Each P xs
-
-each-getD : {A : Type 0} (P : A → Type 0) (xs : List A) (i : ℕ) (d : A) → Each P xs → P d → P (getD xs i d)
-each-getD P [] i d all default = default
-each-getD P (x ∷ xs) zero d all default = all .0
-each-getD P (x ∷ xs) (suc i) d all default = each-getD P xs i d (all .1) default
-
-each-getElem? : {A : Type 0} (P : A → Type 0) (xs : List A) (i : ℕ) (x : A) → Each P xs → getElem? xs i ≡ some x → P x
-each-getElem? P [] i x all e = absurd (clash (cc))
-each-getElem? P (y ∷ xs) zero x all e = let z : y ≡ x = cc in subst P z (all .0)
-each-getElem? P (y ∷ xs) (suc i) x all e = each-getElem? P xs i x (all .1) e
+use Rattle.reach.proofs.Base.{clash, picked, nth-member, Each, each-member, each-getD}
 
 -- the fact holds of the value that was found and of the place behind it, if one was
-abbrev pub Finds : {A : Type 0} → (A → ℕ → Type 0) → Got A → Type 0
-Finds P (got a next) = P a next
-Finds P (refused why) = Unit {0}
+abbrev pub IfFound : {A : Type 0} → (A → ℕ → Type 0) → Got A → Type 0
+IfFound P (got a next) = P a next
+IfFound P (refused why) = Unit {0}
 
 -- what holds of whatever is found after each thing that the first reader may find
-pub finds-then :
+pub if-found-then :
     {A B : Type 0} (P : A → ℕ → Type 0) (Q : B → ℕ → Type 0) (f : A → ℕ → Got B) (g : Got A)
-    → Finds P g → ((a : A) (next : ℕ) → P a next → Finds Q (f a next)) → Finds Q (onGot f (λ why. refused why) g)
-finds-then P Q f (got a next) h after = after a next h
-finds-then P Q f (refused why) h after = tt
+    → IfFound P g → ((a : A) (next : ℕ) → P a next → IfFound Q (f a next)) → IfFound Q (onGot f (λ why. refused why) g)
+if-found-then P Q f (got a next) h after = after a next h
+if-found-then P Q f (refused why) h after = tt
 
 -- whatever the reader finds, the fact holds of it
 record Promises {A : Type 0} (P : A → Type 0) (m : Reader A) : Type 0 where
-  finds : (s : List ℕ) (i : ℕ) → Finds (λ a next. P a) (m s i)
+  found : (s : List ℕ) (i : ℕ) → IfFound (λ a next. P a) (m s i)
 
 giving : {A : Type 0} {P : A → Type 0} {a : A} → P a → Promises P (give a)
-giving h = record { finds = λ s i. h }
+giving h = record { found = λ s i. h }
 
 refusing : {A : Type 0} {P : A → Type 0} {why : Refusal} → Promises P (refuse why)
-refusing = record { finds = λ s i. tt }
+refusing = record { found = λ s i. tt }
 
 -- a test that was demanded has passed
 demanding : (test : Bool) (why : Refusal) → Promises (λ u. test ≡ true) (demand test why)
-demanding true why = record { finds = λ s i. refl }
-demanding false why = record { finds = λ s i. tt }
+demanding test why = record { found = λ s i. picked (IfFound (λ u next. test ≡ true)) test (λ passed. passed) (λ failed. tt) }
 
 -- the promise of less
 weakened : {A : Type 0} {P Q : A → Type 0} {m : Reader A} → ((a : A) → P a → Q a) → Promises P m → Promises Q m
-weakened {A} {P} {Q} {m} less whole = record { finds = λ s i. go (m s i) (whole .finds s i) }
+weakened {A} {P} {Q} {m} less whole = record { found = λ s i. go (m s i) (whole .found s i) }
   where
-    go : (g : Got A) → Finds (λ a next. P a) g → Finds (λ a next. Q a) g
+    go : (g : Got A) → IfFound (λ a next. P a) g → IfFound (λ a next. Q a) g
     go (got a next) h = less a h
     go (refused why) h = tt
 
 -- nothing is asked of what a reader finds
 anything : {A : Type 0} (m : Reader A) → Promises (λ a. Unit {0}) m
-anything {A} m = record { finds = λ s i. go (m s i) }
+anything {A} m = record { found = λ s i. go (m s i) }
   where
-    go : (g : Got A) → Finds (λ a next. Unit {0}) g
+    go : (g : Got A) → IfFound (λ a next. Unit {0}) g
     go (got a next) = tt
     go (refused why) = tt
 
 module _ {A B : Type 0} {P : A → Type 0} {Q : B → Type 0} {m : Reader A} where
   -- one reader and then another promise what the second promises of every value that the first may find
   then : {f : A → Reader B} → Promises P m → ((a : A) → P a → Promises Q (f a)) → Promises Q (m >>= f)
-  then {f} first second = record { finds = λ s i. finds-then (λ a next. P a) (λ b next. Q b) (λ a. f a s) (m s i) (first .finds s i) (λ a next h. (second a h) .finds s next) }
+  then {f} first second =
+      record {
+        found = λ s i.
+            if-found-then (λ a next. P a) (λ b next. Q b) (λ a. f a s) (m s i) (first .found s i) (λ a next h. (second a h) .found s next);
+      }
 
   then-on : {f : Reader B} → Promises P m → ((a : A) → P a → Promises Q f) → Promises Q (m >> f)
   then-on {f} first second = then {f = λ a. f} first second
@@ -96,15 +82,12 @@ timed zero each = giving (zero-le, tt)
 timed (suc n) each = then each (λ a h. then (timed n each) (λ xs hs. giving (suc-le-suc (hs .0), (h, hs .1))))
 
 -- a promise for each mark that may be met
-marked : {A : Type 0} {P : A → Type 0} {ty fn go wrong : Reader A} → Promises P ty → Promises P fn → Promises P go → Promises P wrong → (m : Mark) → Promises P (onMark ty fn go wrong m)
+marked : {A : Type 0} {P : A → Type 0} {ty fn go wrong : Reader A} → Promises P ty → Promises P fn → Promises P go → Promises P wrong
+    → (m : Mark) → Promises P (onMark ty fn go wrong m)
 marked a b c d TY = a
 marked a b c d FN = b
 marked a b c d GO = c
 marked a b c d other = d
-
-both-true : (a b : Bool) → (a && b) ≡ true → (a ≡ true) × (b ≡ true)
-both-true true b e = (refl, e)
-both-true false b e = (e, cc)
 
 -- a count is within its bounds
 counting : (least most : ℕ) → Promises (λ n. (least ≤ n) × (n ≤ most)) (counted least most)
@@ -112,7 +95,7 @@ unfolding counted
 counting least most =
     then (anything byte)
     (λ n h. then-on (demanding _ _)
-    (λ u t. let both = both-true (leb least n) (leb n most) t in giving (leb-true least n (both .0), leb-true n most (both .1))))
+    (λ u t. let both = and-eq-true-iff (leb least n) (leb n most) .0 t in giving (leb-true least n (both .0), leb-true n most (both .1))))
 
 -- a constructor within the limits
 abbrev ConstructorKept : List ℕ → Type 0
@@ -123,7 +106,8 @@ abbrev TypeKept : List (List ℕ) → Type 0
 TypeKept cs = (length cs ≤ constructorLimit) × Each ConstructorKept cs
 
 -- a count within the limit, then so many of them
-counted-kept : {A : Type 0} {P : A → Type 0} {m : Reader A} (least most : ℕ) → Promises P m → Promises (λ xs. (length xs ≤ most) × Each P xs) (counted least most >>= λ n. times n m)
+counted-kept : {A : Type 0} {P : A → Type 0} {m : Reader A} (least most : ℕ) → Promises P m
+    → Promises (λ xs. (length xs ≤ most) × Each P xs) (counted least most >>= λ n. times n m)
 counted-kept least most each = then (counting least most) (λ n h. weakened (λ xs hs. (le-trans (hs .0) (h .1), hs .1)) (timed n each))
 
 constructor-kept : Promises ConstructorKept constructorRecord
@@ -198,14 +182,21 @@ outline-kept =
     (λ f k. then (more-functions (pred functionLimit))
     (λ fs ks. then goal-kept
     (λ g l. then-on (anything (atEnd TrailingBytes))
-    (λ x y. giving (record { types-count = suc-le-suc (hs .0); types-kept = (h, hs .1); heads-count = suc-le-suc (ks .0); heads-kept = (k, ks .1); goal = l }))))))))
+    (λ x y. giving (record {
+      types-count = suc-le-suc (hs .0);
+      types-kept = (h, hs .1);
+      heads-count = suc-le-suc (ks .0);
+      heads-kept = (k, ks .1);
+      goal = l;
+    }))))))))
 
 -- a function within the limits
 abbrev FunctionKept : Function → Type 0
 FunctionKept f = length (f .parameters) ≤ parameterLimit
 
 -- the functions are no more than the heads, and have their parameters
-functions-kept : (o : Outline) (hs : List Head) → Each HeadKept hs → Promises (λ fs. (length fs ≤ length hs) × Each FunctionKept fs) (functionsOf o hs)
+functions-kept : (o : Outline) (hs : List Head) → Each HeadKept hs
+    → Promises (λ fs. (length fs ≤ length hs) × Each FunctionKept fs) (functionsOf o hs)
 unfolding functionsOf
 functions-kept o [] all = giving (zero-le, tt)
 functions-kept o (h ∷ hs) all =
@@ -225,9 +216,10 @@ pub record Kept (p : Program) : Type 0 where
   pub no-empty : noEmptyType (leastDepths (p .types)) ≡ true
   pub deep-enough : deepEnough p ≡ true
 
-parameters-of : (f : Option Function) (fs : List Function) (i : ℕ) → getElem? fs i ≡ f → Each FunctionKept fs → length (parametersOf f) ≤ parameterLimit
+parameters-of : (f : Option Function) (fs : List Function) (i : ℕ) → getElem? fs i ≡ f → Each FunctionKept fs
+    → length (parametersOf f) ≤ parameterLimit
 parameters-of none fs i e all = zero-le
-parameters-of (some f) fs i e all = each-getElem? FunctionKept fs i f all e
+parameters-of (some f) fs i e all = each-member FunctionKept all (nth-member fs i f e)
 
 program-kept :
     (o : Outline) (fs : List Function) → OutlineKept o → length fs ≤ length (o .heads) → Each FunctionKept fs
@@ -237,7 +229,7 @@ program-kept o fs kept few all filled deep =
     record {
       types-limit = kept .types-count;
       constructors-limit = λ t. (type-at t) .0;
-      fields-limit = λ t c us e. each-getElem? ConstructorKept (getD (o .types) t []) c us ((type-at t) .1) e;
+      fields-limit = λ t c us e. each-member ConstructorKept ((type-at t) .1) (nth-member (getD (o .types) t []) c us e);
       functions-limit = le-trans few (kept .heads-count);
       parameters-limit = parameters-of (getElem? fs (o .goal .source)) fs (o .goal .source) refl all;
       depth-limit = (kept .goal .0, kept .goal .1);
@@ -260,11 +252,11 @@ file-kept =
     (λ x filled. then-on (demanding (deepEnough (programOf o fs)) DepthTooSmall)
     (λ y deep. giving (program-kept o fs kept (ks .0) (ks .1) filled deep)))))))
 
-accepting : (g : Got Program) (p : Program) → Finds (λ q next. Kept q) g → onGot (λ p next. accepted p) turnedBack g ≡ accepted p → Kept p
+accepting : (g : Got Program) (p : Program) → IfFound (λ q next. Kept q) g → onGot (λ p next. accepted p) turnedBack g ≡ accepted p → Kept p
 accepting (got q next) p kept e = let z : q ≡ p = cc in subst Kept z kept
 accepting (refused why) p kept e = absurd (clash (cc))
 
 -- an accepted file is within the limits of 01, and its types have values that fit
 pub accepted-keeps : (file : List ℕ) (p : Program) → check file ≡ accepted p → Kept p
 unfolding check
-accepted-keeps file p e = accepting (ruleFile file 0) p (file-kept .finds file 0) e
+accepted-keeps file p e = accepting (ruleFile file 0) p (file-kept .found file 0) e

@@ -5,20 +5,17 @@ use Prim.Native.Nat.{ℕ, _+_, _-_, _≤_, _<_}
 use native.Mathlib.Omega.{arith}
 use mathlib.Core.Path.{_≡_, refl, ap, subst}
 use mathlib.Core.Logic.{_⊎_, inl, inr, ⊎-elim, _↔_}
-use mathlib.Core.Bool.{Bool, true, false}
+use mathlib.Core.Bool.{true, false}
 use mathlib.Core.List.{List, [], _∷_, _++_, flatMap, List·Memᴰ·head, List·Memᴰ·tail, List·Memᴰ·cases-cons, List·Memᴰ·not-nil}
 use lib.ListN.{length, length-append}
 use lib.Dec.{leb}
 use borrow.Author.Tests.{leb-true, leb-false}
 use Rattle.reach.specs.declared.Verdict.{Verdict}
 use Rattle.reach.specs.declared.Verdict.the-variants.{Found, Undecided, None}
-use Rattle.reach.specs.Base.{_∈_, pick}
+use Rattle.reach.specs.Base.{_∈_}
 use Rattle.reach.specs.Search.{Kind, RE, UN, Entry, withEntry, verdict}
 use Rattle.reach.specs.Lists.{entryBytes, listBytes, Cut, keep, cut}
-
--- two constructors that would be equal make 0 equal to 1
-clash : _≡_ {A = ℕ} 0 1 → ⊥
-clash e = omega arith
+use Rattle.reach.proofs.Base.{clash, picked}
 
 -- the bytes that an entry fills, and those that a list fills
 abbrev size : Entry → ℕ
@@ -45,13 +42,10 @@ unfolding cut
 at-none P room h = h
 
 -- and a first entry is kept where it fits the room, and ends the list where it does not
-at-first : (P : Cut → Type 0) (room : ℕ) (e : Entry) (es : List Entry) → (size e ≤ room → P (keep e (cut (room - size e) es))) → (room < size e → P stopped) → P (cut room (e ∷ es))
+at-first : (P : Cut → Type 0) (room : ℕ) (e : Entry) (es : List Entry) → (size e ≤ room → P (keep e (cut (room - size e) es)))
+    → (room < size e → P stopped) → P (cut room (e ∷ es))
 unfolding cut
-at-first P room e es fits over = go (leb (size e) room) refl
-  where
-    go : (b : Bool) → leb (size e) room ≡ b → P (pick b (keep e (cut (room - size e) es)) stopped)
-    go true t = fits (leb-true _ _ t)
-    go false t = over (leb-false _ _ t)
+at-first P room e es fits over = picked P (leb (size e) room) (λ t. fits (leb-true _ _ t)) (λ t. over (leb-false _ _ t))
 
 -- every entry that is kept was in the list
 pub kept-member : (room : ℕ) (es : List Entry) (e : Entry) → e ∈ (cut room es) .kept → e ∈ es
@@ -91,7 +85,8 @@ cut-short room (x ∷ es) =
     (λ fits f.
     let c = cut (room - size x) es in
     let h = cut-short (room - size x) es f in
-    (h .0, h .1, ap {B = List Entry} (λ r. x ∷ r) (h .2), omega (arith, h .3, sizes-more x (c .kept)), omega (arith, h .4, sizes-more x (c .kept ++ (h .0 ∷ [])))))
+    let longer = sizes-more x (c .kept ++ (h .0 ∷ [])) in
+    (h .0, h .1, ap {B = List Entry} (λ r. x ∷ r) (h .2), omega (arith, h .3, sizes-more x (c .kept)), omega (arith, h .4, longer)))
     (λ over f. (x, es, refl, omega (arith, sizes-none), omega (arith, sizes-more x [])))
 
 -- an entry of this kind is among them
@@ -115,8 +110,11 @@ pub found-exactly : (es : List Entry) → (verdict es ≡ Found) ↔ Holds RE es
 unfolding verdict
 found-exactly [] = (λ v. absurd (clash (cc)), λ h. absurd (List·Memᴰ·not-nil (h .1)))
 found-exactly (x ∷ es) = (
-  λ v. ⊎-elim (λ k. (x, List·Memᴰ·head refl, k)) (λ later. let h = (found-exactly es) .0 later in (h .0, List·Memᴰ·tail (h .1), h .2)) ((found-by (x .kind) (verdict es)) .0 v),
-  λ h. (found-by (x .kind) (verdict es)) .1 (⊎-elim (λ same. inl (cc)) (λ m. inr ((found-exactly es) .1 (h .0, m, h .2))) (List·Memᴰ·cases-cons (h .1))),
+  λ v. ⊎-elim (λ k. (x, List·Memᴰ·head refl, k))
+      (λ later. let h = (found-exactly es) .0 later in (h .0, List·Memᴰ·tail (h .1), h .2))
+      ((found-by (x .kind) (verdict es)) .0 v),
+  λ h. (found-by (x .kind) (verdict es)) .1
+      (⊎-elim (λ same. inl (cc)) (λ m. inr ((found-exactly es) .1 (h .0, m, h .2))) (List·Memᴰ·cases-cons (h .1))),
 )
   where
     found-by : (k : Kind) (later : Verdict) → (withEntry k later ≡ Found) ↔ ((k ≡ RE) ⊎ (later ≡ Found))

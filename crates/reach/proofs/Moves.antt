@@ -55,12 +55,15 @@ module _ (p : Program) (table : List ℕ) where
   pathMoves zero input s = 0
   pathMoves (suc left) input s =
       countNext (λ s′. suc (pathMoves left input s′))
-      (λ q. total (λ (f : Fork). suc (pathMoves left (bindAt (q .place) (f .constructor) (f .fields) input) (answered q (f .constructor) (f .fields)))) (branches p table input q))
+      (λ q. total
+      (λ (f : Fork). suc (pathMoves left (bindAt (q .place) (f .constructor) (f .fields) input) (answered q (f .constructor) (f .fields))))
+      (branches p table input q))
       (next p input s)
 
   -- the entries that choice points owe, the last first: those of its untried constructors, in order
   unfoldable pub choicesOwed : List Choice → List Entry
-  choicesOwed cs = flatMap (λ (c : Choice). flatMap (λ (f : Fork). search p table (c .left) (c .done) (inputBehind c f) (stateBehind c f)) (c .untried)) cs
+  choicesOwed cs =
+      flatMap (λ (c : Choice). flatMap (λ (f : Fork). search p table (c .left) (c .done) (inputBehind c f) (stateBehind c f)) (c .untried)) cs
 
   -- the moves that choice points owe: for each untried constructor the one that takes it, and those that follow
   unfoldable pub choicesMoves : List Choice → ℕ
@@ -112,7 +115,8 @@ module _ (p : Program) (table : List ℕ) where
       → Adds cs es (arrive p table left n input s cs es) (search p table left n input s) (pathMoves left input s)
   unfolding arrive search pathMoves choicesOwed choicesMoves owed owedFrom owedMoves owedMovesFrom flatMap total
   arrive-adds zero n input s cs es =
-      rw (← count-none (next p input s)) (settle-adds _ _ _ _ _ _ n input cs es (λ s′. (append-assoc es _ _, omega arith)) (λ q. (append-assoc es _ _, omega arith)) (next p input s))
+      rw (← count-none (next p input s))
+      (settle-adds _ _ _ _ _ _ n input cs es (λ s′. (append-assoc es _ _, omega arith)) (λ q. (append-assoc es _ _, omega arith)) (next p input s))
   arrive-adds (suc left) n input s cs es = settle-adds _ _ _ _ _ _ n input cs es (λ s′. (refl, refl)) (λ q. (refl, refl)) (next p input s)
 
   -- behind the end of a path: the entries are kept, and one of the moves that the choice points owe is made, if there is one
@@ -137,7 +141,8 @@ module _ (p : Program) (table : List ℕ) where
   unfolding move moveFrom owed owedFrom owedMoves owedMovesFrom
   move-holds w = from (w .position)
     where
-      from : (x : Position) → Holds (moveFrom p table x (w .choices) (w .listed)) (w .listed ++ owedFrom x (w .choices)) (pred (owedMovesFrom x (w .choices)))
+      from : (x : Position)
+          → Holds (moveFrom p table x (w .choices) (w .listed)) (w .listed ++ owedFrom x (w .choices)) (pred (owedMovesFrom x (w .choices)))
       from (on g) =
           let a = arrive-adds (g .left) (g .done) (g .input) (g .state) (w .choices) (w .listed) in
           (a .0, a .1 ∙ omega arith)

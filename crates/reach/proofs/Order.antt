@@ -4,7 +4,8 @@ use Prim.Native.Nat.{ℕ, zero, suc, _<_}
 use mathlib.Core.Path.{_≡_, refl, sym, _∙_, ap, subst}
 use mathlib.Core.Logic.{_⊎_, inl, inr}
 use native.Mathlib.Nat.{le-of-suc-le-suc, not-suc-le-zero}
-use Rattle.reach.specs.Parts.{Parts, end, opened, bound, width, allOpen, Place, here, after, inside, part, within, Seen, gone, free, has, at, bindAt, openAt, Closed, _⊑_, ⊑-end, ⊑-open, ⊑-bind, ⊑-same}
+use Rattle.reach.specs.Parts.{Parts, end, opened, bound, width, allOpen, Place, here, after, inside, part, within}
+use Rattle.reach.specs.Parts.{Seen, gone, free, has, at, bindAt, openAt, Closed, _⊑_, ⊑-end, ⊑-open, ⊑-bind, ⊑-same}
 
 -- something stands at a place; a constructor does; which one, with how many fields
 abbrev pub There : Seen → Type 0
@@ -151,7 +152,8 @@ bind-below (⊑-open a) here h = absurd (free-unbound h)
 bind-below (⊑-open a) (after q) h = ⊑-open (bind-below a q h)
 bind-below (⊑-open a) (inside q) h = ⊑-open a
 bind-below (⊑-bind {r = r} {s = s} {gs = gs} {d = d} a) here {c} {k} h =
-    subst (λ (m : ℕ). bound m (allOpen k) r ⊑ bound d gs s) (ap constructorOf h) (⊑-same (subst (λ (m : ℕ). allOpen m ⊑ gs) (ap arityOf h) (open-least gs)) a)
+    let fields = subst (λ (m : ℕ). allOpen m ⊑ gs) (ap arityOf h) (open-least gs) in
+    subst (λ (m : ℕ). bound m (allOpen k) r ⊑ bound d gs s) (ap constructorOf h) (⊑-same fields a)
 bind-below (⊑-bind a) (after q) h = ⊑-bind (bind-below a q h)
 bind-below (⊑-bind a) (inside q) h = ⊑-bind a
 bind-below (⊑-same f a) here h = ⊑-same f a

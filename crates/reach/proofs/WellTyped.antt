@@ -1,6 +1,6 @@
 -- Accepted files are well typed: a typing of expressions, and the theorem that in an accepted program every number names something
 -- and every function's body has the result type, with the parameters in view.
--- Rests on Syntax, Reader, RuleFile and Answers, and on Finds of Limits.
+-- Rests on Syntax, Reader, RuleFile and Answers, and on IfFound of Limits.
 use Prim.Native.Nat.{ℕ, zero, suc, _+_, _<_, suc-le-suc, zero-le}
 use mathlib.Core.Path.{_≡_, refl, sym, _∙_, ap, subst}
 use mathlib.Core.Bool.{Bool, true, false, _&&_, and-eq-true-iff}
@@ -20,7 +20,8 @@ use Rattle.reach.specs.Types.{leastDepths}
 use Rattle.reach.specs.Reader.{Got, got, refused, onGot, Reader, demand, byte, atEnd}
 use Rattle.reach.specs.RuleFile.{Head, Outline, outline, allBelow, constructorsExist, typesExist, headsExist, numbersExist, Below, operandsOf, alternatives, inLimits, variableExpr, callOf, callExpr, constructOf, constructExpr, caseOf, caseExpr, letExpr, targetExpr, expressionBy, expression, bodyOf, functionsOf, programOf, noEmptyType, deepEnough, sizeInLimit, ruleFile}
 use Rattle.reach.specs.Answers.{accepted, turnedBack, check}
-use Rattle.reach.proofs.Limits.{clash, Each, Finds, finds-then}
+use Rattle.reach.proofs.Base.{clash, Each}
+use Rattle.reach.proofs.Limits.{IfFound, if-found-then}
 
 -- What a call has to know of a function.
 pub record Signature : Type 0 where
@@ -104,20 +105,20 @@ at-cons P x xs h hs (suc n) y e = hs n y e
 -- What holds of whatever is found: behind a reader of which nothing is asked, behind a test that was demanded, and by one of two readers.
 
 after-any :
-    {A B : Type 0} (Q : B → ℕ → Type 0) (f : A → ℕ → Got B) (g : Got A) → ((a : A) (next : ℕ) → Finds Q (f a next))
-    → Finds Q (onGot f (λ why. refused why) g)
+    {A B : Type 0} (Q : B → ℕ → Type 0) (f : A → ℕ → Got B) (g : Got A) → ((a : A) (next : ℕ) → IfFound Q (f a next))
+    → IfFound Q (onGot f (λ why. refused why) g)
 after-any Q f (got a next) later = later a next
 after-any Q f (refused why) later = tt
 
 after-test :
     {B : Type 0} (Q : B → ℕ → Type 0) (f : Unit {0} → ℕ → Got B) (test : Bool) (why : Refusal) (s : List ℕ) (i : ℕ)
-    → (test ≡ true → Finds Q (f tt i)) → Finds Q (onGot f (λ why. refused why) (demand test why s i))
+    → (test ≡ true → IfFound Q (f tt i)) → IfFound Q (onGot f (λ why. refused why) (demand test why s i))
 after-test Q f true why s i later = later refl
 after-test Q f false why s i later = tt
 
 either :
-    {A : Type 0} (Q : A → ℕ → Type 0) (test : Bool) (m n : Reader A) (s : List ℕ) (i : ℕ) → Finds Q (m s i) → Finds Q (n s i)
-    → Finds Q (pick test m n s i)
+    {A : Type 0} (Q : A → ℕ → Type 0) (test : Bool) (m n : Reader A) (s : List ℕ) (i : ℕ) → IfFound Q (m s i) → IfFound Q (n s i)
+    → IfFound Q (pick test m n s i)
 either Q true m n s i x y = x
 either Q false m n s i x y = y
 
@@ -132,36 +133,36 @@ module _ (o : Outline) where
 
   -- whatever the reader of expressions finds has the type expected of it
   abbrev FindsTyped : Below → Type 0
-  FindsTyped sub = (view : List ℕ) (t : ℕ) (s : List ℕ) (i : ℕ) → Finds (λ e next. HasType (o .types) headSignatures e view t) (sub view t s i)
+  FindsTyped sub = (view : List ℕ) (t : ℕ) (s : List ℕ) (i : ℕ) → IfFound (λ e next. HasType (o .types) headSignatures e view t) (sub view t s i)
 
   module _ (sub : Below) (below : FindsTyped sub) where
-    operands-typed : (view ts s : List ℕ) (i : ℕ) → Finds (λ es next. HaveTypes (o .types) headSignatures es view ts) (operandsOf sub view ts s i)
+    operands-typed : (view ts s : List ℕ) (i : ℕ) → IfFound (λ es next. HaveTypes (o .types) headSignatures es view ts) (operandsOf sub view ts s i)
     unfolding operandsOf
     operands-typed view [] s i = tt
     operands-typed view (t ∷ ts) s i =
-        finds-then _ _ _ (sub view t s i) (below view t s i)
-        (λ e k h. finds-then _ _ _ (operandsOf sub view ts s k) (operands-typed view ts s k)
+        if-found-then _ _ _ (sub view t s i) (below view t s i)
+        (λ e k h. if-found-then _ _ _ (operandsOf sub view ts s k) (operands-typed view ts s k)
         (λ es l hs. (h, hs)))
 
     alternatives-typed :
         (view : List ℕ) (t : ℕ) (cs : List (List ℕ)) (s : List ℕ) (i : ℕ)
-        → Finds (λ alts next. Covers (o .types) headSignatures alts view cs t) (alternatives sub view t cs s i)
+        → IfFound (λ alts next. Covers (o .types) headSignatures alts view cs t) (alternatives sub view t cs s i)
     unfolding alternatives
     alternatives-typed view t [] s i = tt
     alternatives-typed view t (us ∷ cs) s i =
         after-any _ _ (byte s i)
         (λ b k. after-test _ _ (leb b 1) UnknownCode s k
         (λ u. either _ (eqb b 0) _ _ s k
-        (finds-then _ _ _ (alternatives sub view t cs s k) (alternatives-typed view t cs s k) (λ alts l hs. hs))
-        (finds-then _ _ _ (sub (view ++ us) t s k) (below (view ++ us) t s k)
-        (λ e l h. finds-then _ _ _ (alternatives sub view t cs s l) (alternatives-typed view t cs s l) (λ alts m hs. (h, hs))))))
+        (if-found-then _ _ _ (alternatives sub view t cs s k) (alternatives-typed view t cs s k) (λ alts l hs. hs))
+        (if-found-then _ _ _ (sub (view ++ us) t s k) (below (view ++ us) t s k)
+        (λ e l h. if-found-then _ _ _ (alternatives sub view t cs s l) (alternatives-typed view t cs s l) (λ alts m hs. (h, hs))))))
 
     -- each kind of expression, whatever the nesting
     module _ (nested : Bool) (view : List ℕ) (t : ℕ) where
       abbrev Expected : Expr → ℕ → Type 0
       Expected e next = HasType (o .types) headSignatures e view t
 
-      variable-typed : (s : List ℕ) (i : ℕ) → Finds Expected (variableExpr o nested sub view t s i)
+      variable-typed : (s : List ℕ) (i : ℕ) → IfFound Expected (variableExpr o nested sub view t s i)
       unfolding variableExpr
       variable-typed s i =
           after-any _ _ (byte s i)
@@ -173,61 +174,61 @@ module _ (o : Outline) where
           typed : (n : ℕ) → (x : ℕ) × (getElem? view n ≡ some x) → getD view n 0 ≡ t → getElem? view n ≡ some t
           typed n found same = let z = (at-getD view n 0 (found .0) (found .1)) .1 in found .1 ∙ ap some (sym z ∙ same)
 
-      call-typed : (s : List ℕ) (i : ℕ) → Finds Expected (callExpr o nested sub view t s i)
+      call-typed : (s : List ℕ) (i : ℕ) → IfFound Expected (callExpr o nested sub view t s i)
       unfolding callExpr callOf
       call-typed s i = after-any _ _ (byte s i) (λ f k. by-head f (getElem? (o .heads) f) refl k)
         where
-          by-head : (f : ℕ) (h : Option Head) → getElem? (o .heads) f ≡ h → (k : ℕ) → Finds Expected (callOf o nested sub view t f h s k)
+          by-head : (f : ℕ) (h : Option Head) → getElem? (o .heads) f ≡ h → (k : ℕ) → IfFound Expected (callOf o nested sub view t f h s k)
           by-head f none g k = tt
           by-head f (some h) g k =
               after-any _ _ (inLimits nested view s k)
               (λ u l. after-test _ _ (eqb (h .result) t) TypeMismatch s l
-              (λ same. finds-then _ _ _ (operandsOf sub view (h .parameters) s l) (operands-typed view (h .parameters) s l)
+              (λ same. if-found-then _ _ _ (operandsOf sub view (h .parameters) s l) (operands-typed view (h .parameters) s l)
               (λ es m hs. (headSignature h, at-map headSignature (o .heads) f h g, eqb-true (h .result) t same, hs))))
 
-      construct-typed : (s : List ℕ) (i : ℕ) → Finds Expected (constructExpr o nested sub view t s i)
+      construct-typed : (s : List ℕ) (i : ℕ) → IfFound Expected (constructExpr o nested sub view t s i)
       unfolding constructExpr constructOf
       construct-typed s i = after-any _ _ (byte s i) (λ u k. after-any _ _ (byte s k) (λ c l. by-fields u c (fieldTypes (o .types) u c) refl l))
         where
-          by-fields : (u c : ℕ) (us : Option (List ℕ)) → fieldTypes (o .types) u c ≡ us → (k : ℕ) → Finds Expected (constructOf o nested sub view t u c us s k)
+          by-fields : (u c : ℕ) (us : Option (List ℕ)) → fieldTypes (o .types) u c ≡ us → (k : ℕ) → IfFound Expected (constructOf o nested sub view t u c us s k)
           by-fields u c none g k = tt
           by-fields u c (some us) g k =
               after-any _ _ (inLimits nested view s k)
               (λ v l. after-test _ _ (eqb u t) TypeMismatch s l
-              (λ same. finds-then _ _ _ (operandsOf sub view us s l) (operands-typed view us s l)
+              (λ same. if-found-then _ _ _ (operandsOf sub view us s l) (operands-typed view us s l)
               (λ es m hs. (us, g, eqb-true u t same, hs))))
 
-      case-typed : (s : List ℕ) (i : ℕ) → Finds Expected (caseExpr o nested sub view t s i)
+      case-typed : (s : List ℕ) (i : ℕ) → IfFound Expected (caseExpr o nested sub view t s i)
       unfolding caseExpr caseOf
       case-typed s i = after-any _ _ (byte s i) (λ u k. by-type u (getElem? (o .types) u) refl k)
         where
-          by-type : (u : ℕ) (cs : Option (List (List ℕ))) → getElem? (o .types) u ≡ cs → (k : ℕ) → Finds Expected (caseOf o nested sub view t u cs s k)
+          by-type : (u : ℕ) (cs : Option (List (List ℕ))) → getElem? (o .types) u ≡ cs → (k : ℕ) → IfFound Expected (caseOf o nested sub view t u cs s k)
           by-type u none g k = tt
           by-type u (some cs) g k =
               let there = at-getD (o .types) u [] cs g in
               after-any _ _ (inLimits nested view s k)
-              (λ v l. finds-then _ _ _ (sub view u s l) (below view u s l)
-              (λ e m h. finds-then _ _ _ (alternatives sub view t cs s m) (alternatives-typed view t cs s m)
+              (λ v l. if-found-then _ _ _ (sub view u s l) (below view u s l)
+              (λ e m h. if-found-then _ _ _ (alternatives sub view t cs s m) (alternatives-typed view t cs s m)
               (λ alts n hs. (there .0, h, rw (there .1) hs))))
 
-      let-typed : (s : List ℕ) (i : ℕ) → Finds Expected (letExpr o nested sub view t s i)
+      let-typed : (s : List ℕ) (i : ℕ) → IfFound Expected (letExpr o nested sub view t s i)
       unfolding letExpr
       let-typed s i =
           after-any _ _ (byte s i)
           (λ u k. after-test _ _ (ltb u (length (o .types))) UnknownNumber s k
           (λ there. after-any _ _ (inLimits nested view s k)
-          (λ v l. finds-then _ _ _ (sub view u s l) (below view u s l)
-          (λ e m h. finds-then _ _ _ (sub (view ++ (u ∷ [])) t s m) (below (view ++ (u ∷ [])) t s m)
+          (λ v l. if-found-then _ _ _ (sub view u s l) (below view u s l)
+          (λ e m h. if-found-then _ _ _ (sub (view ++ (u ∷ [])) t s m) (below (view ++ (u ∷ [])) t s m)
           (λ b n g. (ltb-true u (length (o .types)) there, h, g))))))
 
-      target-typed : (s : List ℕ) (i : ℕ) → Finds Expected (targetExpr o nested sub view t s i)
+      target-typed : (s : List ℕ) (i : ℕ) → IfFound Expected (targetExpr o nested sub view t s i)
       unfolding targetExpr
       target-typed s i =
           after-any _ _ (byte s i)
           (λ l k. after-any _ _ (inLimits nested view s k)
-          (λ u m. finds-then _ _ _ (sub view t s m) (below view t s m) (λ e n h. h)))
+          (λ u m. if-found-then _ _ _ (sub view t s m) (below view t s m) (λ e n h. h)))
 
-      by-typed : (s : List ℕ) (i : ℕ) → Finds Expected (expressionBy o nested sub view t s i)
+      by-typed : (s : List ℕ) (i : ℕ) → IfFound Expected (expressionBy o nested sub view t s i)
       unfolding expressionBy
       by-typed s i =
           after-any _ _ (byte s i)
@@ -302,22 +303,22 @@ module _ (o : Outline) where
   abbrev AllTyped : List Function → Type 0
   AllTyped fs = (f : ℕ) (g : Function) → getElem? fs f ≡ some g → FunctionTyped (o .types) (headSignatures o) g
 
-  body-typed : (h : Head) (s : List ℕ) → Finds (λ e next. HasType (o .types) (headSignatures o) e (h .parameters) (h .result)) (bodyOf o h s)
+  body-typed : (h : Head) (s : List ℕ) → IfFound (λ e next. HasType (o .types) (headSignatures o) e (h .parameters) (h .result)) (bodyOf o h s)
   unfolding bodyOf
   body-typed h s =
       let inside = take (h .body + h .size) s in
-      finds-then _ _ _ (expression o nestingLimit (h .parameters) (h .result) inside (h .body)) (expression-typed o nestingLimit (h .parameters) (h .result) inside (h .body))
+      if-found-then _ _ _ (expression o nestingLimit (h .parameters) (h .result) inside (h .body)) (expression-typed o nestingLimit (h .parameters) (h .result) inside (h .body))
       (λ e k typed. after-any _ _ (atEnd TrailingBytes inside k) (λ u l. typed))
 
   -- the functions have the heads' signatures, and bodies of their types
   functions-read :
       (hs : List Head) → Each (HeadExists (o .types)) hs → (s : List ℕ) (i : ℕ)
-      → Finds (λ fs next. (map signatureOf fs ≡ map headSignature hs) × AllTyped fs) (functionsOf o hs s i)
+      → IfFound (λ fs next. (map signatureOf fs ≡ map headSignature hs) × AllTyped fs) (functionsOf o hs s i)
   unfolding functionsOf
   functions-read [] all s i = (refl, λ f g e. absurd (clash (cc)))
   functions-read (h ∷ hs) all s i =
-      finds-then _ _ _ (bodyOf o h s) (body-typed h s)
-      (λ e k typed. finds-then _ _ _ (functionsOf o hs s k) (functions-read hs (all .1) s k)
+      if-found-then _ _ _ (bodyOf o h s) (body-typed h s)
+      (λ e k typed. if-found-then _ _ _ (functionsOf o hs s k) (functions-read hs (all .1) s k)
       (λ fs l rest. (ap (_∷_ (headSignature h)) (rest .0), at-cons (FunctionTyped (o .types) (headSignatures o)) _ fs (all .0 .0, all .0 .1, typed) (rest .1))))
 
   program-typed :
@@ -331,18 +332,18 @@ module _ (o : Outline) where
         source-exists = omega (arith, exists .2, length-map fs signatureOf, length-map (o .heads) headSignature, ap length same);
       }
 
-file-typed : (s : List ℕ) (i : ℕ) → Finds (λ p next. WellTyped p) (ruleFile s i)
+file-typed : (s : List ℕ) (i : ℕ) → IfFound (λ p next. WellTyped p) (ruleFile s i)
 unfolding ruleFile
 file-typed s i =
     after-any _ _ (sizeInLimit s i)
     (λ u k. after-any _ _ (outline s k)
     (λ o l. after-test _ _ (numbersExist o) UnknownNumber s l
-    (λ exist. finds-then _ _ _ (functionsOf o (o .heads) s l) (functions-read o (o .heads) ((numbers-exist o exist) .1) s l)
+    (λ exist. if-found-then _ _ _ (functionsOf o (o .heads) s l) (functions-read o (o .heads) ((numbers-exist o exist) .1) s l)
     (λ fs m read. after-any _ _ (demand (noEmptyType (leastDepths (o .types))) EmptyType s m)
     (λ v h. after-any _ _ (demand (deepEnough (programOf o fs)) DepthTooSmall s h)
     (λ w j. program-typed o fs exist (read .0) (read .1)))))))
 
-accepting : (g : Got Program) (p : Program) → Finds (λ q next. WellTyped q) g → onGot (λ p next. accepted p) turnedBack g ≡ accepted p → WellTyped p
+accepting : (g : Got Program) (p : Program) → IfFound (λ q next. WellTyped q) g → onGot (λ p next. accepted p) turnedBack g ≡ accepted p → WellTyped p
 accepting (got q next) p typed e = let z : q ≡ p = cc in subst WellTyped z typed
 accepting (refused why) p typed e = absurd (clash (cc))
 

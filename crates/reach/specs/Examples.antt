@@ -1,15 +1,17 @@
 -- The starred examples of 01 as one table. The checker computes each row from the bytes of P, with its label, D and S changed, and finds what
--- stands beside it: the lines of the list and the verdict, or the end of a closed run. A second table has what P cannot show: a missing
--- alternative.
+-- stands beside it: the lines of the list and the verdict, or the end of a closed run. A second table has what P cannot show, a missing
+-- alternative, and a third P in buffers that are just long enough and one too short.
 -- Rests on the definitions alone.
-use Prim.Native.Nat.{ℕ}
+use Prim.Native.Nat.{ℕ, _+_, _*_}
 use mathlib.Core.Path.{_≡_, refl}
 use mathlib.Core.List
 use mathlib.Core.List.{List, [], _∷_, map}
-use mathlib.Core.Option.{Option, some}
+use mathlib.Core.Option.{Option, none, some, Option·map}
+use Rattle.reach.specs.declared.Refusal.the-variants.{WorkTooShort}
 use Rattle.reach.specs.declared.Verdict.{Verdict}
 use Rattle.reach.specs.declared.Verdict.the-variants.{Found, Undecided, None}
 use Rattle.reach.specs.declared.Outcome.the-variants.{Reached, Ended, Unfinished}
+use Rattle.reach.specs.Words.{numberOf}
 use Rattle.reach.specs.Syntax
 use Rattle.reach.specs.Parts
 use Rattle.reach.specs.Parts.{prefix}
@@ -23,7 +25,7 @@ use Rattle.reach.specs.Input
 use Rattle.reach.specs.Lists
 use Rattle.reach.specs.Lists.{listBytes}
 use Rattle.reach.specs.Answers
-use Rattle.reach.specs.Answers.{RunAnswer, ran, searchAnswer, listed, verdictOf, runAnswer}
+use Rattle.reach.specs.Answers.{RunAnswer, noRun, ran, searchAnswer, listed, refusalOf, verdictOf, runAnswer}
 
 -- P with this label, D and S; P itself has 7, 4 and 20. (S is below 256.)
 abbrev pub p-with : ℕ → ℕ → ℕ → List ℕ
@@ -38,25 +40,45 @@ Line = Kind × ℕ × List ℕ
 abbrev pub shown : Entry → Line
 shown e = (e .kind, e .steps, prefix (e .input))
 
--- What a row asks: the search of a file, the bytes of its list, or the closed run of a file on an input.
+-- What a row asks: the search of a file, the bytes of its list, or the closed run of a file on an input; and, where the buffers are not those
+-- of `reachlist`, with which.
 pub data Asked : Type 0 where
   search-of : List ℕ → Asked
   bytes-of : List ℕ → Asked
   run-of : List ℕ → List ℕ → Asked
+  -- with a work slice of so many words
+  _with-work_ : Asked → ℕ → Asked
+  -- with a list slice of so many bytes
+  _with-list_ : Asked → ℕ → Asked
 
--- What stands beside it: lines with the verdict, bytes, or the answer of the run.
+infixl 80 _with-work_
+infixl 80 _with-list_
+-- What stands beside it: of a search the lines of its list, with its verdict, or with the number of its refusal and no verdict; bytes; or the
+-- answer of the run.
 pub data Answer : Type 0 where
-  lists : List Line → Option Verdict → Answer
+  searched : List Line → Option Verdict → Option ℕ → Answer
   bytes : List ℕ → Answer
   answers : RunAnswer → Answer
 
--- what the definitions give, with the buffers of `reachlist`: a work slice of 16,384 words, a list slice of 32,768 bytes
+abbrev pub lists : List Line → Verdict → Answer
+lists lines v = searched lines (some v) none
+
+abbrev pub refused : ℕ → List Line → Answer
+refused number lines = searched lines none (some number)
+
+-- what the definitions give, with a work slice of so many words and a list slice of so many bytes
+abbrev pub given : ℕ → ℕ → Asked → Answer
+given work list (search-of file) =
+    let a = searchAnswer file work list in
+    searched (map shown (listed a)) (verdictOf a) (Option·map numberOf (refusalOf a))
+given work list (bytes-of file) = bytes (listBytes (listed (searchAnswer file work list)))
+given work list (run-of file input) = answers (runAnswer file input work)
+given work list (a with-work n) = given n list a
+given work list (a with-list n) = given work n a
+
+-- with the buffers of `reachlist`, but for those that the row states
 abbrev pub computed : Asked → Answer
-computed (search-of file) =
-    let a = searchAnswer file 16384 32768 in
-    lists (map shown (listed a)) (verdictOf a)
-computed (bytes-of file) = bytes (listBytes (listed (searchAnswer file 16384 32768)))
-computed (run-of file input) = answers (runAnswer file input 16384)
+computed a = given 16384 32768 a
 
 pub record Row : Type 0 where
   pub asked : Asked
@@ -83,16 +105,16 @@ abbrev ○ : ℕ
 -- 01's table, row by row: P with its label, D and S, and what the row says; at the end the bytes of P's own list
 abbrev pub starred : List Row
 starred =
-    search-of (p-with 7 4 20) ⇒ lists (reach 6 (1 ∷ 1 ∷ ○ ∷ []) ∷ []) (some Found)
-    ∷ search-of (p-with 7 3 20) ⇒ lists (reach 6 (1 ∷ 1 ∷ ○ ∷ []) ∷ []) (some Found)
-    ∷ search-of (p-with 7 4 6) ⇒ lists (reach 6 (1 ∷ 1 ∷ ○ ∷ []) ∷ []) (some Found)
-    ∷ search-of (p-with 7 2 20) ⇒ lists [] (some None)
-    ∷ search-of (p-with 7 1 20) ⇒ lists [] (some None)
-    ∷ search-of (p-with 7 4 5) ⇒ lists (unfinished 5 (1 ∷ ○ ∷ []) ∷ []) (some Undecided)
-    ∷ search-of (p-with 7 4 2) ⇒ lists (unfinished 2 (○ ∷ []) ∷ []) (some Undecided)
-    ∷ search-of (p-with 7 4 0) ⇒ lists (unfinished 0 (○ ∷ []) ∷ []) (some Undecided)
-    ∷ search-of (p-with 8 4 6) ⇒ lists (unfinished 6 (1 ∷ 1 ∷ ○ ∷ []) ∷ []) (some Undecided)
-    ∷ search-of (p-with 8 4 7) ⇒ lists [] (some None)
+    search-of (p-with 7 4 20) ⇒ lists (reach 6 (1 ∷ 1 ∷ ○ ∷ []) ∷ []) Found
+    ∷ search-of (p-with 7 3 20) ⇒ lists (reach 6 (1 ∷ 1 ∷ ○ ∷ []) ∷ []) Found
+    ∷ search-of (p-with 7 4 6) ⇒ lists (reach 6 (1 ∷ 1 ∷ ○ ∷ []) ∷ []) Found
+    ∷ search-of (p-with 7 2 20) ⇒ lists [] None
+    ∷ search-of (p-with 7 1 20) ⇒ lists [] None
+    ∷ search-of (p-with 7 4 5) ⇒ lists (unfinished 5 (1 ∷ ○ ∷ []) ∷ []) Undecided
+    ∷ search-of (p-with 7 4 2) ⇒ lists (unfinished 2 (○ ∷ []) ∷ []) Undecided
+    ∷ search-of (p-with 7 4 0) ⇒ lists (unfinished 0 (○ ∷ []) ∷ []) Undecided
+    ∷ search-of (p-with 8 4 6) ⇒ lists (unfinished 6 (1 ∷ 1 ∷ ○ ∷ []) ∷ []) Undecided
+    ∷ search-of (p-with 8 4 7) ⇒ lists [] None
     ∷ run-of (p-with 7 4 20) (0 ∷ []) ⇒ answers (ran (Ended 3))
     ∷ run-of (p-with 7 4 20) (1 ∷ 1 ∷ 0 ∷ []) ⇒ answers (ran (Reached 6))
     ∷ bytes-of (p-with 7 4 20) ⇒ bytes (0x52 ∷ 0x45 ∷ 0x06 ∷ 0x00 ∷ 0x03 ∷ 0x00 ∷ 0x01 ∷ 0x01 ∷ 0xff ∷ [])
@@ -106,10 +128,21 @@ lacking s =
 
 abbrev pub at-missing : List Row
 at-missing =
-    search-of (lacking 1) ⇒ lists (unfinished 1 (○ ∷ []) ∷ []) (some Undecided)
-    ∷ search-of (lacking 2) ⇒ lists [] (some None)
+    search-of (lacking 1) ⇒ lists (unfinished 1 (○ ∷ []) ∷ []) Undecided
+    ∷ search-of (lacking 2) ⇒ lists [] None
     ∷ run-of (lacking 1) (0 ∷ []) ⇒ answers (ran (Unfinished 1))
     ∷ run-of (lacking 2) (0 ∷ []) ⇒ answers (ran (Ended 2))
+    ∷ []
+
+-- P's list has 9 bytes, and its S of 20 asks for 2,304 words: with one less the search is refused, and a closed run too
+abbrev pub rooms : List Row
+rooms =
+    search-of (p-with 7 4 20) with-list 9 ⇒ lists (reach 6 (1 ∷ 1 ∷ ○ ∷ []) ∷ []) Found
+    ∷ search-of (p-with 7 4 20) with-list 8 ⇒ refused 12 []
+    ∷ search-of (p-with 7 4 20) with-work (64 * 20 + 1024) ⇒ lists (reach 6 (1 ∷ 1 ∷ ○ ∷ []) ∷ []) Found
+    ∷ search-of (p-with 7 4 20) with-work (64 * 20 + 1023) ⇒ refused 11 []
+    ∷ run-of (p-with 7 4 20) (0 ∷ []) with-work (64 * 20 + 1024) ⇒ answers (ran (Ended 3))
+    ∷ run-of (p-with 7 4 20) (0 ∷ []) with-work (64 * 20 + 1023) ⇒ answers (noRun WorkTooShort)
     ∷ []
 
 -- all the definitions that an answer is made of: to unfold this is to unfold them
@@ -131,7 +164,7 @@ unfolding
     RuleFile.deepEnough RuleFile.sizeInLimit RuleFile.ruleFile
     Input.rowBy Input.row Input.inputOf
     Lists.wordBytes Lists.kindBytes Lists.entryBytes Lists.listBytes Lists.cut Lists.roomOf
-    Answers.check Answers.cutAnswer Answers.searchChecked Answers.searchAnswer Answers.listed Answers.verdictOf Answers.outcomeOf
+    Answers.check Answers.cutAnswer Answers.searchChecked Answers.searchAnswer Answers.listed Answers.refusalOf Answers.verdictOf Answers.outcomeOf
     Answers.runInput Answers.runChecked Answers.runAnswer
     List.flatMap List.zipWith
 definitions = tt
@@ -145,3 +178,8 @@ examples = refl
 pub missing-alternative : AsExpected at-missing
 unfolding definitions
 missing-alternative = refl
+
+-- a buffer that is just long enough is enough, and one that is one too short is refused
+pub just-enough : AsExpected rooms
+unfolding definitions
+just-enough = refl
