@@ -1,13 +1,16 @@
 // The least depth of each type, that of its shallowest closed value, in an array of 32 numbers by value: filled round by round
-// until a round changes nothing. 0 stands for a type without a closed value. Rests on crate records.
+// until a round changes nothing. 0 stands for a type without a closed value. `types` holds the places of the types' records. Rests on crate
+// records; the proofs rest on the rows of crate numbers, too.
 ghost use mathlib.Core.Path.{_≡_};
 ghost use mathlib.Core.List.{map};
-ghost use Prim.Native.Nat.{ℕ, _≤_};
-ghost use lib.ListN.{length, getD};
-ghost use Rattle.reach.specs.Types.{known, inhabited, round, leastDepths, shallow};
+ghost use Prim.Native.Nat.{_≤_};
+ghost use lib.ListN.{length, getD, take};
+ghost use lib.Dec.{ltb};
+ghost use Rattle.reach.specs.Base.{pick};
+ghost use Rattle.reach.specs.Types.{known, inhabited, leastDepths, shallow};
 ghost use Rattle.reach.specs.RuleFile.{noEmptyType};
 ghost use Rattle.reach.specs.Places.{bytesAt, constructorsAt, typeAt};
-ghost use Rattle.depths.specs.Table.{padded};
+ghost use Rattle.depths.specs.Table.{padded, RoundsMade, RoundMade};
 use records::byte_or_zero;
 
 // The least depths, by type number.
@@ -57,35 +60,61 @@ pub fn is_inhabited(s: &[u8], at: usize, n: usize, table: Depths) -> bool
     false
 }
 
-// The table after round d.
-pub fn next_round<'a>(s: &'a [u8], type_at: &'a [u16], d: u8, old: Depths) -> Depths
-    requires { ⌜ length (now type_at) ≤ 32 ⌝ }
-    ensures { λ r. ⌜ Rattle.depths.specs.Table.Renewed (now (s .entry)) (now (type_at .entry)) d (old .of) (r .of) ⌝ }
+// The number of the type at a place after round d: the number that it had, or else d if the type is inhabited by the table.
+fn renewed(s: &[u8], place: usize, number: u8, d: u8, table: Depths) -> u8
+    requires { ⌜ place ≤ 65535 ⌝ }
+    ensures { λ r. ⌜ r ≡ pick (ltb 0 number) number (pick (inhabited (table .of) (typeAt (now (s .entry)) place)) d 0) ⌝ }
 {
-    let mut new = old;
-    let mut t: usize = 0;
-    while t < type_at.len() {
-        let place = type_at[t] as usize;
-        if new.of[t] == 0 {
-            if is_inhabited(s, place + 1, byte_or_zero(s, place), old) {
-                new.of[t] = d;
-            }
-        }
-        t += 1;
+    if 0 < number {
+        return number;
     }
-    new
+    if is_inhabited(s, place + 1, byte_or_zero(s, place), table) {
+        return d;
+    }
+    0
 }
 
-pub fn least_depths<'a>(s: &'a [u8], type_at: &'a [u16]) -> Depths
-    requires { ⌜ length (now type_at) ≤ 32 ⌝ }
-    ensures { λ r. ⌜ r .of ≡ padded (leastDepths (map (typeAt (now (s .entry))) (now (type_at .entry)))) ⌝ }
+// A table after a round, and whether the round changed it.
+pub struct Round {
+    pub table: Depths,
+    pub changed: bool,
+}
+
+// The round after so many rounds.
+pub fn next_round<'a>(s: &'a [u8], types: &'a [u16], made: u8, old: Depths) -> Round
+    requires { ⌜ RoundsMade (now s) (now types) made (old .of) ⌝ }
+    ensures { λ r. ⌜ RoundMade (now (s .entry)) (now (types .entry)) made (old .of) (r .table .of) (r .changed) ⌝ }
+{
+    let mut table = old;
+    let mut changed = false;
+    let mut t: usize = 0;
+    while t < types.len() {
+        let number = old.of[t];
+        let after = renewed(s, types[t] as usize, number, made + 1, old);
+        table.of[t] = after;
+        t += 1;
+        if number != after {
+            changed = true;
+        }
+    }
+    Round { table, changed }
+}
+
+// Round by round, until one changes nothing. As many rounds as there are types are enough.
+pub fn least_depths<'a>(s: &'a [u8], types: &'a [u16]) -> Depths
+    requires { ⌜ length (now types) ≤ 32 ⌝ }
+    ensures { λ r. ⌜ r .of ≡ padded (leastDepths (map (typeAt (now (s .entry))) (now (types .entry)))) ⌝ }
 {
     let mut table = Depths { of: [0; 32] };
-    let mut d: u8 = 0;
-    while (d as usize) < type_at.len() {
-        d += 1;
-        let next = next_round(s, type_at, d, table);
-        table = next;
+    let mut made: u8 = 0;
+    while (made as usize) < types.len() {
+        let next = next_round(s, types, made, table);
+        if !next.changed {
+            return table;
+        }
+        let after = next.table;
+        table = after;
+        made += 1;
     }
     table
 }
@@ -93,7 +122,7 @@ pub fn least_depths<'a>(s: &'a [u8], type_at: &'a [u16]) -> Depths
 // Every type has a closed value.
 pub fn none_empty(table: Depths, types: usize) -> bool
     requires { ⌜ types ≤ 32 ⌝ }
-    ensures { λ r. ⌜ r ≡ noEmptyType (lib.ListN.take types (table .of)) ⌝ }
+    ensures { λ r. ⌜ r ≡ noEmptyType (take types (table .of)) ⌝ }
 {
     let mut t: usize = 0;
     while t < types {

@@ -1,9 +1,8 @@
 // The second pass over a rule file: the type and function numbers in TY, FN heads and GO all exist. The records are looked at
-// where the first pass found them. Rests on crate records.
+// where the first pass found them: `types` and `functions` hold the places behind the marks. Rests on crate records.
 ghost use mathlib.Core.Path.{_≡_};
-ghost use Prim.Native.Nat.{ℕ, _≤_};
+ghost use Prim.Native.Nat.{_≤_};
 ghost use mathlib.Core.List.{map};
-ghost use lib.ListN.{length};
 ghost use Rattle.reach.specs.RuleFile.{allBelow, constructorsExist, typesExist, headsExist, numbersExist};
 ghost use Rattle.reach.specs.Places.{bytesAt, constructorsAt, typeAt, headAt, outlineAt};
 use records::byte_or_zero;
@@ -44,12 +43,12 @@ pub fn constructors_exist(s: &[u8], at: usize, n: usize, limit: usize) -> bool
 }
 
 // The field types of all types exist.
-pub fn types_exist<'a>(s: &'a [u8], type_at: &'a [u16], limit: usize) -> bool
-    ensures { λ r. ⌜ r ≡ typesExist limit (map (typeAt (now (s .entry))) (now (type_at .entry))) ⌝ }
+pub fn types_exist<'a>(s: &'a [u8], types: &'a [u16], limit: usize) -> bool
+    ensures { λ r. ⌜ r ≡ typesExist limit (map (typeAt (now (s .entry))) (now (types .entry))) ⌝ }
 {
     let mut t: usize = 0;
-    while t < type_at.len() {
-        let place = type_at[t] as usize;
+    while t < types.len() {
+        let place = types[t] as usize;
         if !constructors_exist(s, place + 1, byte_or_zero(s, place), limit) {
             return false;
         }
@@ -59,12 +58,12 @@ pub fn types_exist<'a>(s: &'a [u8], type_at: &'a [u16], limit: usize) -> bool
 }
 
 // The parameter and result types of all functions exist.
-pub fn heads_exist<'a>(s: &'a [u8], function_at: &'a [u16], limit: usize) -> bool
-    ensures { λ r. ⌜ r ≡ headsExist limit (map (headAt (now (s .entry))) (now (function_at .entry))) ⌝ }
+pub fn heads_exist<'a>(s: &'a [u8], functions: &'a [u16], limit: usize) -> bool
+    ensures { λ r. ⌜ r ≡ headsExist limit (map (headAt (now (s .entry))) (now (functions .entry))) ⌝ }
 {
     let mut f: usize = 0;
-    while f < function_at.len() {
-        let place = function_at[f] as usize;
+    while f < functions.len() {
+        let place = functions[f] as usize;
         let parameters = byte_or_zero(s, place);
         if !all_below(s, place + 1, parameters, limit) {
             return false;
@@ -77,19 +76,15 @@ pub fn heads_exist<'a>(s: &'a [u8], function_at: &'a [u16], limit: usize) -> boo
     true
 }
 
-pub fn numbers_exist<'a>(
-    s: &'a [u8],
-    type_at: &'a [u16],
-    function_at: &'a [u16],
-    goal_at: usize,
-) -> bool
-    ensures { λ r. ⌜ r ≡ numbersExist (outlineAt (now (s .entry)) (now (type_at .entry)) (now (function_at .entry)) goal_at) ⌝ }
+// All of these, and the function of the goal.
+pub fn numbers_exist<'a>(s: &'a [u8], types: &'a [u16], functions: &'a [u16], goal: usize) -> bool
+    ensures { λ r. ⌜ r ≡ numbersExist (outlineAt (now (s .entry)) (now (types .entry)) (now (functions .entry)) goal) ⌝ }
 {
-    if !types_exist(s, type_at, type_at.len()) {
+    if !types_exist(s, types, types.len()) {
         return false;
     }
-    if !heads_exist(s, function_at, type_at.len()) {
+    if !heads_exist(s, functions, types.len()) {
         return false;
     }
-    byte_or_zero(s, goal_at) < function_at.len()
+    byte_or_zero(s, goal) < functions.len()
 }

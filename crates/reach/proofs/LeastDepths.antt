@@ -1,5 +1,5 @@
 -- The table of least depths is right: an entry above 0 is the depth of the shallowest closed value of its type, and a type with entry 0
--- has no closed value. As many rounds as there are types are enough.
+-- has no closed value. As many rounds as there are types are enough, and so are those before a round that changes nothing.
 -- Rests on Types and Parts of specs/.
 use Prim.Native.Nat.{ℕ, zero, suc, _+_, _-_, _≤_, _<_, zero-le}
 use native.Mathlib.Nat.{le-refl, le-trans, le-suc, zero-add, suc-add, sub-add-cancel}
@@ -139,7 +139,7 @@ module _ (types : Types) where
   -- ---- the entries, round by round
 
   -- a table has an entry for each type
-  rounds-length : (d : ℕ) → length (rounds types d) ≡ length types
+  pub rounds-length : (d : ℕ) → length (rounds types d) ≡ length types
   unfolding rounds round
   rounds-length zero = length-replicate (length types) 0
   rounds-length (suc d) = length-zipWith (renewed (inhabited (rounds types d)) (suc d)) types (rounds types d) (sym (rounds-length d))
@@ -150,7 +150,7 @@ module _ (types : Types) where
   no-round t = getD-zeros (length types) t
 
   -- what one round does to an entry
-  one-round : (d t : ℕ)
+  pub one-round : (d t : ℕ)
       → getD (rounds types (suc d)) t 0 ≡ renewed (inhabited (rounds types d)) (suc d) (getD types t []) (getD (rounds types d) t 0)
   unfolding rounds round inhabited
   one-round d t = getD-zipWith (renewed (inhabited (rounds types d)) (suc d)) types (rounds types d) t [] 0 (sym (rounds-length d))
@@ -277,6 +277,19 @@ module _ (types : Types) where
   -- as many rounds as there are types are enough
   pub rounds-enough : (k : ℕ) → length types ≤ k → rounds types k ≡ leastDepths types
   rounds-enough k h = rw (sub-add-cancel h) at (rounds-end (k - length types))
+
+  -- a table that no round changes stays
+  fixed-later : (k : ℕ) → Fixed k → (j : ℕ) → rounds types (j + k) ≡ rounds types k
+  unfolding rounds
+  fixed-later k fixed zero = rw zero-add
+  fixed-later k fixed (suc j) = rw (suc-add, fixed-later k fixed j) (fixed _)
+
+  -- the rounds before one that changes nothing are enough
+  pub rounds-settled : (k : ℕ) → rounds types (suc k) ≡ rounds types k → rounds types k ≡ leastDepths types
+  rounds-settled k same =
+      ⊎-elim (λ fixed. sym (fixed-later k fixed (length types)) ∙ rounds-enough (length types + k) (omega arith))
+      (λ more. absurd (omega (arith, ap positive same)))
+      (fixed-or-more k)
 
   -- ---- the table of least depths
 

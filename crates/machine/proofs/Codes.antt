@@ -1,0 +1,258 @@
+-- What stands in the file, as the steps read it: the bytes of each kind of expression and the places of its parts, the operand of a number and
+-- the alternative of a constructor, found by passing over what stands before them.
+-- Rests on specs/Records and on reach's Encoding.
+use Prim.Native.Nat.{ℕ, zero, suc, _+_, _-_, _≤_, _<_}
+use mathlib.Core.Path.{_≡_, refl, subst}
+use mathlib.Core.List.{List, append-nil}
+use mathlib.Core.Option.{some}
+use native.Mathlib.Omega.{arith}
+use lib.ListN.{length, getD, drop}
+use borrow.Author.Tests.{lt-ltb}
+use Rattle.reach.specs.Limits.{nestingLimit}
+use Rattle.reach.specs.Syntax.{Expr, variable, call, construct, case, bind, target, Exprs, []ₑ, _∷ₑ_, nthExpr, Alternatives, no-more, absent, present, Function}
+use Rattle.reach.specs.Reader.{got, byte}
+use Rattle.reach.specs.RuleFile.{Head, Outline}
+use Rattle.reach.specs.Encoding.{encode, ByteAt, countAlternatives, nesting, skippedAll, skippedAlternatives, skipped}
+use Rattle.reach.specs.Eval.{Env, Frame, State, evaluating, missing, stuck, choose}
+use Rattle.reach.proofs.Limits.{clash}
+use Rattle.reach.proofs.Encoding.{stands-variable, stands-call, stands-construct, stands-case, stands-let, stands-target, stands-next, stands-absent, stands-present, skipped-finds, BodyAt}
+use Rattle.machine.specs.Records.{Code, CodeAll, CodeAlternatives}
+
+byte-there : (s : List ℕ) (i b : ℕ) → ByteAt s i b → byte s i ≡ got b (i + 1)
+unfolding byte
+byte-there s i b there = let z : i + 1 ≡ suc i = omega arith in rw (lt-ltb i (length s) (there .0), there .1, z)
+
+-- the kinds of expression, by the code that is their first byte
+pub data Coded : ℕ → Expr → Type 0 where
+  a-variable : {n : ℕ} → Coded 0 (variable n)
+  a-call : {f : ℕ} {es : Exprs} → Coded 1 (call f es)
+  a-construct : {t c : ℕ} {es : Exprs} → Coded 2 (construct t c es)
+  a-case : {t : ℕ} {e : Expr} {alts : Alternatives} → Coded 3 (case t e alts)
+  a-let : {t : ℕ} {e b : Expr} → Coded 4 (bind t e b)
+  a-target : {l : ℕ} {e : Expr} → Coded 5 (target l e)
+
+pub coded-known : (k : ℕ) (e : Expr) → Coded k e → k ≤ 5
+coded-known k e a-variable = omega arith
+coded-known k e a-call = omega arith
+coded-known k e a-construct = omega arith
+coded-known k e a-case = omega arith
+coded-known k e a-let = omega arith
+coded-known k e a-target = omega arith
+
+module _ (file : List ℕ) (o : Outline) where
+  -- passing over the expression at i leads to next
+  abbrev pub Behind : ℕ → ℕ → Type 0
+  Behind i next = skipped o nestingLimit file i ≡ got tt next
+
+  -- the place behind an expression is found by passing over it
+  pub code-behind : (i : ℕ) (e : Expr) → Code file o i e → Behind i (i + length (encode e))
+  code-behind i e code = skipped-finds o nestingLimit file i e (code .1) (code .0) (code .2)
+
+  -- so what holds of the place behind it holds of the place that was found
+  found-behind : (P : ℕ → Type 0) (i : ℕ) (e : Expr) → Code file o i e → P (i + length (encode e)) → (next : ℕ) → Behind i next → P next
+  found-behind P i e code h next passed = subst P (cc (code-behind i e code)) h
+
+  -- the body of a function
+  pub code-body : (h : Head) (g : Function) → BodyAt o file h g → Code file o (h .body) (g .body)
+  code-body h g at = ((drop (h .body + h .size) file, at .stands), at .arity, at .nests)
+
+  -- Each kind of expression, at i.
+  module _ (i : ℕ) where
+    pub code-variable : (n : ℕ) → Code file o i (variable n) → ByteAt file i 0 × ByteAt file (i + 1) n
+    code-variable n code = stands-variable file i n (code .0)
+
+    pub code-call : (f : ℕ) (es : Exprs) → Code file o i (call f es) → ByteAt file i 1 × ByteAt file (i + 1) f × CodeAll file o (i + 2) es
+    unfolding nesting
+    code-call f es code =
+        let at = stands-call file i f es (code .0) in
+        (at .0, at .1, (at .2, code .1 .3, omega (arith, code .2)))
+
+    pub code-construct :
+        (t c : ℕ) (es : Exprs) → Code file o i (construct t c es)
+        → ByteAt file i 2 × ByteAt file (i + 1) t × ByteAt file (i + 2) c × CodeAll file o (i + 3) es
+    unfolding nesting
+    code-construct t c es code =
+        let at = stands-construct file i t c es (code .0) in
+        (at .0, at .1, at .2, (at .3, code .1 .3, omega (arith, code .2)))
+
+    pub code-case :
+        (t : ℕ) (e : Expr) (alts : Alternatives) → Code file o i (case t e alts)
+        → ByteAt file i 3 × ByteAt file (i + 1) t × Code file o (i + 2) e × ((next : ℕ) → Behind (i + 2) next → CodeAlternatives file o next alts)
+    unfolding nesting
+    code-case t e alts code =
+        let at = stands-case file i t e alts (code .0) in
+        let first : Code file o (i + 2) e = (at .2, code .1 .3, omega (arith, code .2)) in
+        let rest : CodeAlternatives file o (i + 2 + length (encode e)) alts = (at .3, code .1 .4, omega (arith, code .2)) in
+        (at .0, at .1, first, found-behind (λ k. CodeAlternatives file o k alts) (i + 2) e first rest)
+
+    pub code-let :
+        (t : ℕ) (e b : Expr) → Code file o i (bind t e b)
+        → ByteAt file i 4 × ByteAt file (i + 1) t × Code file o (i + 2) e × ((next : ℕ) → Behind (i + 2) next → Code file o next b)
+    unfolding nesting
+    code-let t e b code =
+        let at = stands-let file i t e b (code .0) in
+        let first : Code file o (i + 2) e = (at .2, code .1 .1, omega (arith, code .2)) in
+        let rest : Code file o (i + 2 + length (encode e)) b = (at .3, code .1 .2, omega (arith, code .2)) in
+        (at .0, at .1, first, found-behind (λ k. Code file o k b) (i + 2) e first rest)
+
+    pub code-target : (l : ℕ) (e : Expr) → Code file o i (target l e) → ByteAt file i 5 × ByteAt file (i + 1) l × Code file o (i + 2) e
+    unfolding nesting
+    code-target l e code =
+        let at = stands-target file i l e (code .0) in
+        (at .0, at .1, (at .2, code .1, omega (arith, code .2)))
+
+    -- a byte stands there, and it tells the kind
+    pub code-kind : (e : Expr) → Code file o i e → (i < length file) × Coded (getD file i 0) e
+    code-kind (variable n) code = let at = code-variable n code in (at .0 .0, rw (at .0 .1) a-variable)
+    code-kind (call f es) code = let at = code-call f es code in (at .0 .0, rw (at .0 .1) a-call)
+    code-kind (construct t c es) code = let at = code-construct t c es code in (at .0 .0, rw (at .0 .1) a-construct)
+    code-kind (case t e alts) code = let at = code-case t e alts code in (at .0 .0, rw (at .0 .1) a-case)
+    code-kind (bind t e b) code = let at = code-let t e b code in (at .0 .0, rw (at .0 .1) a-let)
+    code-kind (target l e) code = let at = code-target l e code in (at .0 .0, rw (at .0 .1) a-target)
+
+    -- an expression is a row of one operand
+    pub code-one : (e : Expr) → Code file o i e → CodeAll file o i (e ∷ₑ []ₑ)
+    unfolding encode nesting
+    code-one e code = ((code .0 .0, cc (code .0 .1, append-nil (encode e))), (code .1, tt), omega (arith, code .2))
+
+    -- The first of operands, and the others behind it; the first of alternatives, and the others behind it.
+    pub code-next : (e : Expr) (es : Exprs) → CodeAll file o i (e ∷ₑ es) → Code file o i e × ((next : ℕ) → Behind i next → CodeAll file o next es)
+    unfolding nesting
+    code-next e es code =
+        let at = stands-next file i e es (code .0) in
+        let first : Code file o i e = (at .0, code .1 .0, omega (arith, code .2)) in
+        let rest : CodeAll file o (i + length (encode e)) es = (at .1, code .1 .1, omega (arith, code .2)) in
+        (first, found-behind (λ k. CodeAll file o k es) i e first rest)
+
+    pub code-absent : (alts : Alternatives) → CodeAlternatives file o i (absent alts) → ByteAt file i 0 × CodeAlternatives file o (i + 1) alts
+    unfolding nesting
+    code-absent alts code =
+        let at = stands-absent file i alts (code .0) in
+        (at .0, (at .1, code .1, code .2))
+
+    pub code-present :
+        (e : Expr) (alts : Alternatives) → CodeAlternatives file o i (present e alts)
+        → ByteAt file i 1 × Code file o (i + 1) e × ((next : ℕ) → Behind (i + 1) next → CodeAlternatives file o next alts)
+    unfolding nesting
+    code-present e alts code =
+        let at = stands-present file i e alts (code .0) in
+        let first : Code file o (i + 1) e = (at .1, code .1 .0, omega (arith, code .2)) in
+        let rest : CodeAlternatives file o (i + 1 + length (encode e)) alts = (at .2, code .1 .1, omega (arith, code .2)) in
+        (at .0, first, found-behind (λ k. CodeAlternatives file o k alts) (i + 1) e first rest)
+
+  -- The operand of number j, of operands that begin at i: j expressions are passed over.
+  pub data OperandAt : ℕ → ℕ → Expr → Type 0 where
+    this-operand : {i : ℕ} {e : Expr} → Code file o i e → OperandAt i zero e
+    later-operand : {i j : ℕ} {e : Expr} (x : Expr) → Code file o i x → ((next : ℕ) → Behind i next → OperandAt next j e) → OperandAt i (suc j) e
+
+  pub operand-at : (i j : ℕ) (es : Exprs) (e : Expr) → CodeAll file o i es → nthExpr es j ≡ some e → OperandAt i j e
+  unfolding nthExpr
+  operand-at i j []ₑ e code is = absurd (clash (cc))
+  operand-at i zero (x ∷ₑ es) e code is = let z : x ≡ e = cc in this-operand (subst (λ (y : Expr). Code file o i y) z ((code-next i x es code) .0))
+  operand-at i (suc j) (x ∷ₑ es) e code is =
+      let at = code-next i x es code in
+      later-operand x (at .0) (λ next passed. operand-at next j es e (at .1 next passed) is)
+
+  -- with none left to pass over, it stands here
+  pub operand-here : (i j : ℕ) (e : Expr) → OperandAt i j e → j ≡ 0 → Code file o i e
+  operand-here i j e (this-operand code) none-left = code
+  operand-here i j e (later-operand x code rest) none-left = absurd (clash (omega arith))
+
+  -- else an expression stands here, and the operand is one nearer behind it
+  pub operand-later : (i j : ℕ) (e : Expr) → OperandAt i j e → 0 < j → (x : Expr) × Code file o i x × ((next : ℕ) → Behind i next → OperandAt next (j - 1) e)
+  operand-later i j e (this-operand code) more = absurd (clash (omega arith))
+  operand-later i j e (later-operand {j = k} x code rest) more = let z : suc k - 1 ≡ k = omega arith in (x, code, λ next passed. rw z (rest next passed))
+
+  -- so it stands where passing over j expressions leads
+  pub operand-place : (i j : ℕ) (e : Expr) → OperandAt i j e → (place : ℕ) × (skippedAll (skipped o nestingLimit) j file i ≡ got tt place) × Code file o place e
+  unfolding skippedAll
+  operand-place i j e (this-operand code) = (i, refl, code)
+  operand-place i j e (later-operand {j = k} x code rest) =
+      let passed = code-behind i x code in
+      let next = i + length (encode x) in
+      let found = operand-place next k e (rest next passed) in
+      (found .0, rw passed (found .1), found .2)
+
+  -- The alternative of constructor c, of alternatives that begin at i: c of them are passed over. The state is the one that the case goes on to.
+  module _ (env : Env) (fs : List Frame) where
+    pub data ChosenAt : ℕ → ℕ → State → Type 0 where
+      none-chosen : {i : ℕ} → ByteAt file i 0 → ChosenAt i zero missing
+      this-chosen : {i : ℕ} (e : Expr) → ByteAt file i 1 → Code file o (i + 1) e → ChosenAt i zero (evaluating e env fs)
+      past-absent : {i c : ℕ} {s : State} → ByteAt file i 0 → ChosenAt (i + 1) c s → ChosenAt i (suc c) s
+      past-present :
+          {i c : ℕ} {s : State} (e : Expr) → ByteAt file i 1 → Code file o (i + 1) e → ((next : ℕ) → Behind (i + 1) next → ChosenAt next c s)
+          → ChosenAt i (suc c) s
+
+    pub chosen-at : (i c : ℕ) (alts : Alternatives) → CodeAlternatives file o i alts → c < countAlternatives alts → ChosenAt i c (choose alts c env fs)
+    unfolding choose countAlternatives
+    chosen-at i c no-more code known = absurd (clash (omega arith))
+    chosen-at i zero (absent alts) code known = none-chosen ((code-absent i alts code) .0)
+    chosen-at i (suc c) (absent alts) code known =
+        let at = code-absent i alts code in
+        past-absent (at .0) (chosen-at (i + 1) c alts (at .1) (omega arith))
+    chosen-at i zero (present e alts) code known =
+        let at = code-present i e alts code in
+        this-chosen e (at .0) (at .1)
+    chosen-at i (suc c) (present e alts) code known =
+        let at = code-present i e alts code in
+        past-present e (at .0) (at .1) (λ next passed. chosen-at next c alts (at .2 next passed) (omega arith))
+
+    -- a byte stands there
+    pub chosen-byte : (i c : ℕ) (s : State) → ChosenAt i c s → i < length file
+    chosen-byte i c s (none-chosen b) = b .0
+    chosen-byte i c s (this-chosen e b code) = b .0
+    chosen-byte i c s (past-absent b rest) = b .0
+    chosen-byte i c s (past-present e b code rest) = b .0
+
+    -- with none left to pass over: it is missing, or its expression stands behind the byte
+    pub chosen-missing : (i c : ℕ) (s : State) → ChosenAt i c s → c ≡ 0 → getD file i 0 ≡ 0 → s ≡ missing
+    chosen-missing i c s (none-chosen b) none-left zero-byte = refl
+    chosen-missing i c s (this-chosen e b code) none-left zero-byte = absurd (clash (omega (arith, b .1)))
+    chosen-missing i c s (past-absent b rest) none-left zero-byte = absurd (clash (omega arith))
+    chosen-missing i c s (past-present e b code rest) none-left zero-byte = absurd (clash (omega arith))
+
+    pub chosen-present :
+        (i c : ℕ) (s : State) → ChosenAt i c s → c ≡ 0 → (getD file i 0 ≡ 0 → ⊥) → (e : Expr) × (s ≡ evaluating e env fs) × Code file o (i + 1) e
+    chosen-present i c s (none-chosen b) none-left other = absurd (other (b .1))
+    chosen-present i c s (this-chosen e b code) none-left other = (e, refl, code)
+    chosen-present i c s (past-absent b rest) none-left other = absurd (other (b .1))
+    chosen-present i c s (past-present e b code rest) none-left other = absurd (clash (omega arith))
+
+    -- else the alternative is one nearer behind the byte, or behind the byte and an expression
+    pub chosen-past-absent : (i c : ℕ) (s : State) → ChosenAt i c s → 0 < c → getD file i 0 ≡ 0 → ChosenAt (i + 1) (c - 1) s
+    chosen-past-absent i c s (none-chosen b) more zero-byte = absurd (clash (omega arith))
+    chosen-past-absent i c s (this-chosen e b code) more zero-byte = absurd (clash (omega arith))
+    chosen-past-absent i c s (past-absent {c = k} b rest) more zero-byte = let z : suc k - 1 ≡ k = omega arith in rw z rest
+    chosen-past-absent i c s (past-present e b code rest) more zero-byte = absurd (clash (omega (arith, b .1)))
+
+    pub chosen-past-present :
+        (i c : ℕ) (s : State) → ChosenAt i c s → 0 < c → (getD file i 0 ≡ 0 → ⊥)
+        → (e : Expr) × Code file o (i + 1) e × ((next : ℕ) → Behind (i + 1) next → ChosenAt next (c - 1) s)
+    chosen-past-present i c s (none-chosen b) more other = absurd (clash (omega arith))
+    chosen-past-present i c s (this-chosen e b code) more other = absurd (clash (omega arith))
+    chosen-past-present i c s (past-absent b rest) more other = absurd (other (b .1))
+    chosen-past-present i c s (past-present {c = k} e b code rest) more other =
+        let z : suc k - 1 ≡ k = omega arith in (e, code, λ next passed. rw z (rest next passed))
+
+    -- so it stands where passing over c alternatives leads
+    pub chosen-place : (i c : ℕ) (s : State) → ChosenAt i c s → (place : ℕ) × (skippedAlternatives (skipped o nestingLimit) c file i ≡ got tt place) × ChosenAt place 0 s
+    unfolding skippedAlternatives
+    chosen-place i c s (none-chosen b) = (i, refl, none-chosen b)
+    chosen-place i c s (this-chosen e b code) = (i, refl, this-chosen e b code)
+    chosen-place i c s (past-absent {c = k} b rest) =
+        let found = chosen-place (i + 1) k s rest in
+        (found .0, rw (byte-there file i 0 b) (found .1), found .2)
+    chosen-place i c s (past-present {c = k} e b code rest) =
+        let passed = code-behind (i + 1) e code in
+        let next = i + 1 + length (encode e) in
+        let found = chosen-place next k s (rest next passed) in
+        (found .0, rw (byte-there file i 1 b, passed) (found .1), found .2)
+
+-- a constructor past the last alternative names nothing
+pub choose-stuck : (alts : Alternatives) (c : ℕ) (env : Env) (fs : List Frame) → countAlternatives alts ≤ c → choose alts c env fs ≡ stuck
+unfolding choose countAlternatives
+choose-stuck no-more c env fs past = refl
+choose-stuck (absent alts) zero env fs past = absurd (clash (omega arith))
+choose-stuck (absent alts) (suc c) env fs past = choose-stuck alts c env fs (omega arith)
+choose-stuck (present e alts) zero env fs past = absurd (clash (omega arith))
+choose-stuck (present e alts) (suc c) env fs past = choose-stuck alts c env fs (omega arith)

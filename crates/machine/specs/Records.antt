@@ -1,0 +1,63 @@
+-- Environments, waiting cases and the state of the evaluation in the lent words: records of four words from a base on, only ever added.
+-- Rests on reach's Eval, Encoding and RuleFile, and on Cells.
+use Prim.Native.Nat.{ℕ, suc, _+_, _*_, _≤_, _<_}
+use mathlib.Core.Path.{_≡_}
+use mathlib.Core.List.{List, [], _∷_}
+use lib.ListN.{getD}
+use Rattle.reach.specs.Limits.{nestingLimit}
+use Rattle.reach.specs.Syntax.{Expr, Exprs, count, Alternatives}
+use Rattle.reach.specs.Parts.{Place}
+use Rattle.reach.specs.Encoding.{Stands, StandsAll, StandsAlternatives, Arity, ArityAll, ArityAlternatives, nesting, nestingAll, nestingAlternatives, countAlternatives}
+use Rattle.reach.specs.RuleFile.{Outline}
+use Rattle.reach.specs.Eval.{Row, partOf, Env, empty, operands, inputParts, size, Frame, waiting, State, evaluating, inspecting, missing}
+
+-- word k of record r
+abbrev pub recordWord : List ℕ → ℕ → ℕ → ℕ → ℕ
+recordWord w base r k = getD w (base + 4 * r + k) 0
+
+-- record r holds these four words
+pub record Holds (w : List ℕ) (base r a b c d : ℕ) : Type 0 where
+  pub word-0 : recordWord w base r 0 ≡ a
+  pub word-1 : recordWord w base r 1 ≡ b
+  pub word-2 : recordWord w base r 2 ≡ c
+  pub word-3 : recordWord w base r 3 ≡ d
+
+-- An expression of the file, at the place where its bytes stand; operands; alternatives.
+abbrev pub Code : List ℕ → Outline → ℕ → Expr → Type 0
+Code file o i e = Stands file i e × Arity o e × (nesting e ≤ nestingLimit)
+
+abbrev pub CodeAll : List ℕ → Outline → ℕ → Exprs → Type 0
+CodeAll file o i es = StandsAll file i es × ArityAll o es × (nestingAll es ≤ nestingLimit)
+
+abbrev pub CodeAlternatives : List ℕ → Outline → ℕ → Alternatives → Type 0
+CodeAlternatives file o i alts = StandsAlternatives file i alts × ArityAlternatives o alts × (nestingAlternatives alts ≤ nestingLimit)
+
+-- What is being evaluated, in numbers: the expression at a place of the file, in the environment of a record; the input part of a cell; or
+-- nothing, an alternative was missing.
+pub data Control : Type 0 where
+  expressionAt : ℕ → ℕ → Control
+  partIn : ℕ → Control
+  nothingLeft : Control
+
+-- what a state's parts are in the words: `cell` gives the cell of a place
+module _ (file : List ℕ) (o : Outline) (w : List ℕ) (base : ℕ) (cell : Place → ℕ) where
+  -- An environment is a record: the record of what is outside it, how many variables are in view, where its group begins, and 0 for a group of input
+  -- parts or 1 more than the record of the environment in which the operands stand. Record 0 is the empty environment.
+  pub data EnvAt : ℕ → Env → Type 0 where
+    empty-at : EnvAt 0 empty
+    operands-at : {r a b i n : ℕ} {outer inner : Env} {es : Exprs} → Holds w base r a n i (suc b) → a < r → b < r → n ≡ size outer + count es
+        → EnvAt a outer → EnvAt b inner → CodeAll file o i es → EnvAt r (operands outer es inner)
+    parts-at : {r a x n k : ℕ} {outer : Env} {row : Row} → Holds w base r a n x 0 → a < r → n ≡ size outer + k
+        → EnvAt a outer → ((j : ℕ) → j < k → cell (partOf row j) ≡ x + j) → EnvAt r (inputParts outer row k)
+
+  -- A waiting case is a record: where its alternatives stand, how many there are, its environment, and the record of the next frame. 0 is no frame.
+  pub data FramesAt : ℕ → List Frame → Type 0 where
+    none-at : FramesAt 0 []
+    waiting-at : {r i n a f : ℕ} {alts : Alternatives} {env : Env} {fs : List Frame} → Holds w base r i n a f → a < r → f < r → n ≡ countAlternatives alts
+        → CodeAlternatives file o i alts → EnvAt a env → FramesAt f fs → FramesAt r (waiting alts env ∷ fs)
+
+  -- A state is what is being evaluated and the record of the innermost frame. No numbers stand for `stuck`.
+  pub data StateAt : Control → ℕ → State → Type 0 where
+    evaluating-at : {i r f : ℕ} {x : Expr} {env : Env} {fs : List Frame} → Code file o i x → EnvAt r env → FramesAt f fs → StateAt (expressionAt i r) f (evaluating x env fs)
+    inspecting-at : {x f : ℕ} {q : Place} {fs : List Frame} → cell q ≡ x → FramesAt f fs → StateAt (partIn x) f (inspecting q fs)
+    missing-at : {f : ℕ} → StateAt nothingLeft f missing

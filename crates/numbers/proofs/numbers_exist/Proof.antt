@@ -1,0 +1,47 @@
+-- `numbers::numbers_exist` meets its contract: the outline has as many types and functions as there are places. Rests on what the three tests ensure.
+use lib.ListN.{length-map}
+use borrow.Author.Tests.{not-true, not-false}
+use borrow.Author.Needs.{needs}
+use Rattle.reach.specs.RuleFile.{numbersExist}
+use Rattle.reach.specs.Places.{typeAt, headAt, goalAt, outlineAt}
+use Rattle.numbers.proofs.numbers_exist.Statement.{statement}
+use Rattle.numbers.proofs.numbers_exist.Tie as tie
+
+returns : tie.Need-returns
+unfolding numbersExist outlineAt
+returns c = rw (length-map _ (typeAt _), ← c .before .types-exist .ensures, not-true (c .before .types-exist .result) (c .if1 .taken))
+
+returns-2 : tie.Need-returns-2
+unfolding numbersExist outlineAt
+returns-2 c =
+    rw (
+      length-map _ (typeAt _),
+      ← c .before .before .before .types-exist .ensures,
+      not-false (c .before .before .before .types-exist .result) (c .before .before .if1 .left),
+      ← c .before .heads-exist .ensures,
+      not-true (c .before .heads-exist .result) (c .if2 .taken),
+    )
+
+returns-3 : tie.Need-returns-3
+unfolding numbersExist outlineAt goalAt
+returns-3 c =
+    rw (
+      length-map _ (typeAt _),
+      ← c .before .before .before .before .types-exist .ensures,
+      not-false (c .before .before .before .before .types-exist .result) (c .before .before .before .if1 .left),
+      ← c .before .before .heads-exist .ensures,
+      not-false (c .before .before .heads-exist .result) (c .before .if2 .left),
+      length-map _ (headAt _),
+      ← c .byte-or-zero .ensures,
+    )
+
+pub numbers-exist-spec : {M : Type 1} → statement M
+numbers-exist-spec =
+    tie.close
+    (tie.spec
+    (λ c κs. search needs)
+    returns
+    (λ c κs. search needs)
+    returns-2
+    (λ c κs. search needs)
+    returns-3)
