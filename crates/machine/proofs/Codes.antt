@@ -14,7 +14,7 @@ use Rattle.reach.specs.Reader.{got, byte}
 use Rattle.reach.specs.RuleFile.{Head, Outline}
 use Rattle.reach.specs.Encoding.{encode, ByteAt, countAlternatives, nesting, skippedAll, skippedAlternatives, skipped}
 use Rattle.reach.specs.Eval.{Env, Frame, State, evaluating, missing, stuck, choose}
-use Rattle.reach.proofs.Limits.{clash}
+use Rattle.reach.proofs.Base.{clash}
 use Rattle.reach.proofs.Encoding.{stands-variable, stands-call, stands-construct, stands-case, stands-let, stands-target, stands-next, stands-absent, stands-present, skipped-finds, BodyAt}
 use Rattle.machine.specs.Records.{Code, CodeAll, CodeAlternatives}
 

@@ -17,7 +17,7 @@ use Rattle.reach.specs.Encoding.{countAlternatives}
 use Rattle.reach.specs.RuleFile.{Outline}
 use Rattle.reach.specs.Eval.{Row, partOf, Env, empty, operands, inputParts, size, Closure, suspended, inputPart, suspend, lookup, Frame, waiting, State}
 use Rattle.reach.proofs.Order.{There}
-use Rattle.reach.proofs.Limits.{clash}
+use Rattle.reach.proofs.Base.{clash}
 use Rattle.reach.proofs.Evaluation.{EnvIn, FramesIn, StateIn}
 use Rattle.machine.specs.Records.{recordWord, Holds, CodeAll, CodeAlternatives, Control, expressionAt, partIn, nothingLeft, EnvAt, empty-at, operands-at, parts-at, FramesAt, none-at, waiting-at, StateAt, evaluating-at, inspecting-at, missing-at}
 use Rattle.machine.proofs.Codes.{OperandAt, operand-at}
