@@ -1,12 +1,13 @@
 -- What the first pass leaves: the places of the records, and what the readers of crate reach find there.
 -- Rests on reach's RuleFile and Places and on the structs of src/lib.rt.
-use Prim.Native.Nat.{ℕ, zero, suc, pred}
+use Prim.Native.Nat.{ℕ, pred, _≤_, _<_}
 use mathlib.Core.List.{List, [], _∷_, map}
-use lib.ListN.{take}
+use lib.ListN.{length, take}
+use Rattle.reach.specs.Limits.{typeLimit, functionLimit}
 use Rattle.reach.specs.Syntax.{Types}
 use Rattle.reach.specs.declared.Refusal.the-variants.{UnexpectedMark, TrailingBytes}
-use Rattle.reach.specs.Reader.{Got, got, refused, onGot, Reader, _>>=_, _>>_, give, refuse, atEnd}
-use Rattle.reach.specs.RuleFile.{Mark, onMark, mark, typeRecord, moreTypes, Head, functionRecord, moreFunctions, Goal, goalRecord, Outline}
+use Rattle.reach.specs.Reader.{Got, got, refused, Reader, _>>=_, _>>_, give, refuse, atEnd}
+use Rattle.reach.specs.RuleFile.{onMark, mark, typeRecord, moreTypes, Head, functionRecord, moreFunctions, Goal, goalRecord, Outline}
 use Rattle.reach.specs.Places.{typeAt, headAt, outlineAt}
 use Rattle.records.specs.declared.Step.{Step}
 use Rattle.records.specs.declared.Step.the-variants.{Next, Refused}
@@ -42,6 +43,12 @@ typesTurn s more t = onTurn (λ next. typesFrom (pred more) s next) t
 abbrev pub functionsTurn : List ℕ → ℕ → Turn → Got (List Head)
 functionsTurn s more t = onTurn (λ next. functionsFrom (pred more) s next) t
 
+-- one more record is called for only where one may come
+abbrev pub Room : ℕ → Turn → Type 0
+Room more (Turn.Again next) = 0 < more
+Room more (Turn.Done next) = Unit {0}
+Room more (Turn.Refused why) = Unit {0}
+
 abbrev pub onStep : {A : Type 0} → A → Step → Got A
 onStep a (Next next) = got a next
 onStep a (Refused why) = refused why
@@ -54,7 +61,13 @@ abbrev pub functionsOf : List ℕ → FunctionTable → Got (List Head)
 functionsOf s r = onStep (map (headAt s) (take (r .count) (r .places))) (r .step)
 
 abbrev pub outlinedOf : List ℕ → Outlined → Got Outline
-outlinedOf s r = onStep (outlineAt s (take (r .types) (r .type_at)) (take (r .functions) (r .function_at)) (r .goal_at)) (r .step)
+outlinedOf s r = onStep (outlineAt s (take (r .types) (r .«type_at»)) (take (r .functions) (r .«function_at»)) (r .«goal_at»)) (r .step)
+
+-- the counts fit the arrays, and the goal stands in the file
+pub record InLimits (s : List ℕ) (r : Outlined) : Type 0 where
+  pub types-limit : r .types ≤ typeLimit
+  pub functions-limit : r .functions ≤ functionLimit
+  pub goal-there : r .«goal_at» ≤ length s
 
 -- the first mark must be that of a type
 unfoldable pub firstMark : Reader (Unit {0})

@@ -3,12 +3,15 @@
 ghost use mathlib.Core.Path.{_≡_};
 ghost use Prim.Native.Nat.{ℕ, _≤_};
 ghost use lib.ListN.{length};
+ghost use Rattle.reach.specs.Limits.{typeLimit, functionLimit};
 ghost use Rattle.reach.specs.RuleFile.{moreTypes, moreFunctions, outline};
-ghost use Rattle.outline.specs.Tables.{typesTurn, functionsTurn, typesFrom, functionsFrom, typesOf, functionsOf, outlinedOf};
+ghost use Rattle.records.specs.Steps.{stepOf};
+ghost use Rattle.outline.specs.Tables.{typesTurn, functionsTurn, Room, typesFrom, functionsFrom, typesOf, functionsOf, outlinedOf, InLimits, firstMark, lastRecord};
 use reach::Refusal;
 use records::Mark;
 use records::Marked;
 use records::Step;
+use records::mark_at_start;
 use records::skip_function;
 use records::skip_goal;
 use records::skip_type;
@@ -52,6 +55,7 @@ pub struct Outlined {
 // The mark behind a type, where so many more types may come.
 pub fn turn_after_type(s: &[u8], at: usize, more: usize) -> Turn
     ensures { λ r. ⌜ moreTypes more (now (s .entry)) at ≡ typesTurn (now (s .entry)) more r ⌝ }
+    ensures room { λ r. ⌜ Room more r ⌝ }
 {
     let Marked::Mark(mark, next) = take_mark(s, at) else {
         return Turn::Refused(Refusal::Truncated);
@@ -73,6 +77,7 @@ pub fn turn_after_type(s: &[u8], at: usize, more: usize) -> Turn
 // The mark behind a function, where so many more functions may come.
 pub fn turn_after_function(s: &[u8], at: usize, more: usize) -> Turn
     ensures { λ r. ⌜ moreFunctions more (now (s .entry)) at ≡ functionsTurn (now (s .entry)) more r ⌝ }
+    ensures room { λ r. ⌜ Room more r ⌝ }
 {
     let Marked::Mark(mark, next) = take_mark(s, at) else {
         return Turn::Refused(Refusal::Truncated);
@@ -95,6 +100,7 @@ pub fn turn_after_function(s: &[u8], at: usize, more: usize) -> Turn
 pub fn read_types(s: &[u8], first: usize) -> TypeTable
     requires { ⌜ length (now s) ≤ 16384 ⌝ }
     ensures { λ r. ⌜ typesFrom 31 (now (s .entry)) first ≡ typesOf (now (s .entry)) r ⌝ }
+    ensures limit { λ r. ⌜ r .count ≤ typeLimit ⌝ }
 {
     let mut places = [0u16; 32];
     let mut count: usize = 0;
@@ -134,6 +140,7 @@ pub fn read_types(s: &[u8], first: usize) -> TypeTable
 pub fn read_functions(s: &[u8], first: usize) -> FunctionTable
     requires { ⌜ length (now s) ≤ 16384 ⌝ }
     ensures { λ r. ⌜ functionsFrom 63 (now (s .entry)) first ≡ functionsOf (now (s .entry)) r ⌝ }
+    ensures limit { λ r. ⌜ r .count ≤ functionLimit ⌝ }
 {
     let mut places = [0u16; 64];
     let mut count: usize = 0;
@@ -171,9 +178,9 @@ pub fn read_functions(s: &[u8], first: usize) -> FunctionTable
 
 // The place behind the first mark, which must be that of a type.
 pub fn first_mark(s: &[u8]) -> Step
-    ensures { λ r. ⌜ r ≡ Rattle.records.specs.Steps.stepOf (Rattle.outline.specs.Tables.firstMark (now (s .entry)) 0) ⌝ }
+    ensures { λ r. ⌜ r ≡ stepOf (firstMark (now (s .entry)) 0) ⌝ }
 {
-    let Marked::Mark(mark, next) = take_mark(s, 0) else {
+    let Marked::Mark(mark, next) = mark_at_start(s) else {
         return Step::Refused(Refusal::Truncated);
     };
     match mark {
@@ -187,6 +194,7 @@ pub fn first_mark(s: &[u8]) -> Step
 // An outline that was not read.
 pub fn not_read(step: Step) -> Outlined
     ensures { λ r. ⌜ r .step ≡ step ⌝ }
+    ensures nothing { λ r. ⌜ (r .types ≡ 0) × (r .functions ≡ 0) × (r .«goal_at» ≡ 0) ⌝ }
 {
     Outlined {
         step,
@@ -200,7 +208,7 @@ pub fn not_read(step: Step) -> Outlined
 
 // The goal and the end of the file.
 pub fn last_record(s: &[u8], at: usize) -> Step
-    ensures { λ r. ⌜ r ≡ Rattle.records.specs.Steps.stepOf (Rattle.outline.specs.Tables.lastRecord (now (s .entry)) at) ⌝ }
+    ensures { λ r. ⌜ r ≡ stepOf (lastRecord (now (s .entry)) at) ⌝ }
 {
     let step = skip_goal(s, at);
     let Step::Next(behind) = step else {
@@ -212,9 +220,11 @@ pub fn last_record(s: &[u8], at: usize) -> Step
     step
 }
 
+// The first pass over a whole file.
 pub fn first_pass(s: &[u8]) -> Outlined
     requires { ⌜ length (now s) ≤ 16384 ⌝ }
     ensures { λ r. ⌜ outline (now (s .entry)) 0 ≡ outlinedOf (now (s .entry)) r ⌝ }
+    ensures limits { λ r. ⌜ InLimits (now (s .entry)) r ⌝ }
 {
     let begin = first_mark(s);
     let Step::Next(first_type) = begin else {
@@ -231,6 +241,9 @@ pub fn first_pass(s: &[u8]) -> Outlined
         return not_read(defined);
     };
     let last = last_record(s, goal);
+    let Step::Next(_) = last else {
+        return not_read(last);
+    };
     let type_at = types.places;
     let function_at = functions.places;
     Outlined {

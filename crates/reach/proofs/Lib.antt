@@ -13,6 +13,7 @@ pub mod EntryLength
 pub mod Lists
 pub mod ClosedInputs
 pub mod Answers
+pub mod Places
 pub mod WellTyped
 pub mod NeverStuck
 pub mod Encoding

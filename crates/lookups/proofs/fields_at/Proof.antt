@@ -1,4 +1,4 @@
--- `bodies::fields_at` meets its contract. The loop's invariant: constructor number `more` of those that begin at the place is the one that is
+-- `lookups::fields_at` meets its contract. The loop's invariant: constructor number `more` of those that begin at the place is the one that is
 -- looked for, and the place has passed at most 256 bytes for each constructor. The measure is what is left.
 use Prim.Native.Nat.{_+_, _-_, _*_, _≤_, _<_}
 use mathlib.Core.Path.{_≡_, refl, sym, _∙_}

@@ -1,4 +1,4 @@
--- `bodies::fields_of` meets its contract: a type's constructors stand behind their number, at the place of the type's record.
+-- `lookups::fields_of` meets its contract: a type's constructors stand behind their number, at the place of the type's record.
 use mathlib.Core.Path.{sym}
 use native.Mathlib.Omega.{arith}
 use borrow.Author.Needs.{needs}

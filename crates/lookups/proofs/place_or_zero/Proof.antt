@@ -1,4 +1,4 @@
--- `bodies::place_or_zero` meets its contract: an entry of a table fits the wider type, and past the end stands 0.
+-- `lookups::place_or_zero` meets its contract: an entry of a table fits the wider type, and past the end stands 0.
 use mathlib.Core.Path.{sym}
 use lib.ListN.{List·getD-eq-default}
 use native.Mathlib.Omega.{arith}

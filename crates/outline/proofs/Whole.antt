@@ -1,0 +1,97 @@
+-- The outline of a file as first_pass reads it: the first mark, the types, the functions, and the goal with the end of the file.
+-- Rests on Tables, on reach's RuleFile and Places, and on the laws of crate records about what was found.
+use Prim.Native.Nat.{ℕ, _<_}
+use mathlib.Core.Path.{_≡_, refl, sym, _∙_}
+use mathlib.Core.List.{List}
+use lib.ListN.{length}
+use Rattle.reach.specs.declared.Refusal.{Refusal}
+use Rattle.reach.specs.declared.Refusal.the-variants.{UnexpectedMark, TrailingBytes}
+use Rattle.reach.specs.Syntax.{Types}
+use Rattle.reach.specs.Reader.{Got, got, refused, onGot, Reader, _>>=_, _>>_, give, refuse, atEnd}
+use Rattle.reach.specs.RuleFile.{Mark, TY, FN, GO, other, onMark, mark, typeRecord, moreTypes, Head, functionRecord, moreFunctions, Goal, goalRecord, Outline, outline}
+use Rattle.reach.specs.Places.{goalAt}
+use Rattle.reach.proofs.Places.{goal-read}
+use Rattle.records.specs.declared.Step.{Step}
+use Rattle.records.specs.Steps.{stepOf}
+use Rattle.records.proofs.Answers.{step-got, step-refused}
+use Rattle.records.proofs.Found.{on-got}
+use Rattle.outline.specs.Tables.{typesFrom, functionsFrom, firstMark, lastRecord}
+
+-- one reading and then the rest, however the rest is grouped
+regroup : {A B C : Type 0} (x : Got A) (f : A → ℕ → Got B) (g : B → ℕ → Got C) (h : A → ℕ → Got C)
+    → ((a : A) (next : ℕ) → h a next ≡ onGot {B = Got C} g (λ why. refused why) (f a next))
+    → onGot {B = Got C} h (λ why. refused why) x ≡ onGot {B = Got C} g (λ why. refused why) (onGot {B = Got B} f (λ why. refused why) x)
+regroup (got a next) f g h alike = alike a next
+regroup (refused why) f g h alike = refl
+
+-- the first record stands behind its mark
+first-marked : {A C : Type 0} (one : Reader A) (f : A → ℕ → Got C) (g : Unit {0} → ℕ → Got C) (s : List ℕ) (i : ℕ)
+    → onGot {B = Got C} f (λ why. refused why) (one s i) ≡ g tt i
+    → (m : Mark) → onGot {B = Got C} f (λ why. refused why) (onMark one (refuse UnexpectedMark) (refuse UnexpectedMark) (refuse UnexpectedMark) m s i)
+    ≡ onGot {B = Got C} g (λ why. refused why) (onMark (give tt) (refuse UnexpectedMark) (refuse UnexpectedMark) (refuse UnexpectedMark) m s i)
+first-marked one f g s i e TY = e
+first-marked one f g s i e FN = refl
+first-marked one f g s i e GO = refl
+first-marked one f g s i e other = refl
+
+-- the parts that have a function of their own, one after the other, behind the first mark
+abbrev behindMark : Reader Outline
+behindMark = do
+  ts ← typesFrom 31
+  fs ← functionsFrom 63
+  g ← lastRecord
+  give (record { types = ts; heads = fs; goal = g })
+
+module _ (s : List ℕ) where
+  -- the outline is read in those parts
+  in-parts : (i : ℕ) → outline s i ≡ (firstMark >> behindMark) s i
+  unfolding outline firstMark typesFrom functionsFrom lastRecord
+  in-parts i =
+      regroup (mark s i) _ _ _
+      (λ m j. first-marked typeRecord _ _ s j
+      (regroup (typeRecord s j) _ _ _
+      (λ t k. regroup (moreTypes 31 s k) _ _ _
+      (λ ts l. regroup (functionRecord s l) _ _ _
+      (λ f n. regroup (moreFunctions 63 s n) _ _ _
+      (λ fs o. regroup (goalRecord s o) _ _ _
+      (λ g e. regroup (atEnd TrailingBytes s e) _ _ _
+      (λ u next. refl)))))))
+      m)
+
+  -- the goal that was read as the last record stands there, and begins within the bytes
+  last-read : (i : ℕ) {g : Goal} {next : ℕ} → lastRecord s i ≡ got g next → (g ≡ goalAt s i) × (i < length s)
+  unfolding lastRecord
+  last-read i e =
+      on-got (goalRecord s i) _ e λ h k is more.
+      on-got (atEnd TrailingBytes s k) _ more λ u n over same.
+      let read = goal-read s i is in (cc (read .value), read .begins)
+
+  pub goal-begins : (i : ℕ) {r : Step} {next : ℕ} → r ≡ stepOf (lastRecord s i) → r ≡ Step.Next next → i < length s
+  goal-begins i told found = (last-read i (step-got (lastRecord s i) (sym told ∙ found) .1)) .1
+
+  -- The answer r to the first mark: there is none of a type, or one.
+  module _ {r : Step} (told : r ≡ stepOf (firstMark s 0)) where
+    pub no-type : {why : Refusal} → r ≡ Step.Refused why → outline s 0 ≡ refused why
+    no-type found = in-parts 0 ∙ rw (step-refused (firstMark s 0) (sym told ∙ found))
+
+    module _ {i : ℕ} (found : r ≡ Step.Next i) where
+      marked : outline s 0 ≡ behindMark s i
+      marked = in-parts 0 ∙ rw (step-got (firstMark s 0) (sym told ∙ found) .1)
+
+      pub types-refused : {why : Refusal} → typesFrom 31 s i ≡ refused why → outline s 0 ≡ refused why
+      types-refused e = marked ∙ rw e
+
+      pub functions-refused : {ts : Types} {j : ℕ} {why : Refusal} → typesFrom 31 s i ≡ got ts j → functionsFrom 63 s j ≡ refused why
+          → outline s 0 ≡ refused why
+      functions-refused types e = marked ∙ rw (types, e)
+
+      -- The answer to the last record, where types and functions were read.
+      module _ {ts : Types} {fs : List Head} {j k : ℕ} (types : typesFrom 31 s i ≡ got ts j) (functions : functionsFrom 63 s j ≡ got fs k)
+          {last : Step} (ended : last ≡ stepOf (lastRecord s k)) where
+        pub goal-refused : {why : Refusal} → last ≡ Step.Refused why → outline s 0 ≡ refused why
+        goal-refused e = marked ∙ rw (types, functions, step-refused (lastRecord s k) (sym ended ∙ e))
+
+        pub outlined : {next : ℕ} → last ≡ Step.Next next → outline s 0 ≡ got (record { types = ts; heads = fs; goal = goalAt s k }) next
+        outlined e =
+            let (g, read) = step-got (lastRecord s k) (sym ended ∙ e) in
+            marked ∙ rw (types, functions, read, (last-read k read) .0)
