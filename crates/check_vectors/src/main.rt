@@ -1,0 +1,59 @@
+// Runs the check on every file of a container, each behind its two-byte length, and prints a line for each: `accepted`, or
+// `refused` and the number. tests/make_boundary.py makes the container and the lines.
+use libc::{STDIN_FILENO, STDOUT_FILENO};
+use reach::Refusal;
+use rulefile::Checked;
+
+// The number of a refusal.
+fn number(why: Refusal) -> u64 {
+    match why {
+        Refusal::Truncated => 1,
+        Refusal::UnexpectedMark => 2,
+        Refusal::OutOfRange => 3,
+        Refusal::UnknownNumber => 4,
+        Refusal::UnknownCode => 5,
+        Refusal::TypeMismatch => 6,
+        Refusal::TrailingBytes => 7,
+        Refusal::EmptyType => 8,
+        Refusal::DepthTooSmall => 9,
+        Refusal::BadInput => 10,
+        Refusal::WorkTooShort => 11,
+        Refusal::ListFull => 12,
+    }
+}
+
+fn print_answer(answer: Checked) {
+    match answer {
+        Checked::Accepted => {
+            io::write_all(STDOUT_FILENO, b"accepted\n");
+        }
+        Checked::Refused(why) => {
+            io::write_all(STDOUT_FILENO, b"refused ");
+            io::print_decimal(STDOUT_FILENO, number(why));
+            io::write_all(STDOUT_FILENO, b"\n");
+        }
+    }
+}
+
+// Reads one file and prints its line; false where the container has ended.
+fn run_case() -> bool {
+    let mut size = [0u8; 2];
+    if io::read_full(STDIN_FILENO, &mut size) < 2 {
+        return false;
+    }
+    let n = (size[0] as usize) + 256 * (size[1] as usize);
+    let mut file = io::large_buffer();
+    let got = io::read_full(STDIN_FILENO, &mut file[..n]);
+    print_answer(rulefile::check(&file[..got]));
+    true
+}
+
+fn main() {
+    let mut more: usize = 1000000;
+    while 0 < more {
+        if !run_case() {
+            return;
+        }
+        more -= 1;
+    }
+}

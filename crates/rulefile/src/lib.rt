@@ -1,0 +1,127 @@
+// The check of a rule file: the three passes in their order, then the tests of depth. `check` answers accepted or the one refusal
+// of 1 to 9; `load` also hands on what later layers need of an accepted file: the places of its records and the least depths.
+// Rests on crates outline, numbers, bodies and depths.
+ghost use mathlib.Core.Path.{_≡_};
+ghost use Prim.Native.Nat.{_≤_};
+ghost use Rattle.rulefile.specs.Loading.{checkedOf, Outlines, Reads, Loads, sourceShallow};
+
+use bodies::bodies;
+use depths::{Depths, all_shallow, least_depths, none_empty};
+use lookups::place_or_zero;
+use numbers::numbers_exist;
+use outline::{Outlined, first_pass};
+use reach::Refusal;
+use records::{Step, byte_or_zero};
+
+const FILE_LIMIT: usize = 16384;
+
+// The answer of the check.
+pub enum Checked {
+    Accepted,
+    Refused(Refusal),
+}
+
+// A file as the check leaves it. Where it is accepted: how many types and functions there are and where their records stand
+// behind their marks, where the goal's stands, and the least depth of each type.
+pub struct Loaded {
+    pub answer: Checked,
+    pub types: usize,
+    pub type_at: [u16; 32],
+    pub functions: usize,
+    pub function_at: [u16; 64],
+    pub goal_at: usize,
+    pub least: [u8; 32],
+}
+
+// A file that was refused.
+pub fn turned_back(why: Refusal) -> Loaded
+    ensures { λ r. ⌜ r .answer ≡ Checked.Refused why ⌝ }
+{
+    Loaded {
+        answer: Checked::Refused(why),
+        types: 0,
+        type_at: [0; 32],
+        functions: 0,
+        function_at: [0; 64],
+        goal_at: 0,
+        least: [0; 32],
+    }
+}
+
+// Each parameter of the source has a closed value that is at most D deep.
+pub fn source_shallow<'a>(file: &'a [u8], functions: &'a [u16], goal_at: usize, least: Depths) -> bool
+    requires { ⌜ goal_at ≤ 16384 ⌝ }
+    ensures { λ r. ⌜ r ≡ sourceShallow (now (file .entry)) (now (functions .entry)) goal_at (least .of) ⌝ }
+{
+    let place = place_or_zero(functions, byte_or_zero(file, goal_at));
+    let depth = byte_or_zero(file, goal_at + 2);
+    all_shallow(file, place + 1, byte_or_zero(file, place), depth, least)
+}
+
+// The tests of depth, of a file whose passes found nothing.
+pub fn with_depths(file: &[u8], o: Outlined) -> Loaded
+    requires { ⌜ Reads (now file) o ⌝ }
+    ensures { λ r. ⌜ Loads (now (file .entry)) r ⌝ }
+{
+    let types = o.types;
+    let functions = o.functions;
+    let goal_at = o.goal_at;
+    let type_at = o.type_at;
+    let function_at = o.function_at;
+    let least = least_depths(file, &type_at[..types]);
+    if !none_empty(least, types) {
+        return turned_back(Refusal::EmptyType);
+    }
+    if !source_shallow(file, &function_at[..functions], goal_at, least) {
+        return turned_back(Refusal::DepthTooSmall);
+    }
+    Loaded {
+        answer: Checked::Accepted,
+        types,
+        type_at,
+        functions,
+        function_at,
+        goal_at,
+        least: least.of,
+    }
+}
+
+// The second and third pass, of a file whose first pass found nothing.
+pub fn with_outline(file: &[u8], o: Outlined) -> Loaded
+    requires { ⌜ Outlines (now file) o ⌝ }
+    ensures { λ r. ⌜ Loads (now (file .entry)) r ⌝ }
+{
+    let types = o.types;
+    let functions = o.functions;
+    let goal_at = o.goal_at;
+    let type_at = o.type_at;
+    let function_at = o.function_at;
+    if !numbers_exist(file, &type_at[..types], &function_at[..functions], goal_at) {
+        return turned_back(Refusal::UnknownNumber);
+    }
+    match bodies(file, &type_at[..types], &function_at[..functions]) {
+        Step::Next(_) => with_depths(file, o),
+        Step::Refused(why) => turned_back(why),
+    }
+}
+
+pub fn load(file: &[u8]) -> Loaded
+    ensures { λ r. ⌜ Loads (now (file .entry)) r ⌝ }
+{
+    if FILE_LIMIT < file.len() {
+        return turned_back(Refusal::OutOfRange);
+    }
+    let o = first_pass(file);
+    let step = o.step;
+    match step {
+        Step::Next(_) => with_outline(file, o),
+        Step::Refused(why) => turned_back(why),
+    }
+}
+
+pub fn check(file: &[u8]) -> Checked
+    ensures { λ r. ⌜ r ≡ checkedOf (Rattle.reach.specs.Answers.check (now (file .entry))) ⌝ }
+{
+    let loaded = load(file);
+    loaded.answer
+}
