@@ -1,8 +1,9 @@
 """Makes the test data for the checker of rule files: boundary files, competing faults, random and damaged files.
 
-Writes data/check.bin, per case a two-byte length, low byte first, and the bytes of a rule file, and
-data/check.expected, per case a line `accepted` or `refused N`. With --check it compares instead of writing and
-exits 1 where the stored files differ. Each boundary case states the answer expected, and the blind checker must agree.
+Writes what the program check_vectors reads and what it must print: its stdin, per case a two-byte length, low byte
+first, and the bytes of a rule file, and its stdout, per case a line `accepted` or `refused N`. With --check it compares
+instead of writing and exits 1 where the stored files differ. Each boundary case states the answer expected, and the
+blind checker must agree.
 """
 
 import os
@@ -14,7 +15,7 @@ from blind.build import call, case, con, fn, go, let, random_program, target, tw
 from blind.rulefile import (CODE, HOLLOW, MARK, MISFIT, RANGE, SHALLOW, SHORT, STRANGER, TAIL, Program, check)
 
 ACCEPTED = 0
-DATA = os.path.join(os.path.dirname(os.path.abspath(__file__)), "data")
+DATA = os.path.join(os.path.dirname(os.path.abspath(__file__)), os.pardir, "crates", "check_vectors")
 
 CASES = []  # name, bytes, expected number or ACCEPTED
 
@@ -752,15 +753,14 @@ def main():
     make()
     container = b"".join(two(len(data)) + data for _, data, _ in CASES)
     expected = "".join(f"refused {number}\n" if number else "accepted\n" for _, _, number in CASES).encode()
-    outputs = {"check.bin": container, "check.expected": expected}
+    outputs = {"stdin": container, "stdout": expected}
     if sys.argv[1:] == ["--check"]:
         for name, made in outputs.items():
             with open(os.path.join(DATA, name), "rb") as stored:
                 if stored.read() != made:
-                    print(f"{name} differs from what is made")
+                    print(f"check_vectors: the stored {name} differs from what is made")
                     return 1
         return 0
-    os.makedirs(DATA, exist_ok=True)
     for name, made in outputs.items():
         with open(os.path.join(DATA, name), "wb") as stored:
             stored.write(made)
