@@ -1,6 +1,7 @@
 // Runs the check on every file of a container, each behind its two-byte length, and prints a line for each: `accepted`, or
 // `refused` and the number. tests/make_boundary.py makes the container and the lines.
-use libc::{STDIN_FILENO, STDOUT_FILENO};
+use libc::STDIN_FILENO;
+use libc::STDOUT_FILENO;
 use reach::Refusal;
 use rulefile::Checked;
 

@@ -1,6 +1,5 @@
 -- The demands of the request, as theorems about the definitions, in the words of 01. A reviewer reads this file first: the sentence that a
--- theorem answers stands above it, and its statement uses definitions of specs/ only, but for `Spent` and `NotHalted` (Evaluation), which
--- go by the ends of a run, and `finished` and `owedMoves` (Moves), the search after all its moves and the number of moves still to come.
+-- theorem answers stands above it, and its statement uses definitions of specs/ only.
 -- `check file ≡ accepted p` says that the file is accepted and p is its program; `searchAnswer file work list` is the search's answer,
 -- with a work slice and a list slice of those lengths.
 -- Rests on the other files of this folder.
@@ -17,14 +16,14 @@ use Rattle.reach.specs.Limits.{typeLimit, workWords}
 use Rattle.reach.specs.Syntax.{Types, Program}
 use Rattle.reach.specs.Parts.{Parts, Place, openAt, BoundPart, Completes, prefix}
 use Rattle.reach.specs.Types.{ClosedInput, WithinDepth, ValueOf, LeastDepth, rounds, leastDepths}
-use Rattle.reach.specs.Eval.{halted, run}
+use Rattle.reach.specs.Eval.{halted, run, Spent, NotHalted}
 use Rattle.reach.specs.Search.{Entry, says, ReachedOrUnfinished, StopsInside, entries}
-use Rattle.reach.specs.Moves.{Walk, move}
+use Rattle.reach.specs.Moves.{Walk, move, owedMoves, finished}
 use Rattle.reach.specs.Input.{inputOf}
 use Rattle.reach.specs.Lists.{listBytes, roomOf}
 use Rattle.reach.specs.Answers.{accepted, check, noSearch, complete, cutShort, searchAnswer, listed, refusalOf, verdictOf}
 use Rattle.reach.proofs.LeastDepths as LeastDepths
-use Rattle.reach.proofs.Evaluation.{NotHalted, Spent, run-spent, run-ends}
+use Rattle.reach.proofs.Evaluation.{run-spent, run-ends}
 use Rattle.reach.proofs.Moves as Moves
 use Rattle.reach.proofs.EntryLength.{entry-within}
 use Rattle.reach.proofs.ClosedInputs as ClosedInputs
@@ -79,11 +78,11 @@ pub closed-run-ends : (p : Program) (j : Parts) → ClosedInput p j → NotHalte
 closed-run-ends p j c = run-ends p j (c .0)
 
 -- 01, "The list": the moves of the program produce exactly the list of the recursive definition, and a number falls at each move.
-pub moves-list : (p : Program) → ((Moves.finished p) .listed ≡ entries p) × (Moves.owedMoves p (leastDepths (p .types)) (Moves.finished p) ≡ 0)
+pub moves-list : (p : Program) → ((finished p) .listed ≡ entries p) × (owedMoves p (leastDepths (p .types)) (finished p) ≡ 0)
 moves-list p = Moves.moves-list p
 
-pub move-falls : (p : Program) (w : Walk) (k : ℕ) → Moves.owedMoves p (leastDepths (p .types)) w ≡ suc k
-    → Moves.owedMoves p (leastDepths (p .types)) (move p (leastDepths (p .types)) w) ≡ k
+pub move-falls : (p : Program) (w : Walk) (k : ℕ) → owedMoves p (leastDepths (p .types)) w ≡ suc k
+    → owedMoves p (leastDepths (p .types)) (move p (leastDepths (p .types)) w) ≡ k
 move-falls p w k h = Moves.move-falls p (leastDepths (p .types)) w k h
 
 -- 01, "The list": "two-byte length in bytes of what follows": the parameters' bytes of an entry fit it, and its steps fit theirs.

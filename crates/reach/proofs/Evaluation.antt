@@ -14,7 +14,7 @@ use Rattle.reach.specs.Syntax.{Exprs, Alternatives, no-more, absent, pre
 use Rattle.reach.specs.Parts.{Parts, width, Place, Seen, gone, free, has, at, Closed, _⊑_}
 use Rattle.reach.specs.Eval.{fieldsOf, partOf, Env, empty, operands, inputParts, size, Closure, suspended, inputPart, suspend, lookup, Frame, waiting}
 use Rattle.reach.specs.Eval.{State, evaluating, inspecting, missing, stuck, resume, choose, enter, Question, answered, Stop, Next, demands, stops, goes, waits}
-use Rattle.reach.specs.Eval.{view, look, answer, next, Run, reached, ended, unfinished, halted, conclude, eval, startOf, start, run}
+use Rattle.reach.specs.Eval.{view, look, answer, next, Run, reached, ended, unfinished, halted, conclude, eval, startOf, start, run, NotHalted, Spent}
 use Rattle.reach.proofs.Base.{picked}
 use Rattle.reach.proofs.Order.{There, ⊑-has, ⊑-there, part-there, field-there, free-unbound, closed-has, ⊑-refl}
 
@@ -231,12 +231,6 @@ eval-spent-wait p e j n s q h = rw (waits-look p e j s q h) (whatever (at j (q .
     whatever free = refl
     whatever (has c k) = refl
 
-abbrev pub NotHalted : Run → Type 0
-NotHalted (reached n) = Unit {0}
-NotHalted (ended why n) = Unit {0}
-NotHalted (unfinished n) = Unit {0}
-NotHalted (halted q n) = ⊥
-
 -- with no step left it does not halt
 unhalted : (p : Program) (e : Parts) (n : ℕ) (s : State) (N : Next) → next p e s ≡ N → NotHalted (eval p e zero n s)
 unhalted p e n s demands w = rw (eval-demands p e zero n s w) tt
@@ -268,13 +262,6 @@ module _ (p : Program) {e j : Parts} (a : e ⊑ j) (q : Place) (m : ℕ) (f : at
   unfolding HaltMore
   halt-more zero n s h g = not-halted (unhalted p e n s (next p e s) refl) g
   halt-more (suc left) n s h g = step-more left n s h (λ s′ i g′. halt-more left (suc n) s′ i g′) (next p e s) refl g
-
--- Steps spent: at most S; an unfinished run has spent them all, one that halts fewer.
-abbrev pub Spent : ℕ → Run → Type 0
-Spent limit (reached m) = m ≤ limit
-Spent limit (ended why m) = m ≤ limit
-Spent limit (unfinished m) = m ≡ limit
-Spent limit (halted q m) = m < limit
 
 spent-last : (p : Program) (e : Parts) (n : ℕ) (s : State) (N : Next) → next p e s ≡ N → Spent (zero + n) (eval p e zero n s)
 spent-last p e n s demands w = rw (eval-demands p e zero n s w) (omega arith)

@@ -10,25 +10,13 @@ use Rattle.reach.specs.Parts.{Parts, bindAt}
 use Rattle.reach.specs.Types.{Fork, leastDepths}
 use Rattle.reach.specs.Eval.{State, Question, answered, Next, demands, stops, goes, waits, next, start}
 use Rattle.reach.specs.Search.{Entry, gather, branches, search, openInput, entries}
-use Rattle.reach.specs.Moves.{Choice, Position, on, over, Walk, settle, arrive, takeFork, return, moveFrom, move, moves, opening}
-
--- the sum of a number over a list
-unfoldable pub total : {A : Type 0} → (A → ℕ) → List A → ℕ
-total f [] = 0
-total f (x ∷ xs) = f x + total f xs
+use Rattle.reach.specs.Moves.{Choice, Position, on, over, Walk, settle, arrive, takeFork, return, moveFrom, move, moves, opening, total, countNext, inputBehind, stateBehind, pathMoves, choicesMoves, owedMovesFrom, owedMoves, finished}
 
 -- where a sum is 0, lists that are empty where their number is 0 are empty all together
 flatMap-none : {A B : Type 0} (f : A → ℕ) (g : A → List B) → ((x : A) → f x ≡ 0 → g x ≡ []) → (xs : List A) → total f xs ≡ 0 → flatMap g xs ≡ []
 unfolding total flatMap
 flatMap-none f g h [] e = refl
 flatMap-none f g h (x ∷ xs) e = rw (h x (omega arith), flatMap-none f g h xs (omega arith))
-
--- no move behind the end of a path, or the moves of what it goes on to
-unfoldable pub countNext : (State → ℕ) → (Question → ℕ) → Next → ℕ
-countNext go fork demands = 0
-countNext go fork (stops why) = 0
-countNext go fork (goes s) = go s
-countNext go fork (waits q) = fork q
 
 -- where nothing counts behind a step or a fork, nothing counts
 count-none : (x : Next) → countNext (λ s. 0) (λ q. 0) x ≡ 0
@@ -38,62 +26,32 @@ count-none (stops why) = refl
 count-none (goes s) = refl
 count-none (waits q) = refl
 
--- the input and the state behind a constructor of a choice point
-abbrev pub inputBehind : Choice → Fork → Parts
-inputBehind c f = bindAt (c .question .place) (f .constructor) (f .fields) (c .input)
-
-abbrev pub stateBehind : Choice → Fork → State
-stateBehind c f = answered (c .question) (f .constructor) (f .fields)
-
 -- a choice point with these constructors still untried
 abbrev withUntried : Choice → List Fork → Choice
 withUntried c fs = record { question = c .question; left = c .left; done = c .done; input = c .input; untried = fs }
 
 module _ (p : Program) (table : List ℕ) where
-  -- the moves that follow on the arrival at a state, with so many steps left: one for each step, and one for each constructor of a fork
-  unfoldable pub pathMoves : ℕ → Parts → State → ℕ
-  pathMoves zero input s = 0
-  pathMoves (suc left) input s =
-      countNext (λ s′. suc (pathMoves left input s′))
-      (λ q. total
-      (λ (f : Fork). suc (pathMoves left (bindAt (q .place) (f .constructor) (f .fields) input) (answered q (f .constructor) (f .fields))))
-      (branches p table input q))
-      (next p input s)
-
   -- the entries that choice points owe, the last first: those of its untried constructors, in order
   unfoldable pub choicesOwed : List Choice → List Entry
   choicesOwed cs =
       flatMap (λ (c : Choice). flatMap (λ (f : Fork). search p table (c .left) (c .done) (inputBehind c f) (stateBehind c f)) (c .untried)) cs
-
-  -- the moves that choice points owe: for each untried constructor the one that takes it, and those that follow
-  unfoldable pub choicesMoves : List Choice → ℕ
-  choicesMoves cs = total (λ (c : Choice). total (λ (f : Fork). suc (pathMoves (c .left) (inputBehind c f) (stateBehind c f))) (c .untried)) cs
 
   -- the entries of the path under way, if there is one, then those that the choice points owe
   unfoldable pub owedFrom : Position → List Choice → List Entry
   owedFrom (on g) cs = search p table (g .left) (g .done) (g .input) (g .state) ++ choicesOwed cs
   owedFrom over cs = choicesOwed cs
 
-  -- the moves likewise: a path under way owes the one that arrives at its state, and those that follow
-  unfoldable pub owedMovesFrom : Position → List Choice → ℕ
-  owedMovesFrom (on g) cs = suc (pathMoves (g .left) (g .input) (g .state)) + choicesMoves cs
-  owedMovesFrom over cs = choicesMoves cs
-
   -- the entries still to come
   unfoldable pub owed : Walk → List Entry
   owed w = owedFrom (w .position) (w .choices)
 
-  -- the number of moves still to come
-  unfoldable pub owedMoves : Walk → ℕ
-  owedMoves w = owedMovesFrom (w .position) (w .choices)
-
   -- the entries listed and still to come are es, and k moves are still to come
   abbrev Holds : Walk → List Entry → ℕ → Type 0
-  Holds w es k = (w .listed ++ owed w ≡ es) × (owedMoves w ≡ k)
+  Holds w es k = (w .listed ++ owed w ≡ es) × (owedMoves p table w ≡ k)
 
   -- over these choice points, with es listed, w has the entries ys and m moves more to come
   abbrev Adds : List Choice → List Entry → Walk → List Entry → ℕ → Type 0
-  Adds cs es w ys m = Holds w (es ++ (ys ++ choicesOwed cs)) (m + choicesMoves cs)
+  Adds cs es w ys m = Holds w (es ++ (ys ++ choicesOwed cs)) (m + choicesMoves p table cs)
 
   -- `settle` adds what `gather` gathers, if what the path goes on to does
   settle-adds :
@@ -112,7 +70,7 @@ module _ (p : Program) (table : List ℕ) where
   -- a path that arrives at a state adds the entries of the search from there
   arrive-adds :
       (left n : ℕ) (input : Parts) (s : State) (cs : List Choice) (es : List Entry)
-      → Adds cs es (arrive p table left n input s cs es) (search p table left n input s) (pathMoves left input s)
+      → Adds cs es (arrive p table left n input s cs es) (search p table left n input s) (pathMoves p table left input s)
   unfolding arrive search pathMoves choicesOwed choicesMoves owed owedFrom owedMoves owedMovesFrom flatMap total
   arrive-adds zero n input s cs es =
       rw (← count-none (next p input s))
@@ -121,7 +79,7 @@ module _ (p : Program) (table : List ℕ) where
 
   -- behind the end of a path: the entries are kept, and one of the moves that the choice points owe is made, if there is one
   abbrev Returns : List Choice → List Entry → Type 0
-  Returns cs es = Holds (return p table cs es) (es ++ choicesOwed cs) (pred (choicesMoves cs))
+  Returns cs es = Holds (return p table cs es) (es ++ choicesOwed cs) (pred (choicesMoves p table cs))
 
   -- the last choice point goes on to its next constructor, or, if none is left, hands over to the one before it
   return-choice : (c : Choice) (untried : List Fork) (cs : List Choice) (es : List Entry) → Returns cs es → Returns (withUntried c untried ∷ cs) es
@@ -137,12 +95,12 @@ module _ (p : Program) (table : List ℕ) where
   returns (c ∷ cs) es = return-choice c (c .untried) cs es (returns cs es)
 
   -- a move keeps the entries, and makes one of the moves to come, if there is one
-  move-holds : (w : Walk) → Holds (move p table w) (w .listed ++ owed w) (pred (owedMoves w))
+  move-holds : (w : Walk) → Holds (move p table w) (w .listed ++ owed w) (pred (owedMoves p table w))
   unfolding move moveFrom owed owedFrom owedMoves owedMovesFrom
   move-holds w = from (w .position)
     where
       from : (x : Position)
-          → Holds (moveFrom p table x (w .choices) (w .listed)) (w .listed ++ owedFrom x (w .choices)) (pred (owedMovesFrom x (w .choices)))
+          → Holds (moveFrom p table x (w .choices) (w .listed)) (w .listed ++ owedFrom x (w .choices)) (pred (owedMovesFrom p table x (w .choices)))
       from (on g) =
           let a = arrive-adds (g .left) (g .done) (g .input) (g .state) (w .choices) (w .listed) in
           (a .0, a .1 ∙ omega arith)
@@ -153,43 +111,37 @@ module _ (p : Program) (table : List ℕ) where
   move-keeps w = move-holds w .0
 
   -- each move is one less to come
-  pub move-falls : (w : Walk) (k : ℕ) → owedMoves w ≡ suc k → owedMoves (move p table w) ≡ k
+  pub move-falls : (w : Walk) (k : ℕ) → owedMoves p table w ≡ suc k → owedMoves p table (move p table w) ≡ k
   move-falls w k e = omega (arith, move-holds w .1)
 
   -- where no move is to come, no entry is
-  pub nothing-owed : (w : Walk) → owedMoves w ≡ 0 → owed w ≡ []
+  pub nothing-owed : (w : Walk) → owedMoves p table w ≡ 0 → owed w ≡ []
   unfolding owed owedMoves owedFrom owedMovesFrom choicesOwed choicesMoves
   nothing-owed w e = from (w .position) e
     where
-      from : (x : Position) → owedMovesFrom x (w .choices) ≡ 0 → owedFrom x (w .choices) ≡ []
+      from : (x : Position) → owedMovesFrom p table x (w .choices) ≡ 0 → owedFrom x (w .choices) ≡ []
       from (on g) z = absurd (omega arith)
       from over z = flatMap-none _ _ (λ c. flatMap-none _ _ (λ f (y : suc _ ≡ 0). absurd (omega arith)) (c .untried)) (w .choices) z
 
   -- a search without moves to come has listed all that it lists
-  listed-all : (w : Walk) → owedMoves w ≡ 0 → w .listed ++ owed w ≡ w .listed
+  listed-all : (w : Walk) → owedMoves p table w ≡ 0 → w .listed ++ owed w ≡ w .listed
   listed-all w e = rw (nothing-owed w e) (append-nil (w .listed))
 
   -- a search that is over stays over: no move is to come, and the listed entries stay
-  pub move-rests : (w : Walk) → owedMoves w ≡ 0 → (owedMoves (move p table w) ≡ 0) × ((move p table w) .listed ≡ w .listed)
+  pub move-rests : (w : Walk) → owedMoves p table w ≡ 0 → (owedMoves p table (move p table w) ≡ 0) × ((move p table w) .listed ≡ w .listed)
   move-rests w e =
-      let z : owedMoves (move p table w) ≡ 0 = omega (arith, move-holds w .1) in
+      let z : owedMoves p table (move p table w) ≡ 0 = omega (arith, move-holds w .1) in
       (z, sym (listed-all (move p table w) z) ∙ move-keeps w ∙ listed-all w e)
 
   -- after m moves: the entries are kept, and m moves less are to come
   pub moves-keep :
       (m : ℕ) (w : Walk)
-      → ((moves p table m w) .listed ++ owed (moves p table m w) ≡ w .listed ++ owed w) × (owedMoves (moves p table m w) ≡ owedMoves w - m)
+      → ((moves p table m w) .listed ++ owed (moves p table m w) ≡ w .listed ++ owed w) × (owedMoves p table (moves p table m w) ≡ owedMoves p table w - m)
   unfolding moves
   moves-keep zero w = (refl, omega arith)
   moves-keep (suc m) w =
       let h = moves-keep m (move p table w) in
       (h .0 ∙ move-keeps w, h .1 ∙ omega (arith, move-holds w .1))
-
--- the search of a program after all its moves
-abbrev pub finished : Program → Walk
-finished p =
-    let table = leastDepths (p .types) in
-    moves p table (owedMoves p table (opening p table)) (opening p table)
 
 -- the moves list the entries of the program, and come to an end
 pub moves-list : (p : Program) → ((finished p) .listed ≡ entries p) × (owedMoves p (leastDepths (p .types)) (finished p) ≡ 0)

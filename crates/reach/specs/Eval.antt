@@ -1,7 +1,8 @@
 -- The evaluation: the unit-evaluator of source document 000, by name, one counted step at a time as paper 01 counts them.
 -- A state holds no part of the input, only the places of parts: the input is looked at in one place, `next`.
 -- Rests on Syntax and Parts.
-use Prim.Native.Nat.{ℕ, zero, suc, _+_, _-_}
+use Prim.Native.Nat.{ℕ, zero, suc, _+_, _-_, _≤_, _<_}
+use mathlib.Core.Path.{_≡_}
 use mathlib.Core.Bool.{Bool}
 use mathlib.Core.List.{List, [], _∷_}
 use mathlib.Core.Option.{Option, none, some}
@@ -161,3 +162,17 @@ start p = startOf (functionAt p (p .source))
 -- the evaluation of the rule on an input, closed or partial, up to the step limit S
 unfoldable pub run : Program → Parts → Run
 run p input = eval p input (p .steps) 0 (start p)
+
+-- the steps that a run has spent under a limit: at most so many; all of them where it is unfinished, fewer where it halts
+abbrev pub Spent : ℕ → Run → Type 0
+Spent limit (reached m) = m ≤ limit
+Spent limit (ended why m) = m ≤ limit
+Spent limit (unfinished m) = m ≡ limit
+Spent limit (halted q m) = m < limit
+
+-- it did not halt: it is reached, ended or unfinished
+abbrev pub NotHalted : Run → Type 0
+NotHalted (reached m) = Unit {0}
+NotHalted (ended why m) = Unit {0}
+NotHalted (unfinished m) = Unit {0}
+NotHalted (halted q m) = ⊥

@@ -1,7 +1,7 @@
 -- The search as moves over one path with a stack of choice points: what the program does, and what a search in turns would do.
 -- proofs/Moves.antt shows that the moves give exactly the list of `search`.
 -- Rests on Search.
-use Prim.Native.Nat.{ℕ, zero, suc}
+use Prim.Native.Nat.{ℕ, zero, suc, _+_}
 use mathlib.Core.List.{List, [], _∷_, _++_}
 use Rattle.reach.specs.Syntax.{Program}
 use Rattle.reach.specs.Parts.{Parts, bindAt}
@@ -86,3 +86,54 @@ moves p table (suc m) w = moves p table m (move p table w)
 -- before the first move
 unfoldable pub opening : Program → List ℕ → Walk
 opening p table = arrive p table (p .steps) 0 (openInput p) (start p) [] []
+
+-- How many moves are still to come: the number that falls by one at each move.
+
+-- the sum of a number over a list
+unfoldable pub total : {A : Type 0} → (A → ℕ) → List A → ℕ
+total f [] = 0
+total f (x ∷ xs) = f x + total f xs
+
+-- no move behind the end of a path, or the moves of what it goes on to
+unfoldable pub countNext : (State → ℕ) → (Question → ℕ) → Next → ℕ
+countNext go fork demands = 0
+countNext go fork (stops why) = 0
+countNext go fork (goes s) = go s
+countNext go fork (waits q) = fork q
+
+-- the input and the state behind a constructor of a choice point
+abbrev pub inputBehind : Choice → Fork → Parts
+inputBehind c f = bindAt (c .question .place) (f .constructor) (f .fields) (c .input)
+
+abbrev pub stateBehind : Choice → Fork → State
+stateBehind c f = answered (c .question) (f .constructor) (f .fields)
+
+module _ (p : Program) (table : List ℕ) where
+  -- the moves that follow on the arrival at a state, with so many steps left: one for each step, and one for each constructor of a fork
+  unfoldable pub pathMoves : ℕ → Parts → State → ℕ
+  pathMoves zero input s = 0
+  pathMoves (suc left) input s =
+      countNext (λ s′. suc (pathMoves left input s′))
+      (λ q. total
+      (λ (f : Fork). suc (pathMoves left (bindAt (q .place) (f .constructor) (f .fields) input) (answered q (f .constructor) (f .fields))))
+      (branches p table input q))
+      (next p input s)
+
+  -- the moves that choice points owe: for each untried constructor the one that takes it, and those that follow
+  unfoldable pub choicesMoves : List Choice → ℕ
+  choicesMoves cs = total (λ (c : Choice). total (λ (f : Fork). suc (pathMoves (c .left) (inputBehind c f) (stateBehind c f))) (c .untried)) cs
+
+  -- all of them: a path under way owes the one that arrives at its state, and those that follow
+  unfoldable pub owedMovesFrom : Position → List Choice → ℕ
+  owedMovesFrom (on g) cs = suc (pathMoves (g .left) (g .input) (g .state)) + choicesMoves cs
+  owedMovesFrom over cs = choicesMoves cs
+
+  -- the number of moves still to come
+  unfoldable pub owedMoves : Walk → ℕ
+  owedMoves w = owedMovesFrom (w .position) (w .choices)
+
+-- the search of a program after all its moves
+abbrev pub finished : Program → Walk
+finished p =
+    let table = leastDepths (p .types) in
+    moves p table (owedMoves p table (opening p table)) (opening p table)

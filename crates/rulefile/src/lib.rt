@@ -4,14 +4,18 @@
 ghost use mathlib.Core.Path.{_≡_};
 ghost use Prim.Native.Nat.{_≤_};
 ghost use Rattle.rulefile.specs.Loading.{checkedOf, Outlines, Reads, Loads, sourceShallow};
-
 use bodies::bodies;
-use depths::{Depths, all_shallow, least_depths, none_empty};
+use depths::Depths;
+use depths::all_shallow;
+use depths::least_depths;
+use depths::none_empty;
 use lookups::place_or_zero;
 use numbers::numbers_exist;
-use outline::{Outlined, first_pass};
+use outline::Outlined;
+use outline::first_pass;
 use reach::Refusal;
-use records::{Step, byte_or_zero};
+use records::Step;
+use records::byte_or_zero;
 
 const FILE_LIMIT: usize = 16384;
 
@@ -49,7 +53,12 @@ pub fn turned_back(why: Refusal) -> Loaded
 }
 
 // Each parameter of the source has a closed value that is at most D deep.
-pub fn source_shallow<'a>(file: &'a [u8], functions: &'a [u16], goal_at: usize, least: Depths) -> bool
+pub fn source_shallow<'a>(
+    file: &'a [u8],
+    functions: &'a [u16],
+    goal_at: usize,
+    least: Depths,
+) -> bool
     requires { ⌜ goal_at ≤ 16384 ⌝ }
     ensures { λ r. ⌜ r ≡ sourceShallow (now (file .entry)) (now (functions .entry)) goal_at (least .of) ⌝ }
 {
