@@ -1,13 +1,15 @@
 -- The bytes of an entry and of a list, and a list cut to its room: 01, "The list" and refusal 12.
 -- Rests on Search.
-use Prim.Native.Nat.{ℕ, _+_, _-_, _/_, _%_, min}
-use mathlib.Core.Bool.{Bool, true, false}
+use Prim.Native.Nat.{ℕ, zero, suc, _+_, _-_, _/_, _%_, min}
+use mathlib.Core.Bool.{Bool, true, false, _&&_, _||_}
 use mathlib.Core.List.{List, [], _∷_, _++_, flatMap}
-use lib.ListN.{length, drop}
-use lib.Dec.{leb}
+use mathlib.Core.Option.{Option, none, some}
+use lib.ListN.{length, getD, take, drop}
+use lib.Dec.{leb, eqb}
 use Rattle.reach.specs.Base.{pick}
 use Rattle.reach.specs.Limits.{listLimit}
 use Rattle.reach.specs.Parts.{prefix}
+use Rattle.reach.specs.Places.{wordAt}
 use Rattle.reach.specs.Search.{Kind, RE, UN, Entry}
 
 -- the two bytes of a number, the low byte first
@@ -48,3 +50,27 @@ roomOf length = min length listLimit
 -- a list slice with a list written to its front: the bytes after it are as before
 unfoldable pub written : List Entry → List ℕ → List ℕ
 written es before = listBytes es ++ drop (length (listBytes es)) before
+
+abbrev pub onSize : {A B : Type 0} → B → (A → B) → Option A → B
+onSize b f none = b
+onSize b f (some a) = f a
+
+-- Reading a list back. A mark is known if it is that of an entry.
+unfoldable pub knownMark : ℕ → ℕ → Bool
+knownMark a b = (eqb a 0x52 && eqb b 0x45) || (eqb a 0x55 && eqb b 0x4e)
+
+-- how many bytes the entry at place i fills: a known mark, a whole header, and a length inside the list
+unfoldable pub entrySize : List ℕ → ℕ → Option ℕ
+entrySize l i =
+    pick (leb (i + 6) (length l) && knownMark (getD l i 0) (getD l (i + 1) 0) && leb (i + 6 + wordAt l (i + 4)) (length l))
+    (some (6 + wordAt l (i + 4)))
+    none
+
+-- where entry k begins, counted from the entry at place i, and how many bytes it fills
+unfoldable pub entrySpan : List ℕ → ℕ → ℕ → Option (ℕ × ℕ)
+entrySpan l zero i = onSize none (λ n. some (i, n)) (entrySize l i)
+entrySpan l (suc k) i = onSize none (λ n. entrySpan l k (i + n)) (entrySize l i)
+
+-- 01: the entry of a given number is the part of the list that it fills, from mark to last byte; else the empty part at the list's end
+unfoldable pub entryPart : List ℕ → ℕ → List ℕ
+entryPart list k = onSize [] (λ span. take (span .1) (drop (span .0) list)) (entrySpan (take listLimit list) k 0)
