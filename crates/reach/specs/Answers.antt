@@ -1,6 +1,6 @@
 -- The answers of the whole search and of the whole closed run, as functions of the bytes lent and the lengths of the slices.
 -- Rests on everything else.
-use Prim.Native.Nat.{ℕ, _+_, _*_}
+use Prim.Native.Nat.{ℕ}
 use mathlib.Core.Bool.{Bool, true, false}
 use mathlib.Core.List.{List, []}
 use mathlib.Core.Option.{Option, none, some}
@@ -17,10 +17,10 @@ use Rattle.reach.specs.Syntax.{Program}
 use Rattle.reach.specs.Parts.{Parts}
 use Rattle.reach.specs.Eval.{Run, reached, ended, unfinished, halted, run}
 use Rattle.reach.specs.Search.{Entry, entries, verdict}
-use Rattle.reach.specs.Reader.{Got, got, refused, onGot}
+use Rattle.reach.specs.Reader.{refused, onGot}
 use Rattle.reach.specs.RuleFile.{ruleFile}
 use Rattle.reach.specs.Input.{inputOf}
-use Rattle.reach.specs.Lists.{Cut, cut, roomOf}
+use Rattle.reach.specs.Lists.{cut, roomOf}
 
 -- A file as the check leaves it: accepted, with its program, or refused by 1 to 9.
 pub data Checked : Type 0 where

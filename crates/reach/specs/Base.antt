@@ -1,8 +1,7 @@
 -- A choice by a test, and membership in a list: what the other files use and no paper has to say.
 -- Rests on the library's lists and tests.
-use Prim.Native.Nat.{ℕ, zero, suc}
 use mathlib.Core.Bool.{Bool, true, false}
-use mathlib.Core.List.{List, [], _∷_, List·Memᴰ}
+use mathlib.Core.List.{List, List·Memᴰ}
 
 -- the first where the test passes, else the second
 abbrev pub pick {ℓ} : {A : Type ℓ} → Bool → A → A → A

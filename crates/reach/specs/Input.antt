@@ -3,11 +3,10 @@
 use Prim.Native.Nat.{ℕ, zero, suc}
 use mathlib.Core.List.{List, [], _∷_}
 use mathlib.Core.Option.{Option, none, some}
-use Rattle.reach.specs.declared.Refusal.{Refusal}
 use Rattle.reach.specs.declared.Refusal.the-variants.{BadInput}
 use Rattle.reach.specs.Syntax.{Types, Program, fieldTypes, sourceTypes}
 use Rattle.reach.specs.Parts.{Parts, end, bound}
-use Rattle.reach.specs.Reader.{Got, got, refused, onGot, Reader, _>>=_, _>>_, give, refuse, byte, atEnd}
+use Rattle.reach.specs.Reader.{onGot, Reader, _>>=_, _>>_, give, refuse, byte, atEnd}
 
 abbrev pub orBad : Option (List ℕ) → Reader (List ℕ)
 orBad none = refuse BadInput

@@ -7,7 +7,7 @@ use Rattle.reach.specs.Syntax.{Program}
 use Rattle.reach.specs.Parts.{Parts, bindAt}
 use Rattle.reach.specs.Types.{Fork, leastDepths}
 use Rattle.reach.specs.Eval.{State, Question, answered, Next, demands, stops, goes, waits, next, start}
-use Rattle.reach.specs.Search.{Kind, RE, UN, Entry, spent, branches, openInput}
+use Rattle.reach.specs.Search.{RE, Entry, spent, branches, openInput}
 
 -- A path under way: what it goes on to, the steps left and done, and its partial input.
 pub record Going : Type 0 where

@@ -1,6 +1,6 @@
 -- Partial inputs, the places in them, and what 01 says of them: open and bound parts, closed inputs, depth, to complete, to open.
 -- Rests on numbers alone.
-use Prim.Native.Nat.{ℕ, zero, suc, _+_, max}
+use Prim.Native.Nat.{ℕ, zero, suc, max}
 use mathlib.Core.Path.{_≡_}
 use mathlib.Core.List.{List, [], _∷_, _++_}
 

@@ -1,7 +1,7 @@
 -- Readers: what stands at a place of a list of bytes, with the place behind it, or a refusal.
 -- Rests on the enum Refusal of src/lib.rt.
 use Prim.Native.Nat.{ℕ, zero, suc, _+_, _*_}
-use mathlib.Core.Bool.{Bool, true, false}
+use mathlib.Core.Bool.{Bool}
 use mathlib.Core.List.{List, [], _∷_}
 use lib.ListN.{length, getD}
 use lib.Dec.{ltb, leb}
