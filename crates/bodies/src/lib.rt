@@ -2,14 +2,12 @@
 // each other; the nesting that is left falls. Records of types and functions are looked at where the first pass found them.
 // Rests on crate records.
 ghost use mathlib.Core.Path.{_≡_};
-ghost use mathlib.Core.Bool.{_&&_};
 ghost use mathlib.Core.List.{[], _∷_, _++_};
-ghost use Prim.Native.Nat.{ℕ, _+_, _≤_};
-ghost use lib.Dec.{ltb, leb};
+ghost use Prim.Native.Nat.{_+_, _≤_};
 ghost use lib.ListN.{getD, getElem?};
 ghost use Rattle.reach.specs.Places.{bytesAt, constructorsAt};
 ghost use Rattle.records.specs.Steps.{stepOf};
-ghost use Rattle.bodies.specs.Check.{viewOf, fieldsOf, fieldsIn, Small, Narrow, variableAt, callAt, constructAt, caseAt, letAt, targetAt, expressionAt, operandsAt, alternativeAt, alternativesAt, BodyThere, bodyAt, BodiesThere, functionsAt, bodiesStep};
+ghost use Rattle.bodies.specs.Check.{viewOf, Limits, fieldsOf, fieldsIn, Near, Small, Narrow, variableAt, callAt, constructAt, caseAt, letAt, targetAt, expressionAt, operandsAt, alternativeAt, alternativesAt, BodyThere, bodyAt, BodiesThere, functionsAt, bodiesStep};
 use reach::Refusal;
 use records::Step;
 use records::Taken;
@@ -44,6 +42,18 @@ pub fn place_or_zero(places: &[u16], n: usize) -> usize
     }
 }
 
+// The view with one more variable.
+pub fn with_one(view: View, t: usize) -> View
+    requires { ⌜ (view .count ≤ 39) × (t ≤ 255) ⌝ }
+    ensures { λ r. ⌜ (viewOf r ≡ viewOf view ++ (t ∷ [])) × (r .count ≡ view .count + 1) ⌝ }
+{
+    let mut wider = view;
+    let next = wider.count;
+    wider.types[next] = (t % 256) as u8;
+    wider.count = next + 1;
+    wider
+}
+
 // The view with n more variables, whose types stand from a place on.
 pub fn extended(view: View, s: &[u8], at: usize, n: usize) -> View
     requires { ⌜ (view .count + n ≤ 40) × (at ≤ 1000000) ⌝ }
@@ -53,13 +63,8 @@ pub fn extended(view: View, s: &[u8], at: usize, n: usize) -> View
     let mut place = at;
     let mut more = n;
     while 0 < more {
-        let next = wider.count;
-        if place < s.len() {
-            wider.types[next] = s[place];
-        } else {
-            wider.types[next] = 0;
-        }
-        wider.count = next + 1;
+        let longer = with_one(wider, byte_or_zero(s, place));
+        wider = longer;
         place += 1;
         more -= 1;
     }
@@ -70,6 +75,7 @@ pub fn extended(view: View, s: &[u8], at: usize, n: usize) -> View
 pub fn fields_at(s: &[u8], at: usize, n: usize, c: usize) -> Fields
     requires { ⌜ (at ≤ 65536) × (n ≤ 255) ⌝ }
     ensures { λ r. ⌜ fieldsOf (now (s .entry)) r ≡ getElem? (constructorsAt (now (s .entry)) at n) c ⌝ }
+    ensures near { λ r. ⌜ Near r ⌝ }
 {
     if n <= c {
         return Fields::Unknown;
@@ -84,31 +90,21 @@ pub fn fields_at(s: &[u8], at: usize, n: usize, c: usize) -> Fields
 }
 
 // Where the fields of constructor c of type t stand.
-pub fn fields_of<'a>(s: &'a [u8], type_at: &'a [u16], t: usize, c: usize) -> Fields
-    ensures { λ r. ⌜ fieldsOf (now (s .entry)) r ≡ fieldsIn (now (s .entry)) (now (type_at .entry)) t c ⌝ }
+pub fn fields_of<'a>(s: &'a [u8], types: &'a [u16], t: usize, c: usize) -> Fields
+    ensures { λ r. ⌜ fieldsOf (now (s .entry)) r ≡ fieldsIn (now (s .entry)) (now (types .entry)) t c ⌝ }
+    ensures near { λ r. ⌜ Near r ⌝ }
 {
-    if type_at.len() <= t {
+    if types.len() <= t {
         return Fields::Unknown;
     }
-    let place = place_or_zero(type_at, t);
+    let place = place_or_zero(types, t);
     fields_at(s, place + 1, byte_or_zero(s, place), c)
-}
-
-// The view with one more variable.
-pub fn with_one(view: View, t: usize) -> View
-    requires { ⌜ (view .count ≤ 38) × (t ≤ 255) ⌝ }
-    ensures { λ r. ⌜ (viewOf r ≡ viewOf view ++ (t ∷ [])) × (r .count ≡ view .count + 1) ⌝ }
-{
-    let mut wider = view;
-    let next = wider.count;
-    wider.types[next] = (t % 256) as u8;
-    wider.count = next + 1;
-    wider
 }
 
 // The expression's own nesting and view are within their limits.
 pub fn in_limits(left: usize, view: View) -> bool
-    ensures { λ r. ⌜ r ≡ (ltb 0 left && leb (view .count) 32) ⌝ }
+    requires { ⌜ view .count ≤ 38 ⌝ }
+    ensures { λ r. ⌜ Limits left view r ⌝ }
 {
     if left == 0 {
         false
@@ -117,6 +113,7 @@ pub fn in_limits(left: usize, view: View) -> bool
     }
 }
 
+// A variable: its number; its type is that of the view.
 pub fn variable(body: &[u8], at: usize, left: usize, view: View, expected: usize) -> Step
     requires { ⌜ view .count ≤ 38 ⌝ }
     ensures { λ r. ⌜ r ≡ stepOf (variableAt left (viewOf view) expected (now (body .entry)) at) ⌝ }
@@ -137,57 +134,59 @@ pub fn variable(body: &[u8], at: usize, left: usize, view: View, expected: usize
     Step::Next(next)
 }
 
+// An expression, which may nest so many deep: its code, and what its kind reads behind it.
 pub fn expression<'a>(
     file: &'a [u8],
     body: &'a [u8],
-    type_at: &'a [u16],
-    function_at: &'a [u16],
+    types: &'a [u16],
+    functions: &'a [u16],
     at: usize,
     left: usize,
     view: View,
     expected: usize,
 ) -> Step
-    requires { ⌜ Small (now file) (now type_at) (now function_at) × (view .count ≤ 38) ⌝ }
-    ensures { λ r. ⌜ r ≡ stepOf (expressionAt (now (file .entry)) (now (type_at .entry)) (now (function_at .entry)) left (viewOf view) expected (now (body .entry)) at) ⌝ }
+    requires { ⌜ Small (now file) (now types) (now functions) × (view .count ≤ 38) ⌝ }
+    ensures { λ r. ⌜ r ≡ stepOf (expressionAt (now (file .entry)) (now (types .entry)) (now (functions .entry)) left (viewOf view) expected (now (body .entry)) at) ⌝ }
 {
     let Taken::Byte(code, next) = take_byte(body, at) else {
         return Step::Refused(Refusal::Truncated);
     };
     match code {
         0 => variable(body, next, left, view, expected),
-        1 => call_expression(file, body, type_at, function_at, next, left, view, expected),
-        2 => construct_expression(file, body, type_at, function_at, next, left, view, expected),
-        3 => case_expression(file, body, type_at, function_at, next, left, view, expected),
-        4 => let_expression(file, body, type_at, function_at, next, left, view, expected),
-        5 => target_expression(file, body, type_at, function_at, next, left, view, expected),
+        1 => call(file, body, types, functions, next, left, view, expected),
+        2 => construct(file, body, types, functions, next, left, view, expected),
+        3 => case(file, body, types, functions, next, left, view, expected),
+        4 => bind(file, body, types, functions, next, left, view, expected),
+        5 => target(file, body, types, functions, next, left, view, expected),
         _ => Step::Refused(Refusal::UnknownCode),
     }
 }
 
-pub fn call_expression<'a>(
+// A call: the function's number, and an operand for each of its parameters.
+pub fn call<'a>(
     file: &'a [u8],
     body: &'a [u8],
-    type_at: &'a [u16],
-    function_at: &'a [u16],
+    types: &'a [u16],
+    functions: &'a [u16],
     at: usize,
     left: usize,
     view: View,
     expected: usize,
 ) -> Step
-    requires { ⌜ Small (now file) (now type_at) (now function_at) × (view .count ≤ 38) ⌝ }
-    ensures { λ r. ⌜ r ≡ stepOf (callAt (now (file .entry)) (now (type_at .entry)) (now (function_at .entry)) left (viewOf view) expected (now (body .entry)) at) ⌝ }
+    requires { ⌜ Small (now file) (now types) (now functions) × (view .count ≤ 38) ⌝ }
+    ensures { λ r. ⌜ r ≡ stepOf (callAt (now (file .entry)) (now (types .entry)) (now (functions .entry)) left (viewOf view) expected (now (body .entry)) at) ⌝ }
 {
     let Taken::Byte(number, next) = take_byte(body, at) else {
         return Step::Refused(Refusal::Truncated);
     };
     let f = wide(number);
-    if function_at.len() <= f {
+    if functions.len() <= f {
         return Step::Refused(Refusal::UnknownNumber);
     }
     if !in_limits(left, view) {
         return Step::Refused(Refusal::OutOfRange);
     }
-    let place = place_or_zero(function_at, f);
+    let place = place_or_zero(functions, f);
     let parameters = byte_or_zero(file, place);
     if byte_or_zero(file, place + 1 + parameters) != expected {
         return Step::Refused(Refusal::TypeMismatch);
@@ -195,8 +194,8 @@ pub fn call_expression<'a>(
     operands(
         file,
         body,
-        type_at,
-        function_at,
+        types,
+        functions,
         next,
         left - 1,
         view,
@@ -205,18 +204,19 @@ pub fn call_expression<'a>(
     )
 }
 
-pub fn construct_expression<'a>(
+// A construction: the type's and the constructor's number, and an operand for each field.
+pub fn construct<'a>(
     file: &'a [u8],
     body: &'a [u8],
-    type_at: &'a [u16],
-    function_at: &'a [u16],
+    types: &'a [u16],
+    functions: &'a [u16],
     at: usize,
     left: usize,
     view: View,
     expected: usize,
 ) -> Step
-    requires { ⌜ Small (now file) (now type_at) (now function_at) × (view .count ≤ 38) ⌝ }
-    ensures { λ r. ⌜ r ≡ stepOf (constructAt (now (file .entry)) (now (type_at .entry)) (now (function_at .entry)) left (viewOf view) expected (now (body .entry)) at) ⌝ }
+    requires { ⌜ Small (now file) (now types) (now functions) × (view .count ≤ 38) ⌝ }
+    ensures { λ r. ⌜ r ≡ stepOf (constructAt (now (file .entry)) (now (types .entry)) (now (functions .entry)) left (viewOf view) expected (now (body .entry)) at) ⌝ }
 {
     let Taken::Byte(number, middle) = take_byte(body, at) else {
         return Step::Refused(Refusal::Truncated);
@@ -225,7 +225,7 @@ pub fn construct_expression<'a>(
         return Step::Refused(Refusal::Truncated);
     };
     let t = wide(number);
-    let Fields::At(fields, n) = fields_of(file, type_at, t, wide(c)) else {
+    let Fields::At(fields, n) = fields_of(file, types, t, wide(c)) else {
         return Step::Refused(Refusal::UnknownNumber);
     };
     if !in_limits(left, view) {
@@ -237,8 +237,8 @@ pub fn construct_expression<'a>(
     operands(
         file,
         body,
-        type_at,
-        function_at,
+        types,
+        functions,
         next,
         left - 1,
         view,
@@ -247,39 +247,40 @@ pub fn construct_expression<'a>(
     )
 }
 
-pub fn case_expression<'a>(
+// A case: the type's number, the subject, and an alternative or none for each constructor of the type.
+pub fn case<'a>(
     file: &'a [u8],
     body: &'a [u8],
-    type_at: &'a [u16],
-    function_at: &'a [u16],
+    types: &'a [u16],
+    functions: &'a [u16],
     at: usize,
     left: usize,
     view: View,
     expected: usize,
 ) -> Step
-    requires { ⌜ Small (now file) (now type_at) (now function_at) × (view .count ≤ 38) ⌝ }
-    ensures { λ r. ⌜ r ≡ stepOf (caseAt (now (file .entry)) (now (type_at .entry)) (now (function_at .entry)) left (viewOf view) expected (now (body .entry)) at) ⌝ }
+    requires { ⌜ Small (now file) (now types) (now functions) × (view .count ≤ 38) ⌝ }
+    ensures { λ r. ⌜ r ≡ stepOf (caseAt (now (file .entry)) (now (types .entry)) (now (functions .entry)) left (viewOf view) expected (now (body .entry)) at) ⌝ }
 {
     let Taken::Byte(number, next) = take_byte(body, at) else {
         return Step::Refused(Refusal::Truncated);
     };
     let t = wide(number);
-    if type_at.len() <= t {
+    if types.len() <= t {
         return Step::Refused(Refusal::UnknownNumber);
     }
     if !in_limits(left, view) {
         return Step::Refused(Refusal::OutOfRange);
     }
-    let step = expression(file, body, type_at, function_at, next, left - 1, view, t);
+    let step = expression(file, body, types, functions, next, left - 1, view, t);
     let Step::Next(first) = step else {
         return step;
     };
-    let place = place_or_zero(type_at, t);
+    let place = place_or_zero(types, t);
     alternatives(
         file,
         body,
-        type_at,
-        function_at,
+        types,
+        functions,
         first,
         left - 1,
         view,
@@ -289,38 +290,39 @@ pub fn case_expression<'a>(
     )
 }
 
-pub fn let_expression<'a>(
+// A let: the type's number, the bound expression, and the body, which sees one more variable.
+pub fn bind<'a>(
     file: &'a [u8],
     body: &'a [u8],
-    type_at: &'a [u16],
-    function_at: &'a [u16],
+    types: &'a [u16],
+    functions: &'a [u16],
     at: usize,
     left: usize,
     view: View,
     expected: usize,
 ) -> Step
-    requires { ⌜ Small (now file) (now type_at) (now function_at) × (view .count ≤ 38) ⌝ }
-    ensures { λ r. ⌜ r ≡ stepOf (letAt (now (file .entry)) (now (type_at .entry)) (now (function_at .entry)) left (viewOf view) expected (now (body .entry)) at) ⌝ }
+    requires { ⌜ Small (now file) (now types) (now functions) × (view .count ≤ 38) ⌝ }
+    ensures { λ r. ⌜ r ≡ stepOf (letAt (now (file .entry)) (now (types .entry)) (now (functions .entry)) left (viewOf view) expected (now (body .entry)) at) ⌝ }
 {
     let Taken::Byte(number, next) = take_byte(body, at) else {
         return Step::Refused(Refusal::Truncated);
     };
     let t = wide(number);
-    if type_at.len() <= t {
+    if types.len() <= t {
         return Step::Refused(Refusal::UnknownNumber);
     }
     if !in_limits(left, view) {
         return Step::Refused(Refusal::OutOfRange);
     }
-    let step = expression(file, body, type_at, function_at, next, left - 1, view, t);
+    let step = expression(file, body, types, functions, next, left - 1, view, t);
     let Step::Next(behind) = step else {
         return step;
     };
     expression(
         file,
         body,
-        type_at,
-        function_at,
+        types,
+        functions,
         behind,
         left - 1,
         with_one(view, t),
@@ -328,18 +330,19 @@ pub fn let_expression<'a>(
     )
 }
 
-pub fn target_expression<'a>(
+// A target: the label, and the expression inside.
+pub fn target<'a>(
     file: &'a [u8],
     body: &'a [u8],
-    type_at: &'a [u16],
-    function_at: &'a [u16],
+    types: &'a [u16],
+    functions: &'a [u16],
     at: usize,
     left: usize,
     view: View,
     expected: usize,
 ) -> Step
-    requires { ⌜ Small (now file) (now type_at) (now function_at) × (view .count ≤ 38) ⌝ }
-    ensures { λ r. ⌜ r ≡ stepOf (targetAt (now (file .entry)) (now (type_at .entry)) (now (function_at .entry)) left (viewOf view) expected (now (body .entry)) at) ⌝ }
+    requires { ⌜ Small (now file) (now types) (now functions) × (view .count ≤ 38) ⌝ }
+    ensures { λ r. ⌜ r ≡ stepOf (targetAt (now (file .entry)) (now (types .entry)) (now (functions .entry)) left (viewOf view) expected (now (body .entry)) at) ⌝ }
 {
     let Taken::Byte(_, next) = take_byte(body, at) else {
         return Step::Refused(Refusal::Truncated);
@@ -347,42 +350,33 @@ pub fn target_expression<'a>(
     if !in_limits(left, view) {
         return Step::Refused(Refusal::OutOfRange);
     }
-    expression(
-        file,
-        body,
-        type_at,
-        function_at,
-        next,
-        left - 1,
-        view,
-        expected,
-    )
+    expression(file, body, types, functions, next, left - 1, view, expected)
 }
 
 // An expression for each of the n types that stand from a place of the file on.
 pub fn operands<'a>(
     file: &'a [u8],
     body: &'a [u8],
-    type_at: &'a [u16],
-    function_at: &'a [u16],
+    types: &'a [u16],
+    functions: &'a [u16],
     at: usize,
     left: usize,
     view: View,
-    types: usize,
+    first: usize,
     n: usize,
 ) -> Step
-    requires { ⌜ Small (now file) (now type_at) (now function_at) × (view .count ≤ 38) × (types ≤ 1000000) × (n ≤ 255) ⌝ }
-    ensures { λ r. ⌜ r ≡ stepOf (operandsAt (now (file .entry)) (now (type_at .entry)) (now (function_at .entry)) left (viewOf view) (bytesAt (now (file .entry)) types n) (now (body .entry)) at) ⌝ }
+    requires { ⌜ Small (now file) (now types) (now functions) × (view .count ≤ 38) × (first ≤ 1000000) × (n ≤ 255) ⌝ }
+    ensures { λ r. ⌜ r ≡ stepOf (operandsAt (now (file .entry)) (now (types .entry)) (now (functions .entry)) left (viewOf view) (bytesAt (now (file .entry)) first n) (now (body .entry)) at) ⌝ }
 {
     let mut place = at;
-    let mut t = types;
+    let mut t = first;
     let mut more = n;
     while 0 < more {
         let step = expression(
             file,
             body,
-            type_at,
-            function_at,
+            types,
+            functions,
             place,
             left,
             view,
@@ -402,8 +396,8 @@ pub fn operands<'a>(
 pub fn alternatives<'a>(
     file: &'a [u8],
     body: &'a [u8],
-    type_at: &'a [u16],
-    function_at: &'a [u16],
+    types: &'a [u16],
+    functions: &'a [u16],
     at: usize,
     left: usize,
     view: View,
@@ -411,23 +405,23 @@ pub fn alternatives<'a>(
     n: usize,
     expected: usize,
 ) -> Step
-    requires { ⌜ Small (now file) (now type_at) (now function_at) × (view .count ≤ 32) × (constructors ≤ 65536) × (n ≤ 255) × Narrow (constructorsAt (now file) constructors n) ⌝ }
-    ensures { λ r. ⌜ r ≡ stepOf (alternativesAt (now (file .entry)) (now (type_at .entry)) (now (function_at .entry)) left (viewOf view) expected (constructorsAt (now (file .entry)) constructors n) (now (body .entry)) at) ⌝ }
+    requires { ⌜ Small (now file) (now types) (now functions) × (view .count ≤ 32) × (constructors ≤ 65536) × (n ≤ 255) × Narrow (constructorsAt (now file) constructors n) ⌝ }
+    ensures { λ r. ⌜ r ≡ stepOf (alternativesAt (now (file .entry)) (now (types .entry)) (now (functions .entry)) left (viewOf view) expected (constructorsAt (now (file .entry)) constructors n) (now (body .entry)) at) ⌝ }
 {
     let mut place = at;
-    let mut record = constructors;
+    let mut constructor = constructors;
     let mut more = n;
     while 0 < more {
-        let fields = byte_or_zero(file, record);
+        let fields = byte_or_zero(file, constructor);
         let step = alternative(
             file,
             body,
-            type_at,
-            function_at,
+            types,
+            functions,
             place,
             left,
             view,
-            record + 1,
+            constructor + 1,
             fields,
             expected,
         );
@@ -435,7 +429,7 @@ pub fn alternatives<'a>(
             return step;
         };
         place = next;
-        record = record + 1 + fields;
+        constructor = constructor + 1 + fields;
         more -= 1;
     }
     Step::Next(place)
@@ -445,8 +439,8 @@ pub fn alternatives<'a>(
 pub fn alternative<'a>(
     file: &'a [u8],
     body: &'a [u8],
-    type_at: &'a [u16],
-    function_at: &'a [u16],
+    types: &'a [u16],
+    functions: &'a [u16],
     at: usize,
     left: usize,
     view: View,
@@ -454,8 +448,8 @@ pub fn alternative<'a>(
     n: usize,
     expected: usize,
 ) -> Step
-    requires { ⌜ Small (now file) (now type_at) (now function_at) × (view .count ≤ 32) × (fields ≤ 1000000) × (n ≤ 6) ⌝ }
-    ensures { λ r. ⌜ r ≡ stepOf (alternativeAt (now (file .entry)) (now (type_at .entry)) (now (function_at .entry)) left (viewOf view) expected (bytesAt (now (file .entry)) fields n) (now (body .entry)) at) ⌝ }
+    requires { ⌜ Small (now file) (now types) (now functions) × (view .count ≤ 32) × (fields ≤ 1000000) × (n ≤ 6) ⌝ }
+    ensures { λ r. ⌜ r ≡ stepOf (alternativeAt (now (file .entry)) (now (types .entry)) (now (functions .entry)) left (viewOf view) expected (bytesAt (now (file .entry)) fields n) (now (body .entry)) at) ⌝ }
 {
     let Taken::Byte(b, next) = take_byte(body, at) else {
         return Step::Refused(Refusal::Truncated);
@@ -469,8 +463,8 @@ pub fn alternative<'a>(
     expression(
         file,
         body,
-        type_at,
-        function_at,
+        types,
+        functions,
         next,
         left,
         extended(view, file, fields, n),
@@ -479,9 +473,9 @@ pub fn alternative<'a>(
 }
 
 // The body of the function whose record stands at a place, and nothing behind its expression.
-pub fn body_of<'a>(file: &'a [u8], type_at: &'a [u16], function_at: &'a [u16], place: usize) -> Step
-    requires { ⌜ Small (now file) (now type_at) (now function_at) × (place ≤ 65535) × BodyThere (now file) place ⌝ }
-    ensures { λ r. ⌜ r ≡ stepOf (bodyAt (now (file .entry)) (now (type_at .entry)) (now (function_at .entry)) place) ⌝ }
+pub fn body_of<'a>(file: &'a [u8], types: &'a [u16], functions: &'a [u16], place: usize) -> Step
+    requires { ⌜ Small (now file) (now types) (now functions) × (place ≤ 65535) × (getD (now file) place 0 ≤ 8) × BodyThere (now file) place ⌝ }
+    ensures { λ r. ⌜ r ≡ stepOf (bodyAt (now (file .entry)) (now (types .entry)) (now (functions .entry)) place) ⌝ }
 {
     let n = byte_or_zero(file, place);
     let result = byte_or_zero(file, place + 1 + n);
@@ -497,8 +491,8 @@ pub fn body_of<'a>(file: &'a [u8], type_at: &'a [u16], function_at: &'a [u16], p
     let step = expression(
         file,
         body,
-        type_at,
-        function_at,
+        types,
+        functions,
         start,
         NESTING_LIMIT,
         parameters,
@@ -514,13 +508,13 @@ pub fn body_of<'a>(file: &'a [u8], type_at: &'a [u16], function_at: &'a [u16], p
 }
 
 // All bodies, in file order.
-pub fn bodies<'a>(file: &'a [u8], type_at: &'a [u16], function_at: &'a [u16]) -> Step
-    requires { ⌜ Small (now file) (now type_at) (now function_at) × BodiesThere (now file) (now function_at) ⌝ }
-    ensures { λ r. ⌜ bodiesStep r ≡ bodiesStep (stepOf (functionsAt (now (file .entry)) (now (type_at .entry)) (now (function_at .entry)))) ⌝ }
+pub fn bodies<'a>(file: &'a [u8], types: &'a [u16], functions: &'a [u16]) -> Step
+    requires { ⌜ Small (now file) (now types) (now functions) × BodiesThere (now file) (now functions) ⌝ }
+    ensures { λ r. ⌜ bodiesStep r ≡ bodiesStep (stepOf (functionsAt (now (file .entry)) (now (types .entry)) (now (functions .entry)))) ⌝ }
 {
     let mut f: usize = 0;
-    while f < function_at.len() {
-        let step = body_of(file, type_at, function_at, function_at[f] as usize);
+    while f < functions.len() {
+        let step = body_of(file, types, functions, place_or_zero(functions, f));
         let Step::Next(_) = step else {
             return step;
         };

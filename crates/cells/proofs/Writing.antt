@@ -1,0 +1,125 @@
+-- What is written to open a cell, a row of cells, and the cells of a bound part's fields: the words after it.
+-- Rests on specs/Writes, machine's Cells and reach's Places.
+use Prim.Native.Nat.{ℕ, zero, suc, _+_, _*_, _-_, _≤_, _<_}
+use mathlib.Core.Path.{_≡_, refl, sym, _∙_, ap}
+use mathlib.Core.List.{List}
+use mathlib.Core.Logic.{_≢_}
+use native.Mathlib.Numerals.{add-one}
+use native.Mathlib.Omega.{arith}
+use lib.ListN.{length, getD, set, length-set}
+use lib.Seq.{getD-set-same, getD-set-other}
+use borrow.Author.Count.{below-more}
+use Rattle.reach.specs.Places.{bytesAt}
+use Rattle.machine.specs.Cells.{cellWord, OpenCells, Binds}
+use Rattle.cells.specs.Writes.{openCell, Opens}
+
+-- The bytes from a place on.
+
+pub bytes-length : (s : List ℕ) (i n : ℕ) → length (bytesAt s i n) ≡ n
+unfolding bytesAt
+bytes-length s i zero = refl
+bytes-length s i (suc n) = ap suc (bytes-length s (i + 1) n)
+
+pub bytes-nth : (s : List ℕ) (i n j : ℕ) → j < n → getD (bytesAt s i n) j 0 ≡ getD s (i + j) 0
+unfolding bytesAt
+bytes-nth s i zero j l = absurd (omega arith)
+bytes-nth s i (suc n) zero l =
+    let z : i + 0 ≡ i = omega arith in
+    rw z
+bytes-nth s i (suc n) (suc j) l =
+    let z : i + 1 + j ≡ i + suc j = omega arith in
+    bytes-nth s (i + 1) n j (omega arith) ∙ ap (λ m. getD s m 0) z
+
+-- One open cell.
+
+module _ (w : List ℕ) (x t room : ℕ) where
+  pub open-length : length (openCell w x t room) ≡ length w
+  unfolding openCell
+  open-length = simp length-set
+
+  pub open-other : (i : ℕ) → i ≢ 5 * x → i ≢ 5 * x + 2 → i ≢ 5 * x + 3 → getD (openCell w x t room) i 0 ≡ getD w i 0
+  unfolding openCell
+  open-other i head type deep =
+      let u = set w (5 * x) 0 in
+      getD-set-other (set u (5 * x + 2) t) _ i room 0 deep ∙ getD-set-other u _ i t 0 type ∙ getD-set-other w _ i 0 0 head
+
+module _ (w : List ℕ) (x t room : ℕ) (fits : 5 * x + 5 ≤ length w) where
+  pub open-head : cellWord (openCell w x t room) x 0 ≡ 0
+  unfolding openCell
+  open-head =
+      let u = set w (5 * x) 0 in
+      let z : 5 * x + 0 ≡ 5 * x = omega arith in
+      let type : 5 * x ≢ 5 * x + 2 = omega arith in
+      let deep : 5 * x ≢ 5 * x + 3 = omega arith in
+      rw z (getD-set-other (set u (5 * x + 2) t) _ _ room 0 deep ∙ getD-set-other u _ _ t 0 type ∙ getD-set-same w (5 * x) 0 0 (omega arith))
+
+  pub open-type : cellWord (openCell w x t room) x 2 ≡ t
+  unfolding openCell
+  open-type =
+      let u = set w (5 * x) 0 in
+      let deep : 5 * x + 2 ≢ 5 * x + 3 = omega arith in
+      getD-set-other (set u (5 * x + 2) t) _ _ room 0 deep ∙ getD-set-same u (5 * x + 2) t 0 (simp length-set (omega arith))
+
+  pub open-room : cellWord (openCell w x t room) x 3 ≡ room
+  unfolding openCell
+  open-room = getD-set-same (set (set w (5 * x) 0) (5 * x + 2) t) (5 * x + 3) room 0 (simp length-set (omega arith))
+
+-- A row of open cells, made one after the other.
+
+pub opens-none : (w : List ℕ) (b : ℕ) (ts : List ℕ) (room : ℕ) → Opens w w b 0 ts room
+opens-none w b ts room = record {
+  same-length = refl;
+  cells = record { no-head = λ j l. absurd (omega arith); type-of = λ j l. absurd (omega arith); room-of = λ j l. absurd (omega arith) };
+  elsewhere = λ i out. refl;
+}
+
+pub opens-more :
+    {w v ts : List ℕ} {b n room : ℕ} → Opens w v b n ts room → 5 * (b + n) + 5 ≤ length v
+    → Opens w (openCell v (b + n) (getD ts n 0) room) b (n + 1) ts room
+opens-more {w} {v} {ts} {b} {n} {room} made fits = record {
+  same-length = open-length v _ _ _ ∙ made .same-length;
+  cells = record {
+    no-head = below-more _ _ (λ j l. kept j l 0 (omega arith) ∙ made .cells .no-head j l) (open-head v _ _ _ fits);
+    type-of = below-more _ _ (λ j l. kept j l 2 (omega arith) ∙ made .cells .type-of j l) (open-type v _ _ _ fits);
+    room-of = below-more _ _ (λ j l. kept j l 3 (omega arith) ∙ made .cells .room-of j l) (open-room v _ _ _ fits);
+  };
+  elsewhere = λ i out.
+      open-other v (b + n) _ _ i (λ e. omega (arith, out (omega arith))) (λ e. omega (arith, out (omega arith))) (λ e. omega (arith, out (omega arith)))
+      ∙ made .elsewhere i (λ l. omega (arith, out l));
+}
+  where
+    -- the cells that were made before keep their words
+    kept : (j : ℕ) → j < n → (m : ℕ) → m < 5 → cellWord (openCell v (b + n) (getD ts n 0) room) (b + j) m ≡ cellWord v (b + j) m
+    kept j l m s = open-other v (b + n) _ _ (5 * (b + j) + m) (omega arith) (omega arith) (omega arith)
+
+-- the same for a row whose types are bytes of the file, of which `more` are left: the next cell has the byte at the next place
+pub opens-next :
+    {w v v′ : List ℕ} {first k room more t : ℕ} (file : List ℕ) (fields cell place : ℕ) → Opens w v first (k - more) (bytesAt file fields k) room
+    → 5 * (first + k) ≤ length w → 0 < more → more ≤ k → cell + more ≡ first + k → place + more ≡ fields + k → t ≡ getD file place 0
+    → v′ ≡ openCell v cell t room → Opens w v′ first (k - (more - 1)) (bytesAt file fields k) room
+opens-next {first = first} {k} {room} {more} file fields cell place made fits left some here there read written =
+    let n = k - more in
+    let count : k - (more - 1) ≡ n + 1 = omega arith in
+    let number : cell ≡ first + n = omega arith in
+    let spot : place ≡ fields + n = omega arith in
+    let typed : getD (bytesAt file fields k) n 0 ≡ getD file (fields + n) 0 = bytes-nth file fields k n (omega arith) in
+    rw (written, count, number, read, spot, ← typed) (opens-more made (omega (arith, made .same-length)))
+
+-- A bind: the head and the first field's cell are set, then the fields' cells are opened.
+pub binds :
+    {w w′ ts : List ℕ} {x c top k below room : ℕ} → x < top → 5 * (top + k) ≤ length w → below ≡ room
+    → Opens (set (set w (5 * x) (c + 1)) (5 * x + 1) top) w′ top k ts below → Binds w w′ x c top k ts room
+binds {w} {w′} {ts} {x} {c} {top} {k} used fits same made = record {
+  same-length = made .same-length ∙ simp length-set;
+  new-head =
+      let z : 5 * x + 0 ≡ 5 * x = omega arith in
+      let first : 5 * x ≢ 5 * x + 1 = omega arith in
+      rw z (kept (5 * x) (omega arith) ∙ getD-set-other (set w (5 * x) (c + 1)) _ _ top 0 first ∙ getD-set-same w (5 * x) (c + 1) 0 (omega arith) ∙ add-one c);
+  first-field = kept (5 * x + 1) (omega arith) ∙ getD-set-same (set w (5 * x) (c + 1)) (5 * x + 1) top 0 (simp length-set (omega arith));
+  fields = rw same at (made .cells);
+  elsewhere = λ i head first out. made .elsewhere i out ∙ getD-set-other (set w (5 * x) (c + 1)) _ i top 0 first ∙ getD-set-other w _ i (c + 1) 0 head;
+}
+  where
+    -- the cells in use keep their words while the fields' cells are opened
+    kept : (i : ℕ) → i < 5 * top → getD w′ i 0 ≡ getD (set (set w (5 * x) (c + 1)) (5 * x + 1) top) i 0
+    kept i l = made .elsewhere i (λ h. absurd (omega arith))
