@@ -21,10 +21,11 @@ use Rattle.records.specs.declared.Step.the-variants.{Next, Refused}
 use Rattle.records.specs.Steps.{stepOf}
 use Rattle.records.proofs.Answers.{step-mapped}
 use Rattle.bodies.specs.declared.View.{View}
-use Rattle.bodies.specs.declared.Fields.{Fields}
-use Rattle.bodies.specs.declared.Fields.the-variants as Fields
-use Rattle.bodies.specs.Check.{viewOf, Limits, fieldsOf, fieldsIn, outlineOf, expressionAt, variableAt, callAt, constructAt, caseAt, letAt, targetAt}
-use Rattle.bodies.proofs.Tables.{found, missing}
+use Rattle.lookups.specs.declared.Fields.{Fields}
+use Rattle.lookups.specs.declared.Fields.the-variants as Fields
+use Rattle.lookups.specs.Fields.{fieldsOf, fieldsIn}
+use Rattle.bodies.specs.Check.{viewOf, Limits, outlineOf, expressionAt, variableAt, callAt, constructAt, caseAt, letAt, targetAt}
+use Rattle.lookups.proofs.Tables.{found, missing}
 use Rattle.bodies.proofs.Views.{limits-over, limits-kept, limits-nested}
 use Rattle.bodies.proofs.Steps.{both-next, first-refused, below-is, expression-is}
 

@@ -21,7 +21,7 @@ use Rattle.records.specs.declared.Step.the-variants.{Next, Refused}
 use Rattle.records.specs.Steps.{stepOf}
 use Rattle.records.proofs.Answers.{step-mapped}
 use Rattle.bodies.specs.Check.{expressionAt, operandsAt, alternativesAt, alternativeAt}
-use Rattle.bodies.proofs.Tables.{bytes-more, bytes-none, constructors-more, constructors-none}
+use Rattle.lookups.proofs.Tables.{bytes-more, bytes-none, constructors-more, constructors-none}
 use Rattle.bodies.proofs.Steps.{both-next, first-refused}
 
 -- a step that goes on from the place behind another one

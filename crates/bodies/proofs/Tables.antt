@@ -1,107 +1,21 @@
--- Lookups in the tables of places: what stands at a number of a list that a function was mapped over, and the bytes and constructors that a
--- place of the file begins.
--- Rests on reach's Places.
-use Prim.Native.Nat.{ℕ, zero, suc, _+_, _-_, _≤_, _<_, zero-le}
-use mathlib.Core.Path.{_≡_, refl, ap}
-use mathlib.Core.List.{List, [], _∷_, map}
-use mathlib.Core.Option.{none, some}
-use lib.ListN.{length, getD, getElem?}
-use native.Mathlib.Omega.{arith}
-use Rattle.reach.specs.Syntax.{fieldTypes}
+-- Narrow constructors: the tables of a file that passed the first pass have few fields to each constructor.
+-- Rests on reach's Places and lookups' Tables.
+use Prim.Native.Nat.{ℕ, suc, _+_, _-_, _≤_, _<_, zero-le}
+use mathlib.Core.Path.{_≡_}
+use mathlib.Core.List.{List}
+use lib.ListN.{length, getD}
 use Rattle.reach.specs.Places.{bytesAt, constructorsAt, typeAt}
-use Rattle.bodies.specs.declared.Fields.{Fields}
-use Rattle.bodies.specs.declared.Fields.the-variants as Fields
-use Rattle.bodies.specs.Check.{Near, Narrow, Small, fieldsIn}
+use Rattle.lookups.proofs.Tables.{bytes-length, constructors-more, constructor-first}
+use Rattle.bodies.specs.Check.{Narrow, Small}
 
-module _ {A B : Type 0} (f : A → B) where
-  -- the element of a mapped list, and none past its end
-  pub found : (xs : List A) (d : A) (n : ℕ) → n < length xs → getElem? (map f xs) n ≡ some (f (getD xs n d))
-  found [] d n h = absurd (omega arith)
-  found (x ∷ xs) d zero h = refl
-  found (x ∷ xs) d (suc n) h = found xs d n (omega arith)
+-- narrow constructors: the first has few fields, and the others are narrow
+module _ (s : List ℕ) (i n : ℕ) (more : 0 < n) (narrow : Narrow (constructorsAt s i n)) {fields : ℕ} (same : fields ≡ getD s i 0) where
+  pub narrow-first : fields ≤ 6
+  narrow-first =
+      rw (bytes-length s (i + 1) (getD s i 0), ← same) at (narrow 0 (bytesAt s (i + 1) (getD s i 0)) (constructor-first s i n 0 more zero-le))
 
-  pub missing : (xs : List A) (n : ℕ) → length xs ≤ n → getElem? (map f xs) n ≡ none
-  missing [] n h = refl
-  missing (x ∷ xs) zero h = absurd (omega arith)
-  missing (x ∷ xs) (suc n) h = missing xs n (omega arith)
-
-  -- the same where a default stands past the end
-  pub entry : (xs : List A) (d : A) (e : B) (n : ℕ) → n < length xs → getD (map f xs) n e ≡ f (getD xs n d)
-  entry [] d e n h = absurd (omega arith)
-  entry (x ∷ xs) d e zero h = refl
-  entry (x ∷ xs) d e (suc n) h = entry xs d e n (omega arith)
-
-  pub no-entry : (xs : List A) (e : B) (n : ℕ) → length xs ≤ n → getD (map f xs) n e ≡ e
-  no-entry [] e n h = refl
-  no-entry (x ∷ xs) e zero h = absurd (omega arith)
-  no-entry (x ∷ xs) e (suc n) h = no-entry xs e n (omega arith)
-
-module _ (s : List ℕ) where
-  -- the first of the bytes from a place on
-  pub bytes-more : (i n : ℕ) → 0 < n → bytesAt s i n ≡ getD s i 0 ∷ bytesAt s (i + 1) (n - 1)
-  unfolding bytesAt
-  bytes-more i zero h = absurd (omega arith)
-  bytes-more i (suc n) h = let z : suc n - 1 ≡ n = omega arith in rw z
-
-  pub bytes-none : (i n : ℕ) → n ≤ 0 → bytesAt s i n ≡ []
-  unfolding bytesAt
-  bytes-none i zero h = refl
-  bytes-none i (suc n) h = absurd (omega arith)
-
-  pub bytes-length : (i n : ℕ) → length (bytesAt s i n) ≡ n
-  unfolding bytesAt
-  bytes-length i zero = refl
-  bytes-length i (suc n) = ap suc (bytes-length (i + 1) n)
-
-  -- the first of the constructors from a place on
-  pub constructors-more : (i n : ℕ) → 0 < n
-      → constructorsAt s i n ≡ bytesAt s (i + 1) (getD s i 0) ∷ constructorsAt s (i + 1 + getD s i 0) (n - 1)
-  unfolding constructorsAt
-  constructors-more i zero h = absurd (omega arith)
-  constructors-more i (suc n) h = let z : suc n - 1 ≡ n = omega arith in rw z
-
-  pub constructors-none : (i n : ℕ) → n ≤ 0 → constructorsAt s i n ≡ []
-  unfolding constructorsAt
-  constructors-none i zero h = refl
-  constructors-none i (suc n) h = absurd (omega arith)
-
-  -- the constructor of a number: the first, a later one, and none where there are no more than the number
-  pub constructor-first : (i n c : ℕ) → 0 < n → c ≤ 0 → getElem? (constructorsAt s i n) c ≡ some (bytesAt s (i + 1) (getD s i 0))
-  constructor-first i n zero h k = rw (constructors-more i n)
-  constructor-first i n (suc c) h k = absurd (omega arith)
-
-  pub constructor-later : (i n c : ℕ) → 0 < n → 0 < c
-      → getElem? (constructorsAt s i n) c ≡ getElem? (constructorsAt s (i + 1 + getD s i 0) (n - 1)) (c - 1)
-  constructor-later i n zero h k = absurd (omega arith)
-  constructor-later i n (suc c) h k = let z : suc c - 1 ≡ c = omega arith in rw (constructors-more i n, z)
-
-  pub constructor-missing : (i n c : ℕ) → n ≤ c → getElem? (constructorsAt s i n) c ≡ none
-  unfolding constructorsAt
-  constructor-missing i zero c h = refl
-  constructor-missing i (suc n) zero h = absurd (omega arith)
-  constructor-missing i (suc n) (suc c) h = constructor-missing (i + 1 + getD s i 0) n c (omega arith)
-
-  -- the fields of a constructor are those of the type's record
-  pub fields-found : (types : List ℕ) (t c : ℕ) → t < length types → fieldsIn s types t c ≡ getElem? (typeAt s (getD types t 0)) c
-  unfolding fieldTypes
-  fields-found types t c h = rw (entry (typeAt s) types 0 [] t h)
-
-  pub fields-missing : (types : List ℕ) (t c : ℕ) → length types ≤ t → fieldsIn s types t c ≡ none
-  unfolding fieldTypes
-  fields-missing types t c h = rw (no-entry (typeAt s) types [] t h)
-
-  -- narrow constructors: the first has few fields, and the others are narrow
-  module _ (i n : ℕ) (more : 0 < n) (narrow : Narrow (constructorsAt s i n)) {fields : ℕ} (same : fields ≡ getD s i 0) where
-    pub narrow-first : fields ≤ 6
-    narrow-first =
-        rw (bytes-length (i + 1) (getD s i 0), ← same) at (narrow 0 (bytesAt s (i + 1) (getD s i 0)) (constructor-first i n 0 more zero-le))
-
-    pub narrow-rest : Narrow (constructorsAt s (i + 1 + fields) (n - 1))
-    narrow-rest c us e = narrow (suc c) us (rw (constructors-more i n more, ← same) e)
-
--- fields that were found, at their place
-pub near-at : {i n : ℕ} (r : Fields) → Near r → r ≡ Fields.At i n → (i ≤ 1000000) × (n ≤ 255)
-near-at r near e = rw e at near
+  pub narrow-rest : Narrow (constructorsAt s (i + 1 + fields) (n - 1))
+  narrow-rest c us e = narrow (suc c) us (rw (constructors-more s i n more, ← same) e)
 
 -- the constructors of a type that the table has are narrow
 pub narrow-type : {file types functions : List ℕ} {t place n : ℕ}

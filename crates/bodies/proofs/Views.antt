@@ -14,7 +14,7 @@ use Rattle.reach.specs.Limits.{viewLimit}
 use Rattle.reach.specs.Places.{bytesAt}
 use Rattle.bodies.specs.declared.View.{View}
 use Rattle.bodies.specs.Check.{viewOf, Limits}
-use Rattle.bodies.proofs.Tables.{bytes-more, bytes-none}
+use Rattle.lookups.proofs.Tables.{bytes-more, bytes-none}
 
 -- a type that is stored behind the first n
 pub stored : (types : List ℕ) (n t : ℕ) → n < length types → take (n + 1) (set types n t) ≡ take n types ++ (t ∷ [])

@@ -17,8 +17,6 @@ use Rattle.reach.specs.Places.{bytesAt, typeAt, headAt, outlineAt}
 use Rattle.records.specs.declared.Step.{Step}
 use Rattle.records.specs.declared.Step.the-variants.{Next, Refused}
 use Rattle.bodies.specs.declared.View.{View}
-use Rattle.bodies.specs.declared.Fields.{Fields}
-use Rattle.bodies.specs.declared.Fields.the-variants as Fields
 
 -- the types of the variables in view
 abbrev pub viewOf : View → List ℕ
@@ -28,20 +26,6 @@ viewOf v = take (v .count) (v .types)
 pub record Limits (left : ℕ) (view : View) (r : Bool) : Type 0 where
   pub told : r ≡ (ltb 0 left && leb (view .count) viewLimit)
   pub held : length (viewOf view) ≡ view .count
-
--- the field types that were found
-abbrev pub fieldsOf : List ℕ → Fields → Option (List ℕ)
-fieldsOf s (Fields.At i n) = some (bytesAt s i n)
-fieldsOf s Fields.Unknown = none
-
--- the field types of constructor c of type t
-abbrev pub fieldsIn : List ℕ → List ℕ → ℕ → ℕ → Option (List ℕ)
-fieldsIn s types t c = fieldTypes (map (typeAt s) types) t c
-
--- fields that were found stand at a place that can be counted on from, and are no more than a byte says
-abbrev pub Near : Fields → Type 0
-Near (Fields.At i n) = (i ≤ 1000000) × (n ≤ 255)
-Near Fields.Unknown = Unit {0}
 
 -- every constructor has at most 6 fields
 abbrev pub Narrow : List (List ℕ) → Type 0

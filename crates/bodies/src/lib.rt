@@ -7,7 +7,10 @@ ghost use Prim.Native.Nat.{_+_, _≤_};
 ghost use lib.ListN.{getD, getElem?};
 ghost use Rattle.reach.specs.Places.{bytesAt, constructorsAt};
 ghost use Rattle.records.specs.Steps.{stepOf};
-ghost use Rattle.bodies.specs.Check.{viewOf, Limits, fieldsOf, fieldsIn, Near, Small, Narrow, variableAt, callAt, constructAt, caseAt, letAt, targetAt, expressionAt, operandsAt, alternativeAt, alternativesAt, BodyThere, bodyAt, BodiesThere, functionsAt, bodiesStep};
+ghost use Rattle.bodies.specs.Check.{viewOf, Limits, Small, Narrow, variableAt, callAt, constructAt, caseAt, letAt, targetAt, expressionAt, operandsAt, alternativeAt, alternativesAt, BodyThere, bodyAt, BodiesThere, functionsAt, bodiesStep};
+use lookups::Fields;
+use lookups::fields_of;
+use lookups::place_or_zero;
 use reach::Refusal;
 use records::Step;
 use records::Taken;
@@ -23,23 +26,6 @@ const NESTING_LIMIT: usize = 32;
 pub struct View {
     pub types: [u8; 40],
     pub count: usize,
-}
-
-// Where the fields of a constructor stand, and how many there are.
-pub enum Fields {
-    At(usize, usize),
-    Unknown,
-}
-
-// The entry of a table of places, or 0 past its end.
-pub fn place_or_zero(places: &[u16], n: usize) -> usize
-    ensures { λ r. ⌜ r ≡ getD (now (places .entry)) n 0 ⌝ }
-{
-    if n < places.len() {
-        places[n] as usize
-    } else {
-        0
-    }
 }
 
 // The view with one more variable.
@@ -69,36 +55,6 @@ pub fn extended(view: View, s: &[u8], at: usize, n: usize) -> View
         more -= 1;
     }
     wider
-}
-
-// Where the fields of constructor c stand, of the n constructors from a place on.
-pub fn fields_at(s: &[u8], at: usize, n: usize, c: usize) -> Fields
-    requires { ⌜ (at ≤ 65536) × (n ≤ 255) ⌝ }
-    ensures { λ r. ⌜ fieldsOf (now (s .entry)) r ≡ getElem? (constructorsAt (now (s .entry)) at n) c ⌝ }
-    ensures near { λ r. ⌜ Near r ⌝ }
-{
-    if n <= c {
-        return Fields::Unknown;
-    }
-    let mut place = at;
-    let mut more = c;
-    while 0 < more {
-        place = place + 1 + byte_or_zero(s, place);
-        more -= 1;
-    }
-    Fields::At(place + 1, byte_or_zero(s, place))
-}
-
-// Where the fields of constructor c of type t stand.
-pub fn fields_of<'a>(s: &'a [u8], types: &'a [u16], t: usize, c: usize) -> Fields
-    ensures { λ r. ⌜ fieldsOf (now (s .entry)) r ≡ fieldsIn (now (s .entry)) (now (types .entry)) t c ⌝ }
-    ensures near { λ r. ⌜ Near r ⌝ }
-{
-    if types.len() <= t {
-        return Fields::Unknown;
-    }
-    let place = place_or_zero(types, t);
-    fields_at(s, place + 1, byte_or_zero(s, place), c)
 }
 
 // The expression's own nesting and view are within their limits.

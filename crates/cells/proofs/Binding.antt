@@ -16,7 +16,7 @@ use Rattle.reach.specs.Types.{Slot, slotAt}
 use Rattle.reach.specs.Places.{bytesAt}
 use Rattle.reach.proofs.Order.{There, free-unbound, bind-refines, ⊑-there}
 use Rattle.machine.specs.Cells.{cellWord, cellOf, Cells, Binds, KeptBut, Unmoved}
-use Rattle.machine.proofs.Cells.{field, walk-kept, bind-elsewhere, bind-slot, bind-keeps, bind-walks, bind-cells, start-cells, open-cells}
+use Rattle.machine.proofs.Cells.{field, walk-kept, bind-elsewhere, bind-slot, bind-length-exact, bind-keeps, bind-walks, bind-cells, start-cells, open-cells}
 use Rattle.cells.specs.Writes.{Opens, Starts}
 use Rattle.cells.proofs.Writing.{bytes-length}
 
@@ -54,11 +54,11 @@ bound-cells {w = w} {k = k} {s = s} file fields q cells unbound known deep typed
 -- the part bound and every part of the input before is in the cell where it was
 pub reopened :
     {types : Types} {ss : List Slot} {w v w′ : List ℕ} {top high : ℕ} {e : Parts} (q : Place) (c k : ℕ) → Cells types ss w top e → at e q ≡ free
-    → top ≤ high → Cells types ss v high (bindAt q c k e) → Unmoved w v e → w′ ≡ set v (5 * cellOf w q) 0 → Unmoved w w′ e × Cells types ss w′ top e
-reopened {types} {ss} {w} {v} {w′} {top} {high} {e} q c k before unbound room after kept written = (
+    → Cells types ss v high (bindAt q c k e) → Unmoved w v e → w′ ≡ set v (5 * cellOf w q) 0 → Unmoved w w′ e × Cells types ss w′ top e
+reopened {types} {ss} {w} {v} {w′} {top} {high} {e} q c k before unbound after kept written = (
   moved,
   record {
-    fits = rw written (simp length-set (omega (arith, after .fits)));
+    fits = rw written (simp length-set (omega (arith, after .fits, higher)));
     counted = before .counted;
     in-use = λ r t. rw (moved r t) (before .in-use r t);
     apart = λ r r′ t t′ h. before .apart r r′ t t′ (sym (moved r t) ∙ h ∙ moved r′ t′);
@@ -68,6 +68,9 @@ reopened {types} {ss} {w} {v} {w′} {top} {high} {e} q c k before unbound room 
   },
 )
   where
+    higher : top ≤ high
+    higher = omega (arith, bind-length-exact q c k e unbound, before .counted, after .counted)
+
     -- every word is as it was, but for the head of the part
     other : (i : ℕ) → i ≢ 5 * cellOf w q → getD w′ i 0 ≡ getD v i 0
     other i n = rw written (getD-set-other v _ i 0 0 n)
@@ -78,7 +81,7 @@ reopened {types} {ss} {w} {v} {w′} {top} {high} {e} q c k before unbound room 
     free-head : (r : Place) → at e r ≡ free → Dec (cellOf w r ≡ cellOf w q) → cellWord w′ (cellOf w r) 0 ≡ 0
     free-head r h (yes same) =
         let z : 5 * cellOf w q + 0 ≡ 5 * cellOf w q = omega arith in
-        rw (same, z, written) (getD-set-same v (5 * cellOf w q) 0 0 (omega (arith, after .fits, before .in-use q (open-there unbound))))
+        rw (same, z, written) (getD-set-same v (5 * cellOf w q) 0 0 (omega (arith, after .fits, higher, before .in-use q (open-there unbound))))
     free-head r h (no apart) =
         let here : at (bindAt q c k e) r ≡ free = bind-elsewhere q c k e r (open-there h) (λ equal. apart (ap (cellOf w) equal)) ∙ h in
         other (5 * cellOf w r + 0) (omega arith) ∙ rw (kept r (open-there h)) at (after .head-free r here)
@@ -98,7 +101,12 @@ reopened {types} {ss} {w} {v} {w′} {top} {high} {e} q c k before unbound room 
         λ n some small. rw (moved r t, kept r t) (other (5 * cellOf w r + n) (omega arith)) in
         (same 2 (omega arith) (omega arith) ∙ said .0, same 3 (omega arith) (omega arith) ∙ said .1)
 
--- the same right after the bind
+-- what leaves the parts of the input with a part bound in their cells leaves those of the input before in theirs
+pub unmoved-since :
+    (w v v′ : List ℕ) (q : Place) (c k : ℕ) (e : Parts) → Unmoved w v e → Unmoved v v′ (bindAt q c k e) → Unmoved w v′ e
+unmoved-since w v v′ q c k e then since r t = since r (⊑-there (bind-refines q c k e) r t) ∙ then r t
+
+-- to open a part again right after the bind
 pub reopened-at-once :
     {types : Types} {ss : List Slot} {w v w′ us : List ℕ} {top c k room : ℕ} {e : Parts} (q : Place) → Cells types ss w top e → at e q ≡ free
     → Binds w v (cellOf w q) c top k us room → w′ ≡ set v (5 * cellOf w q) 0 → Unmoved w w′ e × Cells types ss w′ top e

@@ -1,7 +1,7 @@
 -- What is written to open a cell, a row of cells, and the cells of a bound part's fields: the words after it.
 -- Rests on specs/Writes, machine's Cells and reach's Places.
 use Prim.Native.Nat.{ℕ, zero, suc, _+_, _*_, _-_, _≤_, _<_}
-use mathlib.Core.Path.{_≡_, refl, sym, _∙_, ap}
+use mathlib.Core.Path.{_≡_, refl, _∙_, ap}
 use mathlib.Core.List.{List}
 use mathlib.Core.Logic.{_≢_}
 use native.Mathlib.Numerals.{add-one}
@@ -10,7 +10,7 @@ use lib.ListN.{length, getD, set, length-set}
 use lib.Seq.{getD-set-same, getD-set-other}
 use borrow.Author.Count.{below-more}
 use Rattle.reach.specs.Places.{bytesAt}
-use Rattle.machine.specs.Cells.{cellWord, OpenCells, Binds}
+use Rattle.machine.specs.Cells.{cellWord, Binds}
 use Rattle.cells.specs.Writes.{openCell, Opens}
 
 -- The bytes from a place on.

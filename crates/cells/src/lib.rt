@@ -1,7 +1,7 @@
 // The input's cells in the lent words: a row of open cells, an open cell bound to a constructor with fresh open fields, a bound
 // cell opened again. Rests on crates records and machine.
 ghost use mathlib.Core.Path.{_≡_};
-ghost use Prim.Native.Nat.{ℕ, _+_, _*_, _-_, _≤_, _<_};
+ghost use Prim.Native.Nat.{_+_, _*_, _-_, _≤_, _<_};
 ghost use lib.ListN.{length, getD, set};
 ghost use Rattle.reach.specs.Places.{bytesAt};
 ghost use Rattle.machine.specs.Cells.{Binds, cellWord};
@@ -12,11 +12,10 @@ use records::byte_or_zero;
 pub fn word_or_zero(work: &[u32], at: usize) -> usize
     ensures { λ r. ⌜ r ≡ getD (now (work .entry)) at 0 ⌝ }
 {
-    if at < work.len() {
-        work[at] as usize
-    } else {
-        0
+    if work.len() <= at {
+        return 0;
     }
+    work[at] as usize
 }
 
 // Makes k open cells from cell `first` on: their types stand from a place of the file on, and each may be so deep.

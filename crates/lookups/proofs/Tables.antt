@@ -2,14 +2,18 @@
 -- place of the file begins.
 -- Rests on reach's Places.
 use Prim.Native.Nat.{ℕ, zero, suc, _+_, _-_, _≤_, _<_, zero-le}
-use mathlib.Core.Path.{_≡_, refl, sym, _∙_, ap}
+use mathlib.Core.Path.{_≡_, refl, ap}
 use mathlib.Core.List.{List, [], _∷_, map}
-use mathlib.Core.Option.{Option, none, some}
-use lib.ListN.{length, getD, getElem?}
+use mathlib.Core.Option.{none, some}
+use lib.ListN.{length, getD, getElem?, drop, drop-of-length-le}
+use lib.Seq.{drop-cons}
+use native.Mathlib.Numerals.{add-one}
 use native.Mathlib.Omega.{arith}
 use Rattle.reach.specs.Syntax.{fieldTypes}
 use Rattle.reach.specs.Places.{bytesAt, constructorsAt, typeAt}
-use Rattle.lookups.specs.Fields.{fieldsIn}
+use Rattle.lookups.specs.declared.Fields.{Fields}
+use Rattle.lookups.specs.declared.Fields.the-variants as Fields
+use Rattle.lookups.specs.Fields.{Near, fieldsIn}
 
 module _ {A B : Type 0} (f : A → B) where
   -- the element of a mapped list, and none past its end
@@ -52,7 +56,8 @@ module _ (s : List ℕ) where
   bytes-length i (suc n) = ap suc (bytes-length (i + 1) n)
 
   -- the first of the constructors from a place on
-  pub constructors-more : (i n : ℕ) → 0 < n → constructorsAt s i n ≡ bytesAt s (i + 1) (getD s i 0) ∷ constructorsAt s (i + 1 + getD s i 0) (n - 1)
+  pub constructors-more : (i n : ℕ) → 0 < n
+      → constructorsAt s i n ≡ bytesAt s (i + 1) (getD s i 0) ∷ constructorsAt s (i + 1 + getD s i 0) (n - 1)
   unfolding constructorsAt
   constructors-more i zero h = absurd (omega arith)
   constructors-more i (suc n) h = let z : suc n - 1 ≡ n = omega arith in rw z
@@ -67,7 +72,8 @@ module _ (s : List ℕ) where
   constructor-first i n zero h k = rw (constructors-more i n)
   constructor-first i n (suc c) h k = absurd (omega arith)
 
-  pub constructor-later : (i n c : ℕ) → 0 < n → 0 < c → getElem? (constructorsAt s i n) c ≡ getElem? (constructorsAt s (i + 1 + getD s i 0) (n - 1)) (c - 1)
+  pub constructor-later : (i n c : ℕ) → 0 < n → 0 < c
+      → getElem? (constructorsAt s i n) c ≡ getElem? (constructorsAt s (i + 1 + getD s i 0) (n - 1)) (c - 1)
   constructor-later i n zero h k = absurd (omega arith)
   constructor-later i n (suc c) h k = let z : suc c - 1 ≡ c = omega arith in rw (constructors-more i n, z)
 
@@ -85,3 +91,15 @@ module _ (s : List ℕ) where
   pub fields-missing : (types : List ℕ) (t c : ℕ) → length types ≤ t → fieldsIn s types t c ≡ none
   unfolding fieldTypes
   fields-missing types t c h = rw (no-entry (typeAt s) types [] t h)
+
+-- fields that were found, at their place
+pub near-at : {i n : ℕ} (r : Fields) → Near r → r ≡ Fields.At i n → (i ≤ 1000000) × (n ≤ 255)
+near-at r near e = rw e at near
+
+-- what stands at the places from number t on
+module _ {A : Type 0} (f : ℕ → A) (places : List ℕ) (t : ℕ) where
+  pub places-more : t < length places → map f (drop t places) ≡ f (getD places t 0) ∷ map f (drop (t + 1) places)
+  places-more h = rw (add-one, drop-cons places t 0)
+
+  pub places-none : length places ≤ t → map f (drop t places) ≡ []
+  places-none h = rw (drop-of-length-le places h)

@@ -1,6 +1,6 @@
 -- The fields of a constructor, found in a rule file whose records stand at known places.
 -- Rests on reach's Places and on the enum of src/lib.rt.
-use Prim.Native.Nat.{ℕ}
+use Prim.Native.Nat.{ℕ, _≤_}
 use mathlib.Core.List.{List, map}
 use mathlib.Core.Option.{Option, none, some}
 use Rattle.reach.specs.Syntax.{fieldTypes}
@@ -16,3 +16,8 @@ fieldsOf s Fields.Unknown = none
 -- the field types of constructor c of type t, the types' records standing at these places
 abbrev pub fieldsIn : List ℕ → List ℕ → ℕ → ℕ → Option (List ℕ)
 fieldsIn s types t c = fieldTypes (map (typeAt s) types) t c
+
+-- fields that were found stand at a place that can be counted on from, and are no more than a byte says
+abbrev pub Near : Fields → Type 0
+Near (Fields.At i n) = (i ≤ 1000000) × (n ≤ 255)
+Near Fields.Unknown = Unit {0}

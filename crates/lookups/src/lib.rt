@@ -4,7 +4,7 @@ ghost use mathlib.Core.Path.{_≡_};
 ghost use Prim.Native.Nat.{ℕ, _≤_};
 ghost use lib.ListN.{getD, getElem?};
 ghost use Rattle.reach.specs.Places.{constructorsAt};
-ghost use Rattle.lookups.specs.Fields.{fieldsOf, fieldsIn};
+ghost use Rattle.lookups.specs.Fields.{fieldsOf, fieldsIn, Near};
 use records::byte_or_zero;
 
 // Where the fields of a constructor stand, and how many there are.
@@ -28,6 +28,7 @@ pub fn place_or_zero(places: &[u16], n: usize) -> usize
 pub fn fields_at(s: &[u8], at: usize, n: usize, c: usize) -> Fields
     requires { ⌜ (at ≤ 65536) × (n ≤ 255) ⌝ }
     ensures { λ r. ⌜ fieldsOf (now (s .entry)) r ≡ getElem? (constructorsAt (now (s .entry)) at n) c ⌝ }
+    ensures near { λ r. ⌜ Near r ⌝ }
 {
     if n <= c {
         return Fields::Unknown;
@@ -44,6 +45,7 @@ pub fn fields_at(s: &[u8], at: usize, n: usize, c: usize) -> Fields
 // Where the fields of constructor c of type t stand.
 pub fn fields_of<'a>(s: &'a [u8], types: &'a [u16], t: usize, c: usize) -> Fields
     ensures { λ r. ⌜ fieldsOf (now (s .entry)) r ≡ fieldsIn (now (s .entry)) (now (types .entry)) t c ⌝ }
+    ensures near { λ r. ⌜ Near r ⌝ }
 {
     if types.len() <= t {
         return Fields::Unknown;

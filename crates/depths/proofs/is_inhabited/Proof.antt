@@ -1,12 +1,12 @@
 -- `depths::is_inhabited` meets its contract. The loop's invariant: one of the constructors that are left has known fields if and only if one of all has;
--- each takes at most 256 bytes, which bounds the place. The measure is how many are left. Rests on numbers' Rows.
+-- each takes at most 256 bytes, which bounds the place. The measure is how many are left. Rests on lookups' Tables.
 use Prim.Native.Nat.{_+_, _*_, _≤_}
 use native.Mathlib.Omega.{arith}
 use mathlib.Core.Path.{_≡_, refl}
 use borrow.Author.Needs.{needs}
 use Rattle.reach.specs.Types.{inhabited}
 use Rattle.reach.specs.Places.{constructorsAt}
-use Rattle.numbers.proofs.Rows.{constructors-more, constructors-done}
+use Rattle.lookups.proofs.Tables.{constructors-more, constructors-none}
 use Rattle.depths.proofs.is_inhabited.Statement.{statement}
 use Rattle.depths.proofs.is_inhabited.Tie as tie
 
@@ -61,7 +61,7 @@ loop-again c = (
 
 returns-2 : tie.Need-returns-2 Inv-loop μ-loop
 unfolding inhabited
-returns-2 c = rw (← c .before .loop .inv .0, constructors-done _ _ _ (c .loop-test .left))
+returns-2 c = rw (← c .before .loop .inv .0, constructors-none _ _ _ (c .loop-test .left))
 
 pub is-inhabited-spec : {M : Type 1} → statement M
 is-inhabited-spec =

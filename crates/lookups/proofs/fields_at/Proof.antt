@@ -1,7 +1,8 @@
 -- `lookups::fields_at` meets its contract. The loop's invariant: constructor number `more` of those that begin at the place is the one that is
 -- looked for, and the place has passed at most 256 bytes for each constructor. The measure is what is left.
-use Prim.Native.Nat.{_+_, _-_, _*_, _≤_, _<_}
-use mathlib.Core.Path.{_≡_, refl, sym, _∙_}
+-- Rests on Tables.
+use Prim.Native.Nat.{_+_, _-_, _*_, _≤_}
+use mathlib.Core.Path.{_≡_, sym, _∙_}
 use lib.ListN.{getElem?}
 use native.Mathlib.Omega.{arith}
 use borrow.Author.Needs.{needs}
@@ -19,7 +20,9 @@ abbrev μ-loop : tie.MeasureT-loop
 μ-loop s at n c place₀ more₀ place more = more
 
 returns : tie.Need-returns Inv-loop μ-loop
-returns c = sym (constructor-missing (c .before .before .args .s .now) (c .before .before .args .at) (c .before .before .args .n) (c .before .before .args .c) (c .if1 .taken))
+returns c =
+    let a = c .before .before .args in
+    (sym (constructor-missing (a .s .now) (a .at) (a .n) (a .c) (c .if1 .taken)), tt)
 
 loop-holds : tie.Need-loop-holds Inv-loop μ-loop
 loop-holds c =
@@ -27,31 +30,29 @@ loop-holds c =
     let z : a .n - a .c + a .c ≡ a .n = omega arith in
     (rw z, omega arith)
 
-add-place : tie.Need-add-place Inv-loop μ-loop
-add-place c = omega arith
-
 add-place-2 : tie.Need-add-place-2 Inv-loop μ-loop
-add-place-2 c = omega (arith, c .before .before .before .before .shared-slice-known .given (c .before .before .loop .place))
+add-place-2 c =
+    let k = c .before .before in
+    omega (arith, k .before .before .shared-slice-known .given (k .loop .place))
 
 loop-again : tie.Need-loop-again Inv-loop μ-loop
 loop-again c =
     let k = c .before .before in
     let a = k .before .before .before .args in
-    let z : a .n - a .c + (k .loop .more - 1) ≡ a .n - a .c + k .loop .more - 1 = omega arith in (
-      rw (z, c .byte-or-zero .ensures)
-          (sym (constructor-later (a .s .now) (k .loop .place) (a .n - a .c + k .loop .more) (k .loop .more) (omega arith) (c .before .loop-test .taken)) ∙ k .loop .inv .0),
-      omega (arith, k .before .before .shared-slice-known .given (k .loop .place)),
-    )
-
-add-t11 : tie.Need-add-t11 Inv-loop μ-loop
-add-t11 c = omega arith
+    let left = a .n - a .c + k .loop .more in
+    let later = constructor-later (a .s .now) (k .loop .place) left (k .loop .more) (omega arith) (c .before .loop-test .taken) in
+    let z : a .n - a .c + (k .loop .more - 1) ≡ a .n - a .c + k .loop .more - 1 = omega arith in
+    let byte = k .before .before .shared-slice-known .given (k .loop .place) in
+    (rw (z, c .byte-or-zero .ensures) (sym later ∙ k .loop .inv .0), omega arith)
 
 returns-2 : tie.Need-returns-2 Inv-loop μ-loop
 returns-2 c =
     let k = c .before .before in
     let a = k .before .before .before .args in
-    rw (c .byte-or-zero2 .ensures)
-    (sym (constructor-first (a .s .now) (k .loop .place) (a .n - a .c + k .loop .more) (k .loop .more) (omega arith) (c .before .loop-test .left)) ∙ k .loop .inv .0)
+    let left = a .n - a .c + k .loop .more in
+    let first = constructor-first (a .s .now) (k .loop .place) left (k .loop .more) (omega arith) (c .before .loop-test .left) in
+    let byte = k .before .before .shared-slice-known .given (k .loop .place) in
+    (rw (c .byte-or-zero2 .ensures) (sym first ∙ k .loop .inv .0), omega arith)
 
 pub fields-at-spec : {M : Type 1} → statement M
 fields-at-spec =
@@ -61,12 +62,12 @@ fields-at-spec =
     μ-loop
     returns
     loop-holds
-    add-place
+    (λ c. omega arith)
     (λ c κs. search needs)
     add-place-2
     (λ c. search needs)
     (λ c. search needs)
     loop-again
-    add-t11
+    (λ c. omega arith)
     (λ c κs. search needs)
     returns-2)

@@ -1,4 +1,5 @@
 -- `lookups::fields_of` meets its contract: a type's constructors stand behind their number, at the place of the type's record.
+-- Rests on Tables.
 use mathlib.Core.Path.{sym}
 use native.Mathlib.Omega.{arith}
 use borrow.Author.Needs.{needs}
@@ -10,7 +11,7 @@ use Rattle.lookups.proofs.fields_of.Tie as tie
 returns : tie.Need-returns
 returns c =
     let a = c .before .before .before .args in
-    sym (fields-missing (a .s .now) (a .types .now) (a .t) (a .c) (c .if1 .taken))
+    (sym (fields-missing (a .s .now) (a .types .now) (a .t) (a .c) (c .if1 .taken)), tt)
 
 add-fields-at : tie.Need-add-fields-at
 add-fields-at c =
@@ -18,15 +19,18 @@ add-fields-at c =
 
 fields-at-requires : tie.Need-fields-at-requires
 fields-at-requires c κs =
-    omega (arith, c .before .before .before .shared-slice-known2 .given (c .before .before .before .before .before .args .t), c .before .before .before .before .shared-slice-known .given (c .before .place-or-zero .result))
+    let k = c .before .before .before in
+    let place = k .shared-slice-known2 .given (k .before .before .args .t) in
+    let byte = k .before .shared-slice-known .given (c .before .place-or-zero .result) in
+    omega arith
 
 returns-2 : tie.Need-returns-2
 unfolding typeAt
 returns-2 c =
     let k = c .before .before .before in
     let a = k .before .before .before .args in
-    rw (c .fields-at .ensures, c .before .byte-or-zero .ensures, c .before .before .place-or-zero .ensures)
-    (sym (fields-found (a .s .now) (a .types .now) (a .t) (a .c) (k .if1 .left)))
+    let fields = fields-found (a .s .now) (a .types .now) (a .t) (a .c) (k .if1 .left) in
+    (rw (c .fields-at .ensures .0, c .before .byte-or-zero .ensures, c .before .before .place-or-zero .ensures) (sym fields), c .fields-at .ensures .1)
 
 pub fields-of-spec : {M : Type 1} → statement M
 fields-of-spec =

@@ -1,4 +1,5 @@
 -- `lookups::place_or_zero` meets its contract: an entry of a table fits the wider type, and past the end stands 0.
+-- Rests on the library's lists.
 use mathlib.Core.Path.{sym}
 use lib.ListN.{List·getD-eq-default}
 use native.Mathlib.Omega.{arith}

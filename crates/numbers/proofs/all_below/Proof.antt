@@ -1,5 +1,5 @@
 -- `numbers::all_below` meets its contract. The loop's invariant: the bytes that are left are all below the limit if and only if all are, and place and
--- number left add up to what they were. The measure is how many are left. Rests on Rows.
+-- number left add up to what they were. The measure is how many are left. Rests on the tables of lookups.
 use Prim.Native.Nat.{_+_}
 use native.Mathlib.Omega.{arith}
 use mathlib.Core.Path.{_≡_, refl}
@@ -7,7 +7,7 @@ use borrow.Author.Tests.{le-ltb, lt-ltb}
 use borrow.Author.Needs.{needs}
 use Rattle.reach.specs.RuleFile.{allBelow}
 use Rattle.reach.specs.Places.{bytesAt}
-use Rattle.numbers.proofs.Rows.{bytes-more, bytes-done}
+use Rattle.lookups.proofs.Tables.{bytes-more, bytes-none}
 use Rattle.numbers.proofs.all_below.Statement.{statement}
 use Rattle.numbers.proofs.all_below.Tie as tie
 
@@ -44,7 +44,7 @@ loop-again c = (
 
 returns-2 : tie.Need-returns-2 Inv-loop μ-loop
 unfolding allBelow
-returns-2 c = rw (← c .before .loop .inv .0, bytes-done _ _ _ (c .loop-test .left))
+returns-2 c = rw (← c .before .loop .inv .0, bytes-none _ _ _ (c .loop-test .left))
 
 pub all-below-spec : {M : Type 1} → statement M
 all-below-spec =

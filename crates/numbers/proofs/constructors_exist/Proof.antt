@@ -1,5 +1,5 @@
 -- `numbers::constructors_exist` meets its contract. The loop's invariant: the test of the constructors that are left is that of all; each takes at most
--- 256 bytes, which bounds the place. The measure is how many are left. Rests on Rows.
+-- 256 bytes, which bounds the place. The measure is how many are left. Rests on the tables of lookups.
 use Prim.Native.Nat.{_+_, _*_, _≤_}
 use native.Mathlib.Omega.{arith}
 use mathlib.Core.Path.{_≡_, refl}
@@ -7,7 +7,7 @@ use borrow.Author.Tests.{not-true, not-false}
 use borrow.Author.Needs.{needs}
 use Rattle.reach.specs.RuleFile.{constructorsExist}
 use Rattle.reach.specs.Places.{constructorsAt}
-use Rattle.numbers.proofs.Rows.{constructors-more, constructors-done}
+use Rattle.lookups.proofs.Tables.{constructors-more, constructors-none}
 use Rattle.numbers.proofs.constructors_exist.Statement.{statement}
 use Rattle.numbers.proofs.constructors_exist.Tie as tie
 
@@ -62,7 +62,7 @@ loop-again c = (
 
 returns-2 : tie.Need-returns-2 Inv-loop μ-loop
 unfolding constructorsExist
-returns-2 c = rw (← c .before .loop .inv .0, constructors-done _ _ _ (c .loop-test .left))
+returns-2 c = rw (← c .before .loop .inv .0, constructors-none _ _ _ (c .loop-test .left))
 
 pub constructors-exist-spec : {M : Type 1} → statement M
 constructors-exist-spec =

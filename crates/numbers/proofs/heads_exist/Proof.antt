@@ -1,5 +1,5 @@
 -- `numbers::heads_exist` meets its contract. The loop's invariant: the test of the functions from number f on is that of all. The measure is how many
--- are left. Rests on Rows.
+-- are left. Rests on the tables of lookups.
 use Prim.Native.Nat.{_-_}
 use native.Mathlib.Omega.{arith}
 use mathlib.Core.Path.{_≡_, refl}
@@ -9,7 +9,7 @@ use borrow.Author.Tests.{not-true, not-false, le-ltb, lt-ltb}
 use borrow.Author.Needs.{needs}
 use Rattle.reach.specs.RuleFile.{headsExist}
 use Rattle.reach.specs.Places.{headAt}
-use Rattle.numbers.proofs.Rows.{places-more, places-done}
+use Rattle.lookups.proofs.Tables.{places-more, places-none}
 use Rattle.numbers.proofs.heads_exist.Statement.{statement}
 use Rattle.numbers.proofs.heads_exist.Tie as tie
 
@@ -88,7 +88,7 @@ loop-again c =
 
 returns-3 : tie.Need-returns-3 Inv-loop μ-loop
 unfolding headsExist
-returns-3 c = rw (← c .before .loop .inv, places-done _ _ _ (c .loop-test .left))
+returns-3 c = rw (← c .before .loop .inv, places-none _ _ _ (c .loop-test .left))
 
 pub heads-exist-spec : {M : Type 1} → statement M
 heads-exist-spec =

@@ -1,5 +1,5 @@
 -- `numbers::types_exist` meets its contract. The loop's invariant: the test of the types from number t on is that of all. The measure is how many are
--- left. Rests on Rows.
+-- left. Rests on the tables of lookups.
 use Prim.Native.Nat.{_-_}
 use native.Mathlib.Omega.{arith}
 use mathlib.Core.Path.{_≡_, refl}
@@ -9,7 +9,7 @@ use borrow.Author.Tests.{not-true, not-false}
 use borrow.Author.Needs.{needs}
 use Rattle.reach.specs.RuleFile.{typesExist}
 use Rattle.reach.specs.Places.{typeAt}
-use Rattle.numbers.proofs.Rows.{places-more, places-done}
+use Rattle.lookups.proofs.Tables.{places-more, places-none}
 use Rattle.numbers.proofs.types_exist.Statement.{statement}
 use Rattle.numbers.proofs.types_exist.Tie as tie
 
@@ -61,7 +61,7 @@ loop-again c =
 
 returns-2 : tie.Need-returns-2 Inv-loop μ-loop
 unfolding typesExist
-returns-2 c = rw (← c .before .loop .inv, places-done _ _ _ (c .loop-test .left))
+returns-2 c = rw (← c .before .loop .inv, places-none _ _ _ (c .loop-test .left))
 
 pub types-exist-spec : {M : Type 1} → statement M
 types-exist-spec =

@@ -326,7 +326,7 @@ module _ (t : ℕ) where
       rw (construct-unknown _ _ _ _ _
       (byte-got _ _ (read .before .before .before .before .before .before .take-byte .ensures) (read .before .before .before .before .t .given .1))
       (byte-got _ _ (read .before .before .take-byte2 .ensures) (read .c .given .1))
-      (rw (asked .before .before .wide .ensures, asked .before .wide2 .ensures) at (asked .fields-of .ensures))
+      (rw (asked .before .before .wide .ensures, asked .before .wide2 .ensures) at (asked .fields-of .ensures .0))
       (c .enum-told3 .given .1))
 
   construct-returns-4 : construct-lts.Need-returns-4 construct-claims construct-at construct.Post
@@ -338,7 +338,7 @@ module _ (t : ℕ) where
         construct-known _ _ _ _ _
             (byte-got _ _ (read .before .before .before .before .before .before .take-byte .ensures) (read .before .before .before .before .t .given .1))
             (byte-got _ _ (read .before .before .take-byte2 .ensures) (read .c .given .1))
-            (rw (asked .before .before .wide .ensures, asked .before .wide2 .ensures) at (asked .fields-of .ensures))
+            (rw (asked .before .before .wide .ensures, asked .before .wide2 .ensures) at (asked .fields-of .ensures .0))
             (c .before .before .n .given .1),
       )
 

@@ -32,9 +32,9 @@ use Rattle.bodies.proofs.target.Reads as target
 use Rattle.bodies.proofs.target.Kinds as target-kinds
 use Rattle.bodies.proofs.+alternative+alternatives+bind+call+case+construct+expression+operands+target.Lts-target as target-lts
 use Rattle.bodies.proofs.extended.Reads as extended-reads
-use Rattle.bodies.proofs.fields_of.Reads as fields-of-reads
+use Rattle.lookups.proofs.fields_of.Reads as fields-of-reads
 use Rattle.bodies.proofs.in_limits.Reads as in-limits-reads
-use Rattle.bodies.proofs.place_or_zero.Reads as place-or-zero-reads
+use Rattle.lookups.proofs.place_or_zero.Reads as place-or-zero-reads
 use Rattle.bodies.proofs.variable.Reads as variable-reads
 use Rattle.bodies.proofs.with_one.Reads as with-one-reads
 use Rattle.records.proofs.byte_or_zero.Reads as byte-or-zero-reads

@@ -4,7 +4,7 @@ use Prim.Native.Nat.{ℕ}
 use native.Mathlib.Omega.{arith}
 use borrow.Author.Needs.{needs}
 use Rattle.records.proofs.Answers.{byte-got, byte-short}
-use Rattle.bodies.proofs.Tables.{near-at}
+use Rattle.lookups.proofs.Tables.{near-at}
 use Rattle.bodies.proofs.Views.{limits-nested}
 use Rattle.bodies.proofs.Expressions.{construct-short, construct-short-2, construct-unknown, construct-over, construct-mismatch, construct-goes}
 use Rattle.bodies.proofs.construct.Reads as reads
