@@ -1,5 +1,6 @@
 // Runs the check on every file of a container, each behind its two-byte length, and prints a line for each: `accepted`, or
 // `refused` and the number. tests/make_boundary.py makes the container and the lines.
+ghost use Prim.Native.Nat.{_≤_};
 use libc::STDIN_FILENO;
 use libc::STDOUT_FILENO;
 use reach::Refusal;
@@ -36,13 +37,19 @@ fn print_answer(answer: Checked) {
     }
 }
 
+fn wide(x: u8) -> usize
+    ensures { λ r. ⌜ r ≤ 255 ⌝ }
+{
+    x as usize
+}
+
 // Reads one file and prints its line; false where the container has ended.
 fn run_case() -> bool {
     let mut size = [0u8; 2];
     if io::read_full(STDIN_FILENO, &mut size) < 2 {
         return false;
     }
-    let n = (size[0] as usize) + 256 * (size[1] as usize);
+    let n = wide(size[0]) + 256 * wide(size[1]);
     let mut file = io::large_buffer();
     let got = io::read_full(STDIN_FILENO, &mut file[..n]);
     print_answer(rulefile::check(&file[..got]));

@@ -350,7 +350,7 @@ mark-finds P s i ty fn go other a b c = tt
 
 module _ (s : List ℕ) where
   -- the body that a head tells of is inside the file
-  abbrev BodyInside : Head → Type 0
+  abbrev pub BodyInside : Head → Type 0
   BodyInside h = h .body + h .size ≤ length s
 
   passed-inside : (n i : ℕ) → IfFound (λ b next. b + n ≤ length s) (passed n s i)
@@ -381,7 +381,7 @@ module _ (s : List ℕ) where
       (λ h l first. if-found-then _ _ _ (moreFunctions n s l) (heads-inside n l) (λ hs next others. (first, others))))
       tt)
 
-  outline-inside : (i : ℕ) → IfFound (λ o next. Each BodyInside (o .heads)) (outline s i)
+  pub outline-inside : (i : ℕ) → IfFound (λ o next. Each BodyInside (o .heads)) (outline s i)
   unfolding outline
   outline-inside i =
       any-then _ _ (mark s i)
@@ -440,7 +440,7 @@ module _ (o : Outline) (s : List ℕ) where
       (λ e k found. if-found-then _ _ _ (atEnd TrailingBytes cut k) (end-finds cut TrailingBytes k) (λ u next over. body-at h e k fits found over))
 
   -- each function of the one list has the body that the head of the same number in the other list tells of
-  abbrev Bodies : List Head → List Function → Type 0
+  abbrev pub Bodies : List Head → List Function → Type 0
   Bodies [] [] = Unit {0}
   Bodies [] (g ∷ gs) = ⊥
   Bodies (h ∷ hs) [] = ⊥
@@ -453,7 +453,7 @@ module _ (o : Outline) (s : List ℕ) where
       if-found-then _ _ _ (bodyOf o h s) (body-finds h (fit .0))
       (λ e k first. if-found-then _ _ _ (functionsOf o hs s k) (bodies-find hs k (fit .1)) (λ fs next others. (first, others)))
 
-  function-of : (hs : List Head) (gs : List Function) → Bodies hs gs → (f : ℕ) (h : Head) → getElem? hs f ≡ some h → (g : Function) × (getElem? gs f ≡ some g) × BodyAt o s h g
+  pub function-of : (hs : List Head) (gs : List Function) → Bodies hs gs → (f : ℕ) (h : Head) → getElem? hs f ≡ some h → (g : Function) × (getElem? gs f ≡ some g) × BodyAt o s h g
   function-of [] gs all f h is = absurd (clash (cc))
   function-of (k ∷ hs) [] all f h is = absurd all
   function-of (k ∷ hs) (g ∷ gs) all zero h is = let z : k ≡ h = cc in (g, refl, subst (λ x. BodyAt o s x g) z (all .0))
@@ -471,7 +471,7 @@ found-is (got a next) = refl
 found-is (refused why) = tt
 
 -- the functions that were read have the bodies that the outline's heads tell of
-bodies-are :
+pub bodies-are :
     (file : List ℕ) (o : Outline) (n : ℕ) → outline file 0 ≡ got o n
     → (i : ℕ) (fs : List Function) (next : ℕ) → functionsOf o (o .heads) file i ≡ got fs next → Bodies o file (o .heads) fs
 bodies-are file o n is i fs next are =

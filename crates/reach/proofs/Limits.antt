@@ -34,8 +34,8 @@ if-found-then P Q f (got a next) h after = after a next h
 if-found-then P Q f (refused why) h after = tt
 
 -- whatever the reader finds, the fact holds of it
-record Promises {A : Type 0} (P : A → Type 0) (m : Reader A) : Type 0 where
-  found : (s : List ℕ) (i : ℕ) → IfFound (λ a next. P a) (m s i)
+pub record Promises {A : Type 0} (P : A → Type 0) (m : Reader A) : Type 0 where
+  pub found : (s : List ℕ) (i : ℕ) → IfFound (λ a next. P a) (m s i)
 
 giving : {A : Type 0} {P : A → Type 0} {a : A} → P a → Promises P (give a)
 giving h = record { found = λ s i. h }
@@ -98,11 +98,11 @@ counting least most =
     (λ u t. let both = and-eq-true-iff (leb least n) (leb n most) .0 t in giving (leb-true least n (both .0), leb-true n most (both .1))))
 
 -- a constructor within the limits
-abbrev ConstructorKept : List ℕ → Type 0
+abbrev pub ConstructorKept : List ℕ → Type 0
 ConstructorKept us = length us ≤ fieldLimit
 
 -- a type within the limits
-abbrev TypeKept : List (List ℕ) → Type 0
+abbrev pub TypeKept : List (List ℕ) → Type 0
 TypeKept cs = (length cs ≤ constructorLimit) × Each ConstructorKept cs
 
 -- a count within the limit, then so many of them
@@ -119,7 +119,7 @@ unfolding typeRecord
 type-kept = counted-kept 1 constructorLimit constructor-kept
 
 -- a function within the limits, as its head tells
-abbrev HeadKept : Head → Type 0
+abbrev pub HeadKept : Head → Type 0
 HeadKept h = length (h .parameters) ≤ parameterLimit
 
 head-kept : Promises HeadKept functionRecord
@@ -134,7 +134,7 @@ head-kept =
     (λ b w. giving (le-trans (hs .0) (h .1))))))))
 
 -- what GO asks for is within the limits
-abbrev GoalKept : Goal → Type 0
+abbrev pub GoalKept : Goal → Type 0
 GoalKept g = (1 ≤ g .depth) × (g .depth ≤ depthLimit) × (g .steps ≤ stepLimit)
 
 goal-kept : Promises GoalKept goalRecord
@@ -165,14 +165,14 @@ more-functions (suc n) =
     (giving (zero-le, tt)) refusing m)
 
 -- an outline within the limits
-record OutlineKept (o : Outline) : Type 0 where
-  types-count : length (o .types) ≤ typeLimit
-  types-kept : Each TypeKept (o .types)
-  heads-count : length (o .heads) ≤ functionLimit
-  heads-kept : Each HeadKept (o .heads)
-  goal : GoalKept (o .goal)
+pub record OutlineKept (o : Outline) : Type 0 where
+  pub types-count : length (o .types) ≤ typeLimit
+  pub types-kept : Each TypeKept (o .types)
+  pub heads-count : length (o .heads) ≤ functionLimit
+  pub heads-kept : Each HeadKept (o .heads)
+  pub goal : GoalKept (o .goal)
 
-outline-kept : Promises OutlineKept outline
+pub outline-kept : Promises OutlineKept outline
 unfolding outline
 outline-kept =
     then (anything mark)

@@ -2,16 +2,15 @@
 -- Rests on reach's Answers, RuleFile, Places, on depths' Table and on the types of src/lib.rt.
 use Prim.Native.Nat.{ℕ, _+_, _≤_}
 use mathlib.Core.Path.{_≡_}
-use mathlib.Core.Bool.{Bool}
-use mathlib.Core.List.{List, [], map}
+use mathlib.Core.Bool.{Bool, true}
+use mathlib.Core.List.{List}
 use lib.ListN.{length, getD, take}
-use Rattle.reach.specs.declared.Refusal.{Refusal}
 use Rattle.reach.specs.Limits.{fileLimit, typeLimit, functionLimit}
 use Rattle.reach.specs.Syntax.{Function, Program}
 use Rattle.reach.specs.Types.{leastDepths, shallow}
-use Rattle.reach.specs.Reader.{Got, got}
-use Rattle.reach.specs.RuleFile.{Head, Outline, outline, numbersExist, functionsOf, programOf}
-use Rattle.reach.specs.Places.{bytesAt, headAt, outlineAt}
+use Rattle.reach.specs.Reader.{got}
+use Rattle.reach.specs.RuleFile.{Outline, outline, numbersExist, functionsOf, programOf}
+use Rattle.reach.specs.Places.{headAt, outlineAt}
 use Rattle.reach.specs.Answers as Answers
 use Rattle.outline.specs.declared.Outlined.{Outlined}
 use Rattle.depths.specs.Table.{padded}
@@ -24,47 +23,61 @@ abbrev pub checkedOf : Answers.Checked → Checked
 checkedOf (Answers.accepted p) = Accepted
 checkedOf (Answers.turnedBack why) = Refused why
 
--- the outline of a file whose records stand at the places of a table
-abbrev pub outlineIn : List ℕ → Outlined → Outline
-outlineIn s o = outlineAt s (take (o .types) (o .type_at)) (take (o .functions) (o .function_at)) (o .goal_at)
+-- Tables of places as the three passes leave them: each pass over the records that stand there found nothing.
+pub record Passed (s types functions : List ℕ) (goal : ℕ) (fs : List Function) : Type 0 where
+  pub behind : ℕ
+  pub read : outline s 0 ≡ got (outlineAt s types functions goal) behind
+  pub exist : numbersExist (outlineAt s types functions goal) ≡ true
+  pub end : ℕ
+  pub bodies : functionsOf (outlineAt s types functions goal) ((outlineAt s types functions goal) .heads) s behind ≡ got fs end
+
+-- the places of the records, as the first pass leaves them
+abbrev pub typesIn : Outlined → List ℕ
+typesIn o = take (o .types) (o .«type_at»)
+
+abbrev pub functionsIn : Outlined → List ℕ
+functionsIn o = take (o .functions) (o .«function_at»)
 
 -- the first pass found nothing, and left this
 pub record Outlines (s : List ℕ) (o : Outlined) : Type 0 where
   pub size : length s ≤ fileLimit
   pub behind : ℕ
-  pub read : outline s 0 ≡ got (outlineIn s o) behind
+  pub read : outline s 0 ≡ got (outlineAt s (typesIn o) (functionsIn o) (o .«goal_at»)) behind
   pub types-limit : o .types ≤ typeLimit
+  pub types-held : length (o .«type_at») ≡ typeLimit
   pub functions-limit : o .functions ≤ functionLimit
-  pub goal-inside : o .goal_at ≤ length s
+  pub functions-held : length (o .«function_at») ≡ functionLimit
+  pub goal-inside : o .«goal_at» ≤ length s
 
 -- the second and third pass found nothing either
 pub record Reads (s : List ℕ) (o : Outlined) : Type 0 where
   pub outlined : Outlines s o
-  pub exist : numbersExist (outlineIn s o) ≡ Bool.true
   pub functions : List Function
-  pub end : ℕ
-  pub bodies : functionsOf (outlineIn s o) ((outlineIn s o) .heads) s (outlined .behind) ≡ got functions end
+  pub passed : Passed s (typesIn o) (functionsIn o) (o .«goal_at») functions
 
 -- each parameter of the source has a closed value that is at most D deep, by the table
 abbrev pub sourceShallow : List ℕ → List ℕ → ℕ → List ℕ → Bool
 sourceShallow s functions goal least =
     shallow least (getD s (goal + 2) 0) ((headAt s (getD functions (getD s goal 0) 0)) .parameters)
 
+-- the places of the records of a loaded file
+abbrev pub typePlaces : Loaded → List ℕ
+typePlaces r = take (r .types) (r .«type_at»)
+
+abbrev pub functionPlaces : Loaded → List ℕ
+functionPlaces r = take (r .functions) (r .«function_at»)
+
 -- What an accepted file's tables hold: its program is the one that the places give.
 pub record Tabled (s : List ℕ) (r : Loaded) (p : Program) : Type 0 where
   pub size : length s ≤ fileLimit
   pub types-limit : r .types ≤ typeLimit
+  pub types-count : length (typePlaces r) ≡ r .types
   pub functions-limit : r .functions ≤ functionLimit
-  pub goal-inside : r .goal_at ≤ length s
-  pub behind : ℕ
-  pub read : outline s 0 ≡ got (outlineAt s (take (r .types) (r .type_at)) (take (r .functions) (r .function_at)) (r .goal_at)) behind
+  pub functions-count : length (functionPlaces r) ≡ r .functions
+  pub goal-inside : r .«goal_at» ≤ length s
   pub functions : List Function
-  pub end : ℕ
-  pub bodies :
-      functionsOf (outlineAt s (take (r .types) (r .type_at)) (take (r .functions) (r .function_at)) (r .goal_at))
-      (map (headAt s) (take (r .functions) (r .function_at))) s behind
-      ≡ got functions end
-  pub program : p ≡ programOf (outlineAt s (take (r .types) (r .type_at)) (take (r .functions) (r .function_at)) (r .goal_at)) functions
+  pub passed : Passed s (typePlaces r) (functionPlaces r) (r .«goal_at») functions
+  pub program : p ≡ programOf (outlineAt s (typePlaces r) (functionPlaces r) (r .«goal_at»)) functions
   pub depths : r .least ≡ padded (leastDepths (p .types))
 
 abbrev pub LoadsAs : List ℕ → Loaded → Checked → Type 0

@@ -2,7 +2,10 @@
 // of 1 to 9; `load` also hands on what later layers need of an accepted file: the places of its records and the least depths.
 // Rests on crates outline, numbers, bodies and depths.
 ghost use mathlib.Core.Path.{_≡_};
-ghost use Prim.Native.Nat.{_≤_};
+ghost use Prim.Native.Nat.{ℕ, _+_, _≤_};
+ghost use lib.ListN.{getD};
+ghost use Rattle.reach.specs.Places.{goalAt};
+ghost use Rattle.reach.specs.Answers;
 ghost use Rattle.rulefile.specs.Loading.{checkedOf, Outlines, Reads, Loads, sourceShallow};
 use bodies::bodies;
 use depths::Depths;
@@ -53,17 +56,12 @@ pub fn turned_back(why: Refusal) -> Loaded
 }
 
 // Each parameter of the source has a closed value that is at most D deep.
-pub fn source_shallow<'a>(
-    file: &'a [u8],
-    functions: &'a [u16],
-    goal_at: usize,
-    least: Depths,
-) -> bool
-    requires { ⌜ goal_at ≤ 16384 ⌝ }
-    ensures { λ r. ⌜ r ≡ sourceShallow (now (file .entry)) (now (functions .entry)) goal_at (least .of) ⌝ }
+pub fn source_shallow<'a>(file: &'a [u8], functions: &'a [u16], goal: usize, least: Depths) -> bool
+    requires { ⌜ goal ≤ 16384 ⌝ }
+    ensures { λ r. ⌜ r ≡ sourceShallow (now (file .entry)) (now (functions .entry)) goal (least .of) ⌝ }
 {
-    let place = place_or_zero(functions, byte_or_zero(file, goal_at));
-    let depth = byte_or_zero(file, goal_at + 2);
+    let place = place_or_zero(functions, byte_or_zero(file, goal));
+    let depth = byte_or_zero(file, goal + 2);
     all_shallow(file, place + 1, byte_or_zero(file, place), depth, least)
 }
 
@@ -77,13 +75,14 @@ pub fn with_depths(file: &[u8], o: Outlined) -> Loaded
     let goal_at = o.goal_at;
     let type_at = o.type_at;
     let function_at = o.function_at;
-    let least = least_depths(file, &type_at[..types]);
-    if !none_empty(least, types) {
+    let table = least_depths(file, &type_at[..types]);
+    if !none_empty(table, types) {
         return turned_back(Refusal::EmptyType);
     }
-    if !source_shallow(file, &function_at[..functions], goal_at, least) {
+    if !source_shallow(file, &function_at[..functions], goal_at, table) {
         return turned_back(Refusal::DepthTooSmall);
     }
+    let least = table.of;
     Loaded {
         answer: Checked::Accepted,
         types,
@@ -91,7 +90,7 @@ pub fn with_depths(file: &[u8], o: Outlined) -> Loaded
         functions,
         function_at,
         goal_at,
-        least: least.of,
+        least,
     }
 }
 
@@ -133,4 +132,42 @@ pub fn check(file: &[u8]) -> Checked
 {
     let loaded = load(file);
     loaded.answer
+}
+
+// The byte so far behind a place, or 0 past the end.
+fn byte_behind(s: &[u8], at: usize, far: usize) -> usize
+    ensures { λ r. ⌜ r ≡ getD (now (s .entry)) (at + far) 0 ⌝ }
+{
+    if s.len() <= at {
+        return 0;
+    }
+    if s.len() - at <= far {
+        return 0;
+    }
+    byte_or_zero(s, at + far)
+}
+
+// What the goal's record at a place asks for: the source, the label, D and S.
+pub fn source(file: &[u8], goal: usize) -> usize
+    ensures { λ r. ⌜ r ≡ (goalAt (now (file .entry)) goal) .source ⌝ }
+{
+    byte_or_zero(file, goal)
+}
+
+pub fn label(file: &[u8], goal: usize) -> usize
+    ensures { λ r. ⌜ r ≡ (goalAt (now (file .entry)) goal) .label ⌝ }
+{
+    byte_behind(file, goal, 1)
+}
+
+pub fn depth(file: &[u8], goal: usize) -> usize
+    ensures { λ r. ⌜ r ≡ (goalAt (now (file .entry)) goal) .depth ⌝ }
+{
+    byte_behind(file, goal, 2)
+}
+
+pub fn steps(file: &[u8], goal: usize) -> usize
+    ensures { λ r. ⌜ r ≡ (goalAt (now (file .entry)) goal) .steps ⌝ }
+{
+    byte_behind(file, goal, 3) + 256 * byte_behind(file, goal, 4)
 }

@@ -1,0 +1,4 @@
+pub mod Stages
+pub mod Passes
+pub mod Tabled
+pub mod Answers

@@ -1,0 +1,120 @@
+-- What the tables of places that passed say of the program: its types, its functions and their bodies, its goal, and the parameters of its
+-- source. For the test of depth, and for whoever goes on with a loaded file.
+-- Rests on Passes, on reach's Encoding for the bodies, and on depths' Padded.
+use Prim.Native.Nat.{ℕ, zero, suc, _+_, _<_, _≤_}
+use mathlib.Core.Path.{_≡_, refl, sym, _∙_, ap}
+use mathlib.Core.Bool.{true, _&&_, and-eq-true-iff}
+use mathlib.Core.List.{List, [], _∷_, map}
+use mathlib.Core.Option.{none, some}
+use lib.ListN.{length, getD, getElem?, length-map}
+use lib.Dec.{ltb}
+use borrow.Author.Tests.{ltb-true}
+use native.Mathlib.Omega.{arith}
+use Rattle.reach.specs.Syntax.{Types, Function, Program, functionAt, sourceTypes}
+use Rattle.reach.specs.Types.{leastDepths, shallow}
+use Rattle.reach.specs.RuleFile.{Head, Outline, typesExist, headsExist, numbersExist, programOf, deepEnough}
+use Rattle.reach.specs.Places.{typeAt, headAt, goalAt, outlineAt}
+use Rattle.reach.proofs.Base.{clash}
+use Rattle.reach.proofs.Encoding.{BodyAt, Bodies, function-of, bodies-are}
+use Rattle.lookups.proofs.Tables.{found, missing}
+use Rattle.depths.specs.Table.{padded}
+use Rattle.depths.proofs.Padded.{padded-lookup, padded-shallow}
+use Rattle.rulefile.specs.declared.Loaded.{Loaded}
+use Rattle.rulefile.specs.Loading.{Passed, sourceShallow, typePlaces, functionPlaces, Tabled}
+
+-- ---- tables of places that passed
+
+-- where there is no head, there is no function
+no-function : (o : Outline) (s : List ℕ) (hs : List Head) (gs : List Function) → Bodies o s hs gs → (f : ℕ) → getElem? hs f ≡ none → getElem? gs f ≡ none
+no-function o s [] [] all f e = refl
+no-function o s [] (g ∷ gs) all f e = absurd all
+no-function o s (h ∷ hs) [] all f e = absurd all
+no-function o s (h ∷ hs) (g ∷ gs) all zero e = absurd (clash (cc))
+no-function o s (h ∷ hs) (g ∷ gs) all (suc f) e = no-function o s hs gs (all .1) f e
+
+module _ {s types functions : List ℕ} {goal : ℕ} {fs : List Function} (passed : Passed s types functions goal fs) where
+  abbrev whole : Outline
+  whole = outlineAt s types functions goal
+
+  -- the source is one of the functions
+  pub source-there : (goalAt s goal) .source < length functions
+  unfolding outlineAt numbersExist
+  source-there =
+      let n = length (map (typeAt s) types) in
+      let both = and-eq-true-iff (typesExist n (map (typeAt s) types) && headsExist n (map (headAt s) functions)) (ltb ((goalAt s goal) .source) (length (map (headAt s) functions))) .0 (passed .exist) in
+      let below = ltb-true ((goalAt s goal) .source) (length (map (headAt s) functions)) (both .1) in
+      omega (arith, length-map functions (headAt s))
+
+  all-bodies : Bodies whole s (whole .heads) fs
+  all-bodies = bodies-are s whole (passed .behind) (passed .read) (passed .behind) fs (passed .end) (passed .bodies)
+
+  -- each place has its function, with the head's parameters and result and the body that stands behind the head; there are no others
+  pub function-found : (f : ℕ) → f < length functions → (g : Function) × (getElem? fs f ≡ some g) × BodyAt whole s (headAt s (getD functions f 0)) g
+  unfolding outlineAt
+  function-found f h = function-of whole s (whole .heads) fs all-bodies f (headAt s (getD functions f 0)) (found (headAt s) functions 0 f h)
+
+  pub function-missing : (f : ℕ) → length functions ≤ f → getElem? fs f ≡ none
+  unfolding outlineAt
+  function-missing f h = no-function whole s (whole .heads) fs all-bodies f (missing (headAt s) functions f h)
+
+  source-parameters : sourceTypes (programOf whole fs) ≡ (headAt s (getD functions ((goalAt s goal) .source) 0)) .parameters
+  unfolding sourceTypes functionAt programOf outlineAt
+  source-parameters = let g = function-found ((goalAt s goal) .source) source-there in rw (g .1) (g .2 .parameters)
+
+  -- the test of depth on the padded table is the one of the definition
+  pub depth-tested : sourceShallow s functions goal (padded (leastDepths (map (typeAt s) types))) ≡ deepEnough (programOf whole fs)
+  unfolding deepEnough programOf outlineAt goalAt
+  depth-tested = rw source-parameters (padded-shallow (leastDepths (map (typeAt s) types)) (getD s (goal + 2) 0) _)
+
+-- ---- the program of a loaded file
+
+module _ {s : List ℕ} {r : Loaded} {p : Program} (t : Tabled s r p) where
+  pub program-types : p .types ≡ map (typeAt s) (typePlaces r)
+  unfolding programOf outlineAt
+  program-types = ap (λ q. q .types) (t .program)
+
+  pub types-many : length (p .types) ≡ r .types
+  types-many = rw program-types (length-map (typePlaces r) (typeAt s) ∙ t .types-count)
+
+  -- what the functions `source`, `label`, `depth` and `steps` answer for the goal's place is the program's
+  pub program-source : (goalAt s (r .«goal_at»)) .source ≡ p .source
+  unfolding programOf outlineAt
+  program-source = sym (ap (λ q. q .source) (t .program))
+
+  pub program-label : (goalAt s (r .«goal_at»)) .label ≡ p .label
+  unfolding programOf outlineAt
+  program-label = sym (ap (λ q. q .label) (t .program))
+
+  pub program-depth : (goalAt s (r .«goal_at»)) .depth ≡ p .depth
+  unfolding programOf outlineAt
+  program-depth = sym (ap (λ q. q .depth) (t .program))
+
+  pub program-steps : (goalAt s (r .«goal_at»)) .steps ≡ p .steps
+  unfolding programOf outlineAt
+  program-steps = sym (ap (λ q. q .steps) (t .program))
+
+  -- the functions, by their places
+  functions-are : p .functions ≡ t .functions
+  unfolding programOf
+  functions-are = ap (λ q. q .functions) (t .program)
+
+  pub program-function : (f : ℕ) → f < r .functions
+      → (g : Function) × (functionAt p f ≡ some g) × BodyAt (outlineAt s (typePlaces r) (functionPlaces r) (r .«goal_at»)) s (headAt s (getD (functionPlaces r) f 0)) g
+  unfolding functionAt
+  program-function f h = let g = function-found (t .passed) f (omega (arith, t .functions-count)) in (g .0, rw functions-are (g .1), g .2)
+
+  pub program-no-function : (f : ℕ) → r .functions ≤ f → functionAt p f ≡ none
+  unfolding functionAt
+  program-no-function f h = rw functions-are (function-missing (t .passed) f (omega (arith, t .functions-count)))
+
+  -- the source is one of them, and these are its parameters
+  pub program-source-there : p .source < r .functions
+  program-source-there = omega (arith, source-there (t .passed), t .functions-count, program-source)
+
+  pub program-source-types : sourceTypes p ≡ (headAt s (getD (functionPlaces r) (p .source) 0)) .parameters
+  unfolding programOf goalAt outlineAt
+  program-source-types = rw (← program-source, t .program) (source-parameters (t .passed))
+
+  -- the least depths, by type
+  pub program-least : (n : ℕ) → getD (r .least) n 0 ≡ getD (leastDepths (p .types)) n 0
+  program-least n = rw (t .depths) (padded-lookup (leastDepths (p .types)) n)

@@ -1,0 +1,18 @@
+-- `rulefile::byte_behind` meets its contract: past the end stands 0, and before it the sum of the two numbers is a place.
+use mathlib.Core.Path.{sym}
+use lib.ListN.{List·getD-eq-default}
+use native.Mathlib.Omega.{arith}
+use borrow.Author.Needs.{needs}
+use Rattle.rulefile.proofs.byte_behind.Statement.{statement}
+use Rattle.rulefile.proofs.byte_behind.Tie as tie
+
+returns : tie.Need-returns
+returns c = sym (List·getD-eq-default (c .before .before .args .s .now) 0 (omega arith))
+
+returns-2 : tie.Need-returns-2
+returns-2 c = sym (List·getD-eq-default (c .before .before .before .args .s .now) 0 (omega arith))
+
+pub byte-behind-spec : {M : Type 1} → statement M
+byte-behind-spec =
+    tie.close
+    (tie.spec returns (λ c. search needs) returns-2 (λ c. search needs) (λ c κs. search needs) (λ c. search needs))
