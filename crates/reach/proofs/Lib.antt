@@ -19,3 +19,4 @@ pub mod NeverStuck
 pub mod Encoding
 pub mod Accepted
 pub mod Demands
+pub mod ReadBack

@@ -1,0 +1,104 @@
+// An entry of a list, handed back as the part of the caller's list that it fills. No byte is copied. Rests on crates reach and records.
+ghost use mathlib.Core.Path.{_≡_};
+ghost use Prim.Native.Nat.{_+_, _≤_, _<_};
+ghost use lib.ListN.{length};
+ghost use Rattle.reach.specs.Places.{wordAt};
+ghost use Rattle.reach.specs.Lists.{knownMark, entrySize, entrySpan, entryPart, roomOf};
+ghost use Rattle.entries.specs.Spans.{sizeOf, spanOf};
+use records::is_mark;
+use records::wide;
+
+// Of a list only the first 16,777,216 bytes count.
+const LIST_LIMIT: usize = 16777216;
+
+// How many bytes the entry at a place fills, or none stands there.
+pub enum Size {
+    Bytes(usize),
+    Missing,
+}
+
+// Where an entry begins and how many bytes it fills, or there is none.
+pub enum Span {
+    At(usize, usize),
+    Missing,
+}
+
+// Two bytes are the mark of an entry.
+pub fn known_mark(a: u8, b: u8) -> bool
+    ensures { λ r. ⌜ r ≡ knownMark a b ⌝ }
+{
+    if is_mark(a, b, b"RE") {
+        return true;
+    }
+    is_mark(a, b, b"UN")
+}
+
+// The two-byte number at a place.
+fn word_at(s: &[u8], at: usize) -> usize
+    requires { ⌜ at + 1 < length (now s) ⌝ }
+    ensures { λ r. ⌜ r ≡ wordAt (now (s .entry)) at ⌝ }
+{
+    let low = wide(s[at]);
+    let high = wide(s[at + 1]);
+    low + 256 * high
+}
+
+// The entry at a place of a list.
+pub fn size_at(list: &[u8], at: usize) -> Size
+    requires { ⌜ at ≤ length (now list) ⌝ }
+    ensures { λ r. ⌜ sizeOf r ≡ entrySize (now (list .entry)) at ⌝ }
+{
+    if list.len() - at < 6 {
+        return Size::Missing;
+    }
+    if !known_mark(list[at], list[at + 1]) {
+        return Size::Missing;
+    }
+    let n = word_at(list, at + 4);
+    if list.len() - at - 6 < n {
+        return Size::Missing;
+    }
+    Size::Bytes(6 + n)
+}
+
+// Where the entry of a given number stands, counted from 0. Each turn of the loop passes an entry.
+fn span_of(list: &[u8], number: usize) -> Span
+    ensures { λ r. ⌜ spanOf r ≡ entrySpan (now (list .entry)) number 0 ⌝ }
+{
+    let mut at: usize = 0;
+    let mut more = number;
+    while 0 < more {
+        let Size::Bytes(n) = size_at(list, at) else {
+            return Span::Missing;
+        };
+        at += n;
+        more -= 1;
+    }
+    let Size::Bytes(n) = size_at(list, at) else {
+        return Span::Missing;
+    };
+    Span::At(at, n)
+}
+
+// How many of so many bytes count.
+pub fn room(length: usize) -> usize
+    ensures { λ r. ⌜ r ≡ roomOf length ⌝ }
+{
+    if LIST_LIMIT < length {
+        LIST_LIMIT
+    } else {
+        length
+    }
+}
+
+// The entry of a given number, counted from 0; else the empty part at the list's end.
+pub fn entry(list: &[u8], number: usize) -> &[u8]
+    ensures { λ r. ⌜ now r ≡ entryPart (now (list .entry)) number ⌝ }
+{
+    let end = room(list.len());
+    let Span::At(at, n) = span_of(&list[..end], number) else {
+        return &list[end..end];
+    };
+    let stop = at + n;
+    &list[at..stop]
+}
