@@ -1,6 +1,6 @@
 -- What stands in the file, as the steps read it: the bytes of each kind of expression and the places of its parts, the operand of a number and
 -- the alternative of a constructor, found by passing over what stands before them.
--- Rests on specs/Records and on reach's Encoding.
+-- Rests on specs/Records and specs/Walks and on reach's Encoding.
 use Prim.Native.Nat.{ℕ, zero, suc, _+_, _-_, _≤_, _<_}
 use mathlib.Core.Path.{_≡_, refl, subst}
 use mathlib.Core.List.{List, append-nil}
@@ -17,6 +17,7 @@ use Rattle.reach.specs.Eval.{Env, Frame, State, evaluating, missing, stuck, cho
 use Rattle.reach.proofs.Base.{clash}
 use Rattle.reach.proofs.Encoding.{stands-variable, stands-call, stands-construct, stands-case, stands-let, stands-target, stands-next, stands-absent, stands-present, skipped-finds, BodyAt}
 use Rattle.machine.specs.Records.{Code, CodeAll, CodeAlternatives}
+use Rattle.machine.specs.Walks.{Behind, OperandAt, this-operand, later-operand, ChosenAt, none-chosen, this-chosen, past-absent, past-present}
 
 byte-there : (s : List ℕ) (i b : ℕ) → ByteAt s i b → byte s i ≡ got b (i + 1)
 unfolding byte
@@ -40,16 +41,12 @@ coded-known k e a-let = omega arith
 coded-known k e a-target = omega arith
 
 module _ (file : List ℕ) (o : Outline) where
-  -- passing over the expression at i leads to next
-  abbrev pub Behind : ℕ → ℕ → Type 0
-  Behind i next = skipped o nestingLimit file i ≡ got tt next
-
   -- the place behind an expression is found by passing over it
-  pub code-behind : (i : ℕ) (e : Expr) → Code file o i e → Behind i (i + length (encode e))
+  pub code-behind : (i : ℕ) (e : Expr) → Code file o i e → Behind file o i (i + length (encode e))
   code-behind i e code = skipped-finds o nestingLimit file i e (code .1) (code .0) (code .2)
 
   -- so what holds of the place behind it holds of the place that was found
-  found-behind : (P : ℕ → Type 0) (i : ℕ) (e : Expr) → Code file o i e → P (i + length (encode e)) → (next : ℕ) → Behind i next → P next
+  found-behind : (P : ℕ → Type 0) (i : ℕ) (e : Expr) → Code file o i e → P (i + length (encode e)) → (next : ℕ) → Behind file o i next → P next
   found-behind P i e code h next passed = subst P (cc (code-behind i e code)) h
 
   -- the body of a function
@@ -77,7 +74,7 @@ module _ (file : List ℕ) (o : Outline) where
 
     pub code-case :
         (t : ℕ) (e : Expr) (alts : Alternatives) → Code file o i (case t e alts)
-        → ByteAt file i 3 × ByteAt file (i + 1) t × Code file o (i + 2) e × ((next : ℕ) → Behind (i + 2) next → CodeAlternatives file o next alts)
+        → ByteAt file i 3 × ByteAt file (i + 1) t × Code file o (i + 2) e × ((next : ℕ) → Behind file o (i + 2) next → CodeAlternatives file o next alts)
     unfolding nesting
     code-case t e alts code =
         let at = stands-case file i t e alts (code .0) in
@@ -87,7 +84,7 @@ module _ (file : List ℕ) (o : Outline) where
 
     pub code-let :
         (t : ℕ) (e b : Expr) → Code file o i (bind t e b)
-        → ByteAt file i 4 × ByteAt file (i + 1) t × Code file o (i + 2) e × ((next : ℕ) → Behind (i + 2) next → Code file o next b)
+        → ByteAt file i 4 × ByteAt file (i + 1) t × Code file o (i + 2) e × ((next : ℕ) → Behind file o (i + 2) next → Code file o next b)
     unfolding nesting
     code-let t e b code =
         let at = stands-let file i t e b (code .0) in
@@ -116,7 +113,7 @@ module _ (file : List ℕ) (o : Outline) where
     code-one e code = ((code .0 .0, cc (code .0 .1, append-nil (encode e))), (code .1, tt), omega (arith, code .2))
 
     -- The first of operands, and the others behind it; the first of alternatives, and the others behind it.
-    pub code-next : (e : Expr) (es : Exprs) → CodeAll file o i (e ∷ₑ es) → Code file o i e × ((next : ℕ) → Behind i next → CodeAll file o next es)
+    pub code-next : (e : Expr) (es : Exprs) → CodeAll file o i (e ∷ₑ es) → Code file o i e × ((next : ℕ) → Behind file o i next → CodeAll file o next es)
     unfolding nesting
     code-next e es code =
         let at = stands-next file i e es (code .0) in
@@ -132,7 +129,7 @@ module _ (file : List ℕ) (o : Outline) where
 
     pub code-present :
         (e : Expr) (alts : Alternatives) → CodeAlternatives file o i (present e alts)
-        → ByteAt file i 1 × Code file o (i + 1) e × ((next : ℕ) → Behind (i + 1) next → CodeAlternatives file o next alts)
+        → ByteAt file i 1 × Code file o (i + 1) e × ((next : ℕ) → Behind file o (i + 1) next → CodeAlternatives file o next alts)
     unfolding nesting
     code-present e alts code =
         let at = stands-present file i e alts (code .0) in
@@ -141,11 +138,7 @@ module _ (file : List ℕ) (o : Outline) where
         (at .0, first, found-behind (λ k. CodeAlternatives file o k alts) (i + 1) e first rest)
 
   -- The operand of number j, of operands that begin at i: j expressions are passed over.
-  pub data OperandAt : ℕ → ℕ → Expr → Type 0 where
-    this-operand : {i : ℕ} {e : Expr} → Code file o i e → OperandAt i zero e
-    later-operand : {i j : ℕ} {e : Expr} (x : Expr) → Code file o i x → ((next : ℕ) → Behind i next → OperandAt next j e) → OperandAt i (suc j) e
-
-  pub operand-at : (i j : ℕ) (es : Exprs) (e : Expr) → CodeAll file o i es → nthExpr es j ≡ some e → OperandAt i j e
+  pub operand-at : (i j : ℕ) (es : Exprs) (e : Expr) → CodeAll file o i es → nthExpr es j ≡ some e → OperandAt file o i j e
   unfolding nthExpr
   operand-at i j []ₑ e code is = absurd (clash (cc))
   operand-at i zero (x ∷ₑ es) e code is = let z : x ≡ e = cc in this-operand (subst (λ (y : Expr). Code file o i y) z ((code-next i x es code) .0))
@@ -154,17 +147,17 @@ module _ (file : List ℕ) (o : Outline) where
       later-operand x (at .0) (λ next passed. operand-at next j es e (at .1 next passed) is)
 
   -- with none left to pass over, it stands here
-  pub operand-here : (i j : ℕ) (e : Expr) → OperandAt i j e → j ≡ 0 → Code file o i e
+  pub operand-here : (i j : ℕ) (e : Expr) → OperandAt file o i j e → j ≡ 0 → Code file o i e
   operand-here i j e (this-operand code) none-left = code
   operand-here i j e (later-operand x code rest) none-left = absurd (clash (omega arith))
 
   -- else an expression stands here, and the operand is one nearer behind it
-  pub operand-later : (i j : ℕ) (e : Expr) → OperandAt i j e → 0 < j → (x : Expr) × Code file o i x × ((next : ℕ) → Behind i next → OperandAt next (j - 1) e)
+  pub operand-later : (i j : ℕ) (e : Expr) → OperandAt file o i j e → 0 < j → (x : Expr) × Code file o i x × ((next : ℕ) → Behind file o i next → OperandAt file o next (j - 1) e)
   operand-later i j e (this-operand code) more = absurd (clash (omega arith))
   operand-later i j e (later-operand {j = k} x code rest) more = let z : suc k - 1 ≡ k = omega arith in (x, code, λ next passed. rw z (rest next passed))
 
   -- so it stands where passing over j expressions leads
-  pub operand-place : (i j : ℕ) (e : Expr) → OperandAt i j e → (place : ℕ) × (skippedAll (skipped o nestingLimit) j file i ≡ got tt place) × Code file o place e
+  pub operand-place : (i j : ℕ) (e : Expr) → OperandAt file o i j e → (place : ℕ) × (skippedAll (skipped o nestingLimit) j file i ≡ got tt place) × Code file o place e
   unfolding skippedAll
   operand-place i j e (this-operand code) = (i, refl, code)
   operand-place i j e (later-operand {j = k} x code rest) =
@@ -175,15 +168,7 @@ module _ (file : List ℕ) (o : Outline) where
 
   -- The alternative of constructor c, of alternatives that begin at i: c of them are passed over. The state is the one that the case goes on to.
   module _ (env : Env) (fs : List Frame) where
-    pub data ChosenAt : ℕ → ℕ → State → Type 0 where
-      none-chosen : {i : ℕ} → ByteAt file i 0 → ChosenAt i zero missing
-      this-chosen : {i : ℕ} (e : Expr) → ByteAt file i 1 → Code file o (i + 1) e → ChosenAt i zero (evaluating e env fs)
-      past-absent : {i c : ℕ} {s : State} → ByteAt file i 0 → ChosenAt (i + 1) c s → ChosenAt i (suc c) s
-      past-present :
-          {i c : ℕ} {s : State} (e : Expr) → ByteAt file i 1 → Code file o (i + 1) e → ((next : ℕ) → Behind (i + 1) next → ChosenAt next c s)
-          → ChosenAt i (suc c) s
-
-    pub chosen-at : (i c : ℕ) (alts : Alternatives) → CodeAlternatives file o i alts → c < countAlternatives alts → ChosenAt i c (choose alts c env fs)
+    pub chosen-at : (i c : ℕ) (alts : Alternatives) → CodeAlternatives file o i alts → c < countAlternatives alts → ChosenAt file o env fs i c (choose alts c env fs)
     unfolding choose countAlternatives
     chosen-at i c no-more code known = absurd (clash (omega arith))
     chosen-at i zero (absent alts) code known = none-chosen ((code-absent i alts code) .0)
@@ -198,36 +183,36 @@ module _ (file : List ℕ) (o : Outline) where
         past-present e (at .0) (at .1) (λ next passed. chosen-at next c alts (at .2 next passed) (omega arith))
 
     -- a byte stands there
-    pub chosen-byte : (i c : ℕ) (s : State) → ChosenAt i c s → i < length file
+    pub chosen-byte : (i c : ℕ) (s : State) → ChosenAt file o env fs i c s → i < length file
     chosen-byte i c s (none-chosen b) = b .0
     chosen-byte i c s (this-chosen e b code) = b .0
     chosen-byte i c s (past-absent b rest) = b .0
     chosen-byte i c s (past-present e b code rest) = b .0
 
     -- with none left to pass over: it is missing, or its expression stands behind the byte
-    pub chosen-missing : (i c : ℕ) (s : State) → ChosenAt i c s → c ≡ 0 → getD file i 0 ≡ 0 → s ≡ missing
+    pub chosen-missing : (i c : ℕ) (s : State) → ChosenAt file o env fs i c s → c ≡ 0 → getD file i 0 ≡ 0 → s ≡ missing
     chosen-missing i c s (none-chosen b) none-left zero-byte = refl
     chosen-missing i c s (this-chosen e b code) none-left zero-byte = absurd (clash (omega (arith, b .1)))
     chosen-missing i c s (past-absent b rest) none-left zero-byte = absurd (clash (omega arith))
     chosen-missing i c s (past-present e b code rest) none-left zero-byte = absurd (clash (omega arith))
 
     pub chosen-present :
-        (i c : ℕ) (s : State) → ChosenAt i c s → c ≡ 0 → (getD file i 0 ≡ 0 → ⊥) → (e : Expr) × (s ≡ evaluating e env fs) × Code file o (i + 1) e
+        (i c : ℕ) (s : State) → ChosenAt file o env fs i c s → c ≡ 0 → (getD file i 0 ≡ 0 → ⊥) → (e : Expr) × (s ≡ evaluating e env fs) × Code file o (i + 1) e
     chosen-present i c s (none-chosen b) none-left other = absurd (other (b .1))
     chosen-present i c s (this-chosen e b code) none-left other = (e, refl, code)
     chosen-present i c s (past-absent b rest) none-left other = absurd (other (b .1))
     chosen-present i c s (past-present e b code rest) none-left other = absurd (clash (omega arith))
 
     -- else the alternative is one nearer behind the byte, or behind the byte and an expression
-    pub chosen-past-absent : (i c : ℕ) (s : State) → ChosenAt i c s → 0 < c → getD file i 0 ≡ 0 → ChosenAt (i + 1) (c - 1) s
+    pub chosen-past-absent : (i c : ℕ) (s : State) → ChosenAt file o env fs i c s → 0 < c → getD file i 0 ≡ 0 → ChosenAt file o env fs (i + 1) (c - 1) s
     chosen-past-absent i c s (none-chosen b) more zero-byte = absurd (clash (omega arith))
     chosen-past-absent i c s (this-chosen e b code) more zero-byte = absurd (clash (omega arith))
     chosen-past-absent i c s (past-absent {c = k} b rest) more zero-byte = let z : suc k - 1 ≡ k = omega arith in rw z rest
     chosen-past-absent i c s (past-present e b code rest) more zero-byte = absurd (clash (omega (arith, b .1)))
 
     pub chosen-past-present :
-        (i c : ℕ) (s : State) → ChosenAt i c s → 0 < c → (getD file i 0 ≡ 0 → ⊥)
-        → (e : Expr) × Code file o (i + 1) e × ((next : ℕ) → Behind (i + 1) next → ChosenAt next (c - 1) s)
+        (i c : ℕ) (s : State) → ChosenAt file o env fs i c s → 0 < c → (getD file i 0 ≡ 0 → ⊥)
+        → (e : Expr) × Code file o (i + 1) e × ((next : ℕ) → Behind file o (i + 1) next → ChosenAt file o env fs next (c - 1) s)
     chosen-past-present i c s (none-chosen b) more other = absurd (clash (omega arith))
     chosen-past-present i c s (this-chosen e b code) more other = absurd (clash (omega arith))
     chosen-past-present i c s (past-absent b rest) more other = absurd (other (b .1))
@@ -235,7 +220,7 @@ module _ (file : List ℕ) (o : Outline) where
         let z : suc k - 1 ≡ k = omega arith in (e, code, λ next passed. rw z (rest next passed))
 
     -- so it stands where passing over c alternatives leads
-    pub chosen-place : (i c : ℕ) (s : State) → ChosenAt i c s → (place : ℕ) × (skippedAlternatives (skipped o nestingLimit) c file i ≡ got tt place) × ChosenAt place 0 s
+    pub chosen-place : (i c : ℕ) (s : State) → ChosenAt file o env fs i c s → (place : ℕ) × (skippedAlternatives (skipped o nestingLimit) c file i ≡ got tt place) × ChosenAt file o env fs place 0 s
     unfolding skippedAlternatives
     chosen-place i c s (none-chosen b) = (i, refl, none-chosen b)
     chosen-place i c s (this-chosen e b code) = (i, refl, this-chosen e b code)

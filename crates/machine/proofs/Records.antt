@@ -20,7 +20,8 @@ use Rattle.reach.proofs.Order.{There}
 use Rattle.reach.proofs.Base.{clash}
 use Rattle.reach.proofs.Evaluation.{EnvIn, FramesIn, StateIn}
 use Rattle.machine.specs.Records.{recordWord, Holds, CodeAll, CodeAlternatives, Control, expressionAt, partIn, nothingLeft, EnvAt, empty-at, operands-at, parts-at, FramesAt, none-at, waiting-at, StateAt, evaluating-at, inspecting-at, missing-at}
-use Rattle.machine.proofs.Codes.{OperandAt, operand-at}
+use Rattle.machine.specs.Walks.{OperandAt, outsideOf, VariableAt, outside, in-parts, in-operands}
+use Rattle.machine.proofs.Codes.{operand-at}
 
 -- the record of the environment that a control names, if it names one
 abbrev pub environmentOf : Control → ℕ
@@ -91,11 +92,11 @@ module _
 
 -- a variable is outside a group, or in it or past it
 by-group : {A : Type 0} (n m : ℕ) → (n < m → A) → (m ≤ n → A) → A
-by-group {A} n m outside inside = go (ltb n m) refl
+by-group {A} n m below past = go (ltb n m) refl
   where
     go : (t : Bool) → ltb n m ≡ t → A
-    go true is = outside (ltb-true n m is)
-    go false is = inside (ltb-false n m is)
+    go true is = below (ltb-true n m is)
+    go false is = past (ltb-false n m is)
 
 nth-there : (es : Exprs) (j : ℕ) → j < count es → (e : Expr) × (nthExpr es j ≡ some e)
 unfolding nthExpr count
@@ -125,45 +126,30 @@ suspended-some (some e) inner x is = (e, refl, cc)
 part-some : (j k : ℕ) (row : Row) (x : Closure) → pick (ltb j k) (some (inputPart (partOf row j))) none ≡ some x → (j < k) × (inputPart (partOf row j) ≡ x)
 part-some j k row x is = by-group j k (λ below. (below, cc (lt-ltb j k below))) (λ past. absurd (clash (cc (le-ltb j k past))))
 
--- how many variables are in view outside the group of record r
-abbrev pub outsideOf : List ℕ → ℕ → ℕ → ℕ
-outsideOf w base r = recordWord w base (recordWord w base r 0) 1
-
 module _ (file : List ℕ) (o : Outline) (w : List ℕ) (base : ℕ) (cell : Place → ℕ) where
-  -- The walk outward from record r to the group of variable n, and what the variable stands for: an input part, in the cell of its number in the
-  -- group, or the operand of that number.
-  pub data VariableAt (n : ℕ) : ℕ → Closure → Type 0 where
-    outside : {r : ℕ} {x : Closure} → recordWord w base r 0 < r → n < outsideOf w base r → VariableAt n (recordWord w base r 0) x → VariableAt n r x
-    in-parts :
-        {r : ℕ} {q : Place} → recordWord w base r 0 < r → outsideOf w base r ≤ n → recordWord w base r 3 ≡ 0
-        → cell q ≡ recordWord w base r 2 + (n - outsideOf w base r) → VariableAt n r (inputPart q)
-    in-operands :
-        {r b : ℕ} {e : Expr} {inner : Env} → recordWord w base r 0 < r → outsideOf w base r ≤ n → recordWord w base r 3 ≡ suc b → b < r
-        → EnvAt file o w base cell b inner → OperandAt file o (recordWord w base r 2) (n - outsideOf w base r) e → VariableAt n r (suspended e inner)
-
-  found-outside : {r a m i d : ℕ} {x : Closure} → Holds w base r a m i d → a < r → (n : ℕ) → n < recordWord w base a 1 → VariableAt n a x → VariableAt n r x
+  found-outside : {r a m i d : ℕ} {x : Closure} → Holds w base r a m i d → a < r → (n : ℕ) → n < recordWord w base a 1 → VariableAt file o w base cell n a x → VariableAt file o w base cell n r x
   found-outside {r} {x = x} holds a<r n below rest = outside {r = r} {x = x} (rw (holds .word-0) a<r) (rw (holds .word-0) below) (rw (holds .word-0) rest)
 
   -- One step of the walk, by the words that it looks at. The record outside is an earlier one.
-  pub variable-outer : (n r : ℕ) (x : Closure) → VariableAt n r x → recordWord w base r 0 < r
+  pub variable-outer : (n r : ℕ) (x : Closure) → VariableAt file o w base cell n r x → recordWord w base r 0 < r
   variable-outer n r x (outside a<r below rest) = a<r
   variable-outer n r x (in-parts a<r past mark is) = a<r
   variable-outer n r x (in-operands a<r past mark b<r inner operand) = a<r
 
-  pub variable-outside : (n r : ℕ) (x : Closure) → VariableAt n r x → n < outsideOf w base r → VariableAt n (recordWord w base r 0) x
+  pub variable-outside : (n r : ℕ) (x : Closure) → VariableAt file o w base cell n r x → n < outsideOf w base r → VariableAt file o w base cell n (recordWord w base r 0) x
   variable-outside n r x (outside a<r below rest) out = rest
   variable-outside n r x (in-parts a<r past mark is) out = absurd (clash (omega arith))
   variable-outside n r x (in-operands a<r past mark b<r inner operand) out = absurd (clash (omega arith))
 
   pub variable-part :
-      (n r : ℕ) (x : Closure) → VariableAt n r x → outsideOf w base r ≤ n → recordWord w base r 3 ≡ 0
+      (n r : ℕ) (x : Closure) → VariableAt file o w base cell n r x → outsideOf w base r ≤ n → recordWord w base r 3 ≡ 0
       → (q : Place) × (x ≡ inputPart q) × (cell q ≡ recordWord w base r 2 + (n - outsideOf w base r))
   variable-part n r x (outside a<r below rest) here zero-mark = absurd (clash (omega arith))
   variable-part n r x (in-parts {q = q} a<r past mark is) here zero-mark = (q, refl, is)
   variable-part n r x (in-operands a<r past mark b<r inner operand) here zero-mark = absurd (clash (omega arith))
 
   pub variable-operand :
-      (n r : ℕ) (x : Closure) → VariableAt n r x → outsideOf w base r ≤ n → (recordWord w base r 3 ≡ 0 → ⊥)
+      (n r : ℕ) (x : Closure) → VariableAt file o w base cell n r x → outsideOf w base r ≤ n → (recordWord w base r 3 ≡ 0 → ⊥)
       → (e : Expr) × (inner : Env) × (x ≡ suspended e inner) × (recordWord w base r 3 - 1 < r) × EnvAt file o w base cell (recordWord w base r 3 - 1) inner
       × OperandAt file o (recordWord w base r 2) (n - outsideOf w base r) e
   variable-operand n r x (outside a<r below rest) here other = absurd (clash (omega arith))
@@ -181,7 +167,7 @@ module _ (file : List ℕ) (o : Outline) (w : List ℕ) (base : ℕ) (cell : Pla
     count-word (parts-at holds a<r n outer parts) = holds .word-1 ∙ n
 
     -- what the environment of a record gives a variable is what the walk finds
-    pub variable-at : {r : ℕ} {env : Env} (n : ℕ) (x : Closure) → EnvAt file o w base cell r env → lookup env n ≡ some x → VariableAt n r x
+    pub variable-at : {r : ℕ} {env : Env} (n : ℕ) (x : Closure) → EnvAt file o w base cell r env → lookup env n ≡ some x → VariableAt file o w base cell n r x
     unfolding lookup
     variable-at n x empty-at is = absurd (clash (cc))
     variable-at {r} n x (operands-at {i = i} {outer = out} {inner = in′} {es = es} holds a<r b<r many outer inner code) is =
@@ -190,7 +176,7 @@ module _ (file : List ℕ) (o : Outline) (w : List ℕ) (base : ℕ) (cell : Pla
         (λ below. found-outside holds a<r n (rw (count-word outer) below) (variable-at n x outer (rw (lt-ltb n (size out) below) at is)))
         (λ past.
         let found = suspended-some (nthExpr es (n - size out)) in′ x (rw (le-ltb n (size out) past) at is) in
-        subst (VariableAt n r) (found .2)
+        subst (VariableAt file o w base cell n r) (found .2)
         (in-operands {r = r} (rw (holds .word-0) a<r) (rw view past) (holds .word-3) b<r inner
         (rw (holds .word-2, view) (operand-at file o i (n - size out) es (found .0) code (found .1)))))
     variable-at {r} n x (parts-at {k = k} {outer = out} {row = row} holds a<r many outer parts) is =
@@ -199,5 +185,5 @@ module _ (file : List ℕ) (o : Outline) (w : List ℕ) (base : ℕ) (cell : Pla
         (λ below. found-outside holds a<r n (rw (count-word outer) below) (variable-at n x outer (rw (lt-ltb n (size out) below) at is)))
         (λ past.
         let found = part-some (n - size out) k row x (rw (le-ltb n (size out) past) at is) in
-        subst (VariableAt n r) (found .1)
+        subst (VariableAt file o w base cell n r) (found .1)
         (in-parts {r = r} (rw (holds .word-0) a<r) (rw view past) (holds .word-3) (rw (holds .word-2, view) (parts (n - size out) (found .0)))))

@@ -16,6 +16,7 @@ use Rattle.reach.specs.Base.{pick}
 use Rattle.reach.specs.Syntax.{variable, call, construct, case, bind, target, Exprs, []ₑ, _∷ₑ_, count, nthExpr, Alternatives, no-more, absent, present, Types, Function, Program, fieldTypes, functionAt, parametersOf, sourceTypes}
 use Rattle.reach.specs.Parts.{Parts, end, opened, bound, Place, here, after, inside, part, within, Seen, gone, free, has, at}
 use Rattle.reach.specs.Types.{Typed, Slot, slots, sourceSlots, fieldSlots, slotAt}
+use Rattle.reach.specs.Encoding.{countAlternatives}
 use Rattle.reach.specs.Eval.{Row, parameters, fieldsOf, partOf, Env, empty, operands, inputParts, size, Closure, suspended, inputPart, suspend, lookup, Frame, waiting, State, evaluating, inspecting, missing, stuck, resume, choose, enter, Question, answered, Stop, value, noAlternative, unknown, Next, demands, stops, goes, waits, view, look, answer, next, Run, reached, ended, unfinished, halted, conclude, eval, startOf, start, run}
 use Rattle.reach.specs.Answers.{accepted, check}
 use Rattle.reach.proofs.Order.{There, constructorOf, arityOf, free-unbound}
@@ -33,26 +34,20 @@ pub data Steps (p : Program) (i : Parts) : ℕ → State → Type 0 where
 abbrev pub PartHas : Program → Parts → Place → ℕ → Type 0
 PartHas p i q t = (room : ℕ) × (slotAt (p .types) i q (sourceSlots p) ≡ some (record { type = t; room = room }))
 
--- for how many constructors the alternatives are
-unfoldable pub howMany : Alternatives → ℕ
-howMany no-more = zero
-howMany (absent alts) = suc (howMany alts)
-howMany (present e alts) = suc (howMany alts)
-
 -- The alternatives are those of a case on type t: one or none for each constructor, which sees the variables in view and the constructor's fields.
 pub record CaseOn (p : Program) (t : ℕ) (alts : Alternatives) (env : Env) : Type 0 where
   pub variables : List ℕ
   pub result : ℕ
   pub in-view : size env ≡ length variables
   pub covers : Covers (p .types) (signatures p) alts variables (getD (p .types) t []) result
-  pub as-many : howMany alts ≡ length (getD (p .types) t [])
+  pub as-many : countAlternatives alts ≡ length (getD (p .types) t [])
 
 -- A case on type t in `outer` has constructor c chosen: it is one of the type's, and not beyond the alternatives; and the alternative's
 -- environment `inner` has a variable more for each field of c.
 pub record Chooses (p : Program) (t c : ℕ) (alts : Alternatives) (outer inner : Env) : Type 0 where
   pub fields : List ℕ
   pub constructor-exists : fieldTypes (p .types) t c ≡ some fields
-  pub within-alternatives : c < howMany alts
+  pub within-alternatives : c < countAlternatives alts
   pub fields-agree : size inner ≡ size outer + length fields
 
 -- What a step meets at a state: a variable that is there; a function that exists, with an argument for each parameter; an input part that is
@@ -96,8 +91,8 @@ count-is p (e ∷ₑ es) view (t ∷ ts) h = ap suc (count-is p es view ts (h .1
 
 many-is :
     (p : Program) (alts : Alternatives) (view : List ℕ) (cs : List (List ℕ)) (r : ℕ)
-    → Covers (p .types) (signatures p) alts view cs r → howMany alts ≡ length cs
-unfolding howMany
+    → Covers (p .types) (signatures p) alts view cs r → countAlternatives alts ≡ length cs
+unfolding countAlternatives
 many-is p no-more view [] r h = refl
 many-is p no-more view (us ∷ cs) r h = absurd h
 many-is p (absent alts) view [] r h = absurd h

@@ -19,7 +19,7 @@ use Rattle.lookups.proofs.Tables.{found, missing, bytes-length}
 use Rattle.skipping.specs.Skip.{skippedAt, skippedAllAt, skippedAlternativesAt, numberPart, callPart, constructPart, casePart, letPart, targetPart}
 
 -- as many constructors as are asked for
-constructors-length : (s : List ℕ) (i n : ℕ) → length (constructorsAt s i n) ≡ n
+pub constructors-length : (s : List ℕ) (i n : ℕ) → length (constructorsAt s i n) ≡ n
 unfolding constructorsAt
 constructors-length s i zero = refl
 constructors-length s i (suc n) = ap suc (constructors-length s (i + 1 + getD s i 0) n)

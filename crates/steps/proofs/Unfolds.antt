@@ -1,0 +1,288 @@
+-- A call, a let, a case and a target: what the words stand for after the step.
+-- Rests on Kept, on machine's Codes and on reach's Eval.
+use Prim.Native.Nat.{ℕ, zero, suc, _+_, _≤_, _<_}
+use mathlib.Core.Path.{_≡_, refl, sym, _∙_, ap, subst}
+use mathlib.Core.List.{List, [], _∷_, map}
+use mathlib.Core.Option.{some, Option·some-injective, Option·none-ne-some}
+use native.Mathlib.Omega.{arith}
+use lib.Dec.{eqb}
+use lib.ListN.{length, getD, getElem?, length-append, length-drop}
+use borrow.Author.Tests.{eq-eqb, ne-eqb}
+use Rattle.reach.specs.Base.{pick}
+use Rattle.reach.specs.Syntax.{Expr, call, case, bind, target, Exprs, []ₑ, _∷ₑ_, count, Alternatives, Function, Program, functionAt}
+use Rattle.reach.specs.Parts.{Parts}
+use Rattle.reach.specs.Encoding.{encode, countAlternatives}
+use Rattle.reach.specs.Eval as Eval
+use Rattle.reach.specs.Eval.{Env, empty, operands, size, Frame, waiting, State, enter, view, answer, next}
+use Rattle.reach.specs.RuleFile.{Head, Outline}
+use Rattle.reach.specs.Places.{typeAt, headAt, outlineAt}
+use Rattle.lookups.proofs.Tables.{bytes-length}
+use Rattle.skipping.proofs.Parts.{constructors-length}
+use Rattle.machine.specs.Cells.{cellOf}
+use Rattle.machine.specs.Records.{recordWord, Code, empty-at, evaluating-at}
+use Rattle.machine.specs.Walks.{Behind}
+use Rattle.machine.proofs.Codes.{code-behind, code-call, code-let, code-one, code-case, code-target, code-kind}
+use Rattle.machine.proofs.Records.{count-word}
+use Rattle.steps.specs.declared.Control.the-variants as Control
+use Rattle.steps.specs.declared.Registers.{Registers}
+use Rattle.steps.specs.declared.Next.{Next}
+use Rattle.steps.specs.declared.Next.the-variants as Next
+use Rattle.steps.specs.Stepping.{outlineOf, FileOf, StandsFor, Standing, Ready, Wrote, Leads, Stepped, StepMeans, PassedOver}
+use Rattle.steps.proofs.Words.{nothing-written}
+use Rattle.steps.proofs.Which.{when-call, when-let, when-case, when-target}
+use Rattle.steps.proofs.Kept.{Met, shown, env-there, frames-there, operands-there, waiting-there, few-added}
+
+-- what a mapped list holds at a number is the image of what stands there
+mapped : {A B : Type 0} (f : A → B) (xs : List A) (d : A) (n : ℕ) (y : B) → getElem? (map f xs) n ≡ some y → (n < length xs) × (f (getD xs n d) ≡ y)
+mapped f [] d n y is = absurd (Option·none-ne-some y is)
+mapped f (x ∷ xs) d zero y is = (omega arith, Option·some-injective (f x) y is)
+mapped f (x ∷ xs) d (suc n) y is = let rest = mapped f xs d n y is in (omega (arith, rest .0), rest .1)
+
+-- A call.
+module _ (file types functions : List ℕ) where
+  -- a called function is one of the table, and takes as many operands as its record says
+  called :
+      (f : ℕ) (es : Exprs) (h : Head) → getElem? ((outlineOf file types functions) .heads) f ≡ some h → count es ≡ length (h .parameters)
+      → (f < length functions) × (count es ≡ getD file (getD functions f 0) 0)
+  unfolding outlineAt headAt
+  called f es h is many =
+      let known = mapped (headAt file) functions 0 f h is in
+      (known .0, many ∙ (ap (λ (g : Head). length (g .parameters)) (sym (known .1)) ∙ bytes-length file (getD functions f 0 + 1) (getD file (getD functions f 0) 0)))
+
+  body-place : (place : ℕ) → (headAt file place) .body ≡ place + 4 + getD file place 0
+  unfolding headAt
+  body-place place = refl
+
+call-next :
+    (p : Program) (e : Parts) (f : ℕ) (es : Exprs) (env : Env) (fs : List Frame) (g : Function) → functionAt p f ≡ some g
+    → next p e (Eval.evaluating (call f es) env fs) ≡ Eval.goes (Eval.evaluating (g .body) (operands empty es env) fs)
+unfolding next answer view enter
+call-next p e f es env fs g is = rw is
+
+module _
+    (file functions w w′ : List ℕ) (base i env : ℕ) (r : Registers) {place n : ℕ} (ready : Ready file w base r 1 i env)
+    (is-place : place ≡ getD functions (getD file (i + 1) 0) 0) (is-n : n ≡ getD file place 0) (small : n ≤ 255)
+    (wrote : Wrote w w′ base (r .records) 0 n (i + 2) (env + 1))
+  where
+    call-after : Registers
+    call-after = record { control = Control.Expression (place + 4 + n) (r .records); frame = r .frame; records = r .records + 1 }
+
+    call-follows :
+        (types : List ℕ) (p : Program) (cells : ℕ) (e : Parts) (s : State) → FileOf file types functions p → StandsFor file types functions p w base cells r e s
+        → (f : ℕ) (es : Exprs) (env′ : Env) (fs : List Frame) → Met file types functions w base i env r p e (call f es) env′ fs
+        → StepMeans file types functions w w′ base r p e (Eval.evaluating (call f es) env′ fs) (Next.Goes call-after)
+    unfolding size call-after
+    call-follows types p cells e s file-of stands f es env′ fs met =
+        let bytes = code-call file (outlineOf file types functions) i f es (met .code) in
+        let arity = met .code .1 in
+        let known = called file types functions f es (arity .0) (arity .1) (arity .2) in
+        let there = file-of .function-there f (known .0) in
+        let here : place ≡ getD functions f 0 = is-place ∙ ap (λ (k : ℕ). getD functions k 0) (bytes .1 .1) in
+        let many : n ≡ count es = is-n ∙ (ap (λ (k : ℕ). getD file k 0) here ∙ sym (known .1)) in
+        let body : (headAt file (getD functions f 0)) .body ≡ place + 4 + n = ap (λ (k : ℕ). (headAt file k) .body) (sym here) ∙ (body-place file types functions place ∙ ap (λ (k : ℕ). place + 4 + k) (sym is-n)) in (
+          Eval.evaluating (there .0 .body) (operands empty es env′) fs,
+          call-next p e f es env′ fs (there .0) (there .1),
+          record {
+            state = evaluating-at (subst (λ (k : ℕ). Code file (outlineOf file types functions) k (there .0 .body)) body (there .2))
+                (operands-there stands (wrote .only-top) (wrote .holds) (ready .space .some-record) (ready .environment-there) (omega arith) empty-at tt (met .env-at) (met .env-in) (bytes .2))
+                (frames-there stands (wrote .only-top) (ready .space .frame-below) (met .frames-at) (met .frames-in));
+            environment-below = omega arith;
+            frame-below = omega (arith, ready .space .frame-below);
+            no-fewer = omega arith;
+            one-more = omega arith;
+            few = few-added (ready .space .few) wrote (omega (arith, ready .space .some-record));
+          },
+        )
+
+    pub call-leads :
+        (types : List ℕ)
+        → Leads file types functions w w′ base r (record { control = Control.Expression (place + 4 + n) (r .records); frame = r .frame; records = r .records + 1 })
+    unfolding call-after
+    call-leads types = record {
+      only-top = wrote .only-top;
+      steps = λ p cells e s file-of stands.
+          shown file types functions w base i env r p e (λ s′. StepMeans file types functions w w′ base r p e s′ (Next.Goes call-after)) ready stands
+          (λ x env′ fs coded met.
+          when-call (λ y. Met file types functions w base i env r p e y env′ fs → StepMeans file types functions w w′ base r p e (Eval.evaluating y env′ fs) (Next.Goes call-after))
+          coded (λ f es. call-follows types p cells e s file-of stands f es env′ fs) met);
+    }
+
+-- A let.
+
+let-next :
+    (p : Program) (e : Parts) (t : ℕ) (y b : Expr) (env : Env) (fs : List Frame)
+    → next p e (Eval.evaluating (bind t y b) env fs) ≡ Eval.goes (Eval.evaluating b (operands env (y ∷ₑ []ₑ) env) fs)
+unfolding next answer view
+let-next p e t y b env fs = refl
+
+module _
+    (file types functions w w′ : List ℕ) (base i env : ℕ) (r : Registers) {body seen : ℕ} (ready : Ready file w base r 4 i env)
+    (found : PassedOver file types functions (i + 2) body)
+    (is-seen : seen ≡ recordWord w base env 1) (wrote : Wrote w w′ base (r .records) env (seen + 1) (i + 2) (env + 1))
+  where
+    let-after : Registers
+    let-after = record { control = Control.Expression body (r .records); frame = r .frame; records = r .records + 1 }
+
+    let-follows :
+        (p : Program) (cells : ℕ) (e : Parts) (s : State) → StandsFor file types functions p w base cells r e s
+        → (t : ℕ) (y b : Expr) (env′ : Env) (fs : List Frame) → Met file types functions w base i env r p e (bind t y b) env′ fs
+        → StepMeans file types functions w w′ base r p e (Eval.evaluating (bind t y b) env′ fs) (Next.Goes let-after)
+    unfolding count let-after
+    let-follows p cells e s stands t y b env′ fs met =
+        let at = code-let file (outlineOf file types functions) i t y b (met .code) in
+        let many = count-word file (outlineOf file types functions) w base (cellOf w) (stands .zeros) (met .env-at) in (
+          Eval.evaluating b (operands env′ (y ∷ₑ []ₑ) env′) fs,
+          let-next p e t y b env′ fs,
+          record {
+            state = evaluating-at (at .3 body (found y (at .2)))
+                (operands-there stands (wrote .only-top) (wrote .holds) (ready .environment-there) (ready .environment-there) (omega (arith, is-seen, many)) (met .env-at) (met .env-in) (met .env-at) (met .env-in)
+                (code-one file (outlineOf file types functions) (i + 2) y (at .2)))
+                (frames-there stands (wrote .only-top) (ready .space .frame-below) (met .frames-at) (met .frames-in));
+            environment-below = omega arith;
+            frame-below = omega (arith, ready .space .frame-below);
+            no-fewer = omega arith;
+            one-more = omega arith;
+            few = few-added (ready .space .few) wrote (omega (arith, is-seen, ready .environment-there, ready .space .few env (ready .environment-there)));
+          },
+        )
+
+    pub let-leads : Leads file types functions w w′ base r (record { control = Control.Expression body (r .records); frame = r .frame; records = r .records + 1 })
+    unfolding let-after
+    let-leads = record {
+      only-top = wrote .only-top;
+      steps = λ p cells e s file-of stands.
+          shown file types functions w base i env r p e (λ s′. StepMeans file types functions w w′ base r p e s′ (Next.Goes let-after)) ready stands
+          (λ x env′ fs coded met.
+          when-let (λ y. Met file types functions w base i env r p e y env′ fs → StepMeans file types functions w w′ base r p e (Eval.evaluating y env′ fs) (Next.Goes let-after))
+          coded (λ t y b. let-follows p cells e s stands t y b env′ fs) met);
+    }
+
+-- A case.
+
+case-next :
+    (p : Program) (e : Parts) (t : ℕ) (y : Expr) (alts : Alternatives) (env : Env) (fs : List Frame)
+    → next p e (Eval.evaluating (case t y alts) env fs) ≡ Eval.goes (Eval.evaluating y env (waiting alts env ∷ fs))
+unfolding next answer view
+case-next p e t y alts env fs = refl
+
+-- a case has as many alternatives as the type's record says
+cased :
+    (file types functions : List ℕ) (t : ℕ) (alts : Alternatives) (cs : List (List ℕ)) → getElem? ((outlineOf file types functions) .types) t ≡ some cs
+    → countAlternatives alts ≡ length cs → countAlternatives alts ≡ getD file (getD types t 0) 0
+unfolding outlineAt typeAt
+cased file types functions t alts cs is many =
+    let known = mapped (typeAt file) types 0 t cs is in
+    many ∙ (ap length (sym (known .1)) ∙ constructors-length file (getD types t 0 + 1) (getD file (getD types t 0) 0))
+
+-- the place behind an expression is a place of the file
+pub behind-small :
+    (file : List ℕ) (o : Outline) (i next : ℕ) (x : Expr) → i ≤ length file → Code file o i x → Behind file o i next → next ≤ length file
+behind-small file o i next x from code passed =
+    let z : i + length (encode x) ≡ next = cc (code-behind file o i x code, passed) in
+    omega (arith, z, simp (length-drop, length-append) at (ap length (code .0 .1)))
+
+module _
+    (file types functions w w′ : List ℕ) (base i env : ℕ) (r : Registers) {alternatives n : ℕ} (ready : Ready file w base r 3 i env)
+    (found : PassedOver file types functions (i + 2) alternatives)
+    (is-n : n ≡ getD file (getD types (getD file (i + 1) 0) 0) 0) (small : n ≤ 255)
+    (wrote : Wrote w w′ base (r .records) alternatives n env (r .frame))
+  where
+    case-after : Registers
+    case-after = record { control = Control.Expression (i + 2) env; frame = r .records; records = r .records + 1 }
+
+    case-follows :
+        (p : Program) (cells : ℕ) (e : Parts) (s : State) → StandsFor file types functions p w base cells r e s
+        → (t : ℕ) (y : Expr) (alts : Alternatives) (env′ : Env) (fs : List Frame) → Met file types functions w base i env r p e (case t y alts) env′ fs
+        → StepMeans file types functions w w′ base r p e (Eval.evaluating (case t y alts) env′ fs) (Next.Goes case-after)
+    unfolding case-after
+    case-follows p cells e s stands t y alts env′ fs met =
+        let at = code-case file (outlineOf file types functions) i t y alts (met .code) in
+        let arity = met .code .1 in
+        let many : n ≡ countAlternatives alts = is-n ∙ (ap (λ (k : ℕ). getD file (getD types k 0) 0) (at .1 .1) ∙ sym (cased file types functions t alts (arity .0) (arity .1) (arity .2))) in (
+          Eval.evaluating y env′ (waiting alts env′ ∷ fs),
+          case-next p e t y alts env′ fs,
+          record {
+            state = evaluating-at (at .2) (env-there stands (wrote .only-top) (ready .environment-there) (met .env-at) (met .env-in))
+                (waiting-there stands (wrote .only-top) (wrote .holds) (ready .environment-there) (ready .space .frame-below) many (at .3 alternatives (found y (at .2)))
+                (met .env-at) (met .env-in) (met .frames-at) (met .frames-in));
+            environment-below = omega (arith, ready .environment-there);
+            frame-below = omega arith;
+            no-fewer = omega arith;
+            one-more = omega arith;
+            few = few-added (ready .space .few) wrote (omega (arith, ready .space .some-record));
+          },
+        )
+
+    pub case-leads : Leads file types functions w w′ base r (record { control = Control.Expression (i + 2) env; frame = r .records; records = r .records + 1 })
+    unfolding case-after
+    case-leads = record {
+      only-top = wrote .only-top;
+      steps = λ p cells e s file-of stands.
+          shown file types functions w base i env r p e (λ s′. StepMeans file types functions w w′ base r p e s′ (Next.Goes case-after)) ready stands
+          (λ x env′ fs coded met.
+          when-case (λ y. Met file types functions w base i env r p e y env′ fs → StepMeans file types functions w w′ base r p e (Eval.evaluating y env′ fs) (Next.Goes case-after))
+          coded (λ t y alts. case-follows p cells e s stands t y alts env′ fs) met);
+    }
+
+-- the place of the alternatives is small enough to be written
+pub case-small :
+    (file types functions w : List ℕ) (base i env : ℕ) (r : Registers) {alternatives : ℕ} → Standing file types functions w base r → Ready file w base r 3 i env
+    → PassedOver file types functions (i + 2) alternatives → alternatives ≤ 16384
+case-small file types functions w base i env r {alternatives} standing ready found =
+    shown file types functions w base i env r (standing .program) (standing .input) (λ s. alternatives ≤ 16384) ready (standing .stands)
+    (λ x env′ fs coded met. when-case (λ y. Code file (outlineOf file types functions) i y → alternatives ≤ 16384) coded (λ t y alts code.
+    let at = code-case file (outlineOf file types functions) i t y alts code in
+    let first = code-kind file (outlineOf file types functions) (i + 2) y (at .2) in
+    omega (arith, ready .small, behind-small file (outlineOf file types functions) (i + 2) alternatives y (omega (arith, first .0)) (at .2) (found y (at .2)))) (met .code))
+
+-- A target.
+
+target-next :
+    (p : Program) (e : Parts) (l : ℕ) (y : Expr) (env : Env) (fs : List Frame)
+    → next p e (Eval.evaluating (target l y) env fs) ≡ answer e (pick (eqb l (p .label)) Eval.demands (Eval.goes (Eval.evaluating y env fs)))
+unfolding next view
+target-next p e l y env fs = refl
+
+module _ (file types functions w : List ℕ) (base label i env : ℕ) (r : Registers) (ready : Ready file w base r 5 i env) where
+  module _ (n : Next) where
+    TargetMeans : Type 0
+    TargetMeans =
+        (p : Program) (cells : ℕ) (e : Parts) (s : State) → label ≡ p .label → StandsFor file types functions p w base cells r e s
+        → (l : ℕ) (y : Expr) (env′ : Env) (fs : List Frame) → Met file types functions w base i env r p e (target l y) env′ fs
+        → StepMeans file types functions w w base r p e (Eval.evaluating (target l y) env′ fs) n
+
+    target-steps : TargetMeans → Stepped file types functions w w base label r n
+    unfolding TargetMeans
+    target-steps means = record {
+      only-top = nothing-written w base (r .records);
+      steps = λ p sought cells e s file-of stands.
+          shown file types functions w base i env r p e (λ s′. StepMeans file types functions w w base r p e s′ n) ready stands
+          (λ x env′ fs coded met.
+          when-target (λ y. Met file types functions w base i env r p e y env′ fs → StepMeans file types functions w w base r p e (Eval.evaluating y env′ fs) n)
+          coded (λ l y. means p cells e s sought stands l y env′ fs) met);
+    }
+
+  pub target-demands : getD file (i + 1) 0 ≡ label → Stepped file types functions w w base label r Next.Demands
+  unfolding TargetMeans answer
+  target-demands is = target-steps Next.Demands (λ p cells e s sought stands l y env′ fs met.
+      let at = code-target file (outlineOf file types functions) i l y (met .code) in
+      let same : l ≡ p .label = cc (at .1 .1) in
+      rw (target-next, eq-eqb l (p .label) same))
+
+  pub target-goes :
+      (getD file (i + 1) 0 ≡ label → ⊥)
+      → Stepped file types functions w w base label r (Next.Goes (record { control = Control.Expression (i + 2) env; frame = r .frame; records = r .records }))
+  unfolding TargetMeans answer
+  target-goes other = target-steps (Next.Goes (record { control = Control.Expression (i + 2) env; frame = r .frame; records = r .records })) (λ p cells e s sought stands l y env′ fs met.
+      let at = code-target file (outlineOf file types functions) i l y (met .code) in (
+        Eval.evaluating y env′ fs,
+        rw (target-next, ne-eqb l (p .label) (λ same. other (at .1 .1 ∙ (same ∙ sym sought)))),
+        record {
+          state = evaluating-at (at .2) (met .env-at) (met .frames-at);
+          environment-below = ready .environment-there;
+          frame-below = ready .space .frame-below;
+          no-fewer = omega arith;
+          one-more = omega arith;
+          few = ready .space .few;
+        },
+      ))

@@ -1,0 +1,81 @@
+-- `steps::step_expression` meets its contract: the code that stands in the file is that of the expression, so each arm's step is the one that is due.
+use Prim.Native.Nat.{ℕ}
+use mathlib.Core.Path.{_≡_, refl, _∙_, sym}
+use native.Mathlib.Omega.{arith}
+use borrow.Author.Needs.{needs}
+use Rattle.steps.specs.Stepping.{Ready}
+use Rattle.steps.proofs.Kept.{code-known, ready-at, stepped}
+use Rattle.steps.proofs.step_expression.Statement.{statement}
+use Rattle.steps.proofs.step_expression.Tie as tie
+
+-- the expression is ready for the step of the code that was read
+ready :
+    (c : tie.After-byte-or-zero) (code : ℕ) → c .byte-or-zero .result ≡ code
+    → Ready (c .before .before .before .before .before .args .file .now) (c .before .before .before .before .before .args .work .now) (c .before .before .before .before .before .args .base) (c .before .before .before .before .before .args .r) code (c .before .before .before .before .before .args .at) (c .before .before .before .before .before .args .env)
+ready c code is =
+    let a = c .before .before .before .before .before .args in
+    ready-at (a .file .now) (a .types .now) (a .functions .now) (a .work .now) (a .base) (a .at) (a .env) (a .r) (c .before .before .before .before .before .pre .0) (c .before .before .before .before .before .pre .1) (sym is ∙ c .byte-or-zero .ensures)
+
+step-variable-requires : tie.Need-step-variable-requires
+step-variable-requires c κs = (c .before .before .before .before .before .before .before .pre .0, ready (c .before .before) 0 (c .before .match .keys1))
+
+step-call-requires : tie.Need-step-call-requires
+step-call-requires c κs = ready (c .before .before) 1 (c .before .match .keys2)
+
+step-construct-requires : tie.Need-step-construct-requires
+step-construct-requires c κs = (c .before .before .before .before .before .before .before .pre .0, ready (c .before .before) 2 (c .before .match .keys3))
+
+step-case-requires : tie.Need-step-case-requires
+step-case-requires c κs = (c .before .before .before .before .before .before .before .pre .0, ready (c .before .before) 3 (c .before .match .keys4))
+
+step-let-requires : tie.Need-step-let-requires
+step-let-requires c κs = ready (c .before .before) 4 (c .before .match .keys5)
+
+step-target-requires : tie.Need-step-target-requires
+step-target-requires c κs = let known = ready (c .before) _ refl in omega (arith, known .within, known .small)
+
+returns : tie.Need-returns
+returns c = stepped (c .before .before .before .before .before .before .before .before .args .label) (c .step-variable .ensures)
+
+returns-2 : tie.Need-returns-2
+returns-2 c = stepped (c .before .before .before .before .before .before .before .before .before .before .args .label) (c .before .before .step-call .ensures (c .before .before .before .before .before .before .before .before .before .before .args .types .now))
+
+returns-3 : tie.Need-returns-3
+returns-3 c = c .before .before .step-construct .ensures (c .before .before .before .before .before .before .before .before .before .before .args .label)
+
+returns-4 : tie.Need-returns-4
+returns-4 c = stepped (c .before .before .before .before .before .before .before .before .before .before .args .label) (c .before .before .step-case .ensures)
+
+returns-5 : tie.Need-returns-5
+returns-5 c = stepped (c .before .before .before .before .before .before .before .before .before .before .args .label) (c .before .before .step-let .ensures)
+
+returns-6 : tie.Need-returns-6
+returns-6 c =
+    let a = c .before .before .before .before .before .before .before .args in
+    let others = c .before .match .rest in
+    let known = code-known (a .file .now) (a .types .now) (a .functions .now) (a .work .now) (a .base) (a .at) (a .env) (a .r) (c .before .before .before .before .before .before .before .pre .0) (c .before .before .before .before .before .before .before .pre .1) in
+    c .step-target .ensures (a .types .now) (a .functions .now) (a .work .now) (a .base)
+    (ready (c .before .before) 5 (omega (arith, known, c .before .before .byte-or-zero .ensures, others .1, others .0 .1, others .0 .0 .1, others .0 .0 .0 .1, others .0 .0 .0 .0 .1)))
+
+pub step-expression-spec : {M : Type 1} → statement M
+step-expression-spec =
+    tie.close
+    (tie.spec
+    (λ c κs. search needs)
+    step-variable-requires
+    step-call-requires
+    step-construct-requires
+    step-case-requires
+    step-let-requires
+    step-target-requires
+    (λ c. search needs)
+    returns
+    (λ c. search needs)
+    returns-2
+    (λ c. search needs)
+    returns-3
+    (λ c. search needs)
+    returns-4
+    (λ c. search needs)
+    returns-5
+    returns-6)

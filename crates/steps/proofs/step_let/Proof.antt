@@ -1,0 +1,30 @@
+-- `steps::step_let` meets its contract: Unfolds says what the words stand for after the record of the bound expression was written.
+use native.Mathlib.Omega.{arith}
+use borrow.Author.Needs.{needs}
+use Rattle.steps.proofs.Unfolds.{let-leads}
+use Rattle.steps.proofs.step_let.Statement.{statement}
+use Rattle.steps.proofs.step_let.Tie as tie
+
+put-record-requires : tie.Need-put-record-requires
+put-record-requires c κs = let a = c .before .before .before .before .before .before .before .before .args in omega (arith, c .before .record-word .ensures .0, c .before .before .before .before .before .before .before .before .pre .space .few (a .env) (omega arith))
+
+returns : tie.Need-returns
+returns c =
+    let a = c .before .before .before .before .before .before .before .before .before .before .before .args in
+    let-leads (a .file .now) (a .types .now) (a .functions .now) (a .work .now) _ (a .base) (a .at) (a .env) (a .r) (c .before .before .before .before .before .before .before .before .before .before .before .pre)
+    (c .before .before .before .before .before .before .behind .ensures) (c .before .before .before .before .record-word .ensures .0) (c .before .before .put-record .ensures)
+
+pub step-let-spec : {M : Type 1} → statement M
+step-let-spec =
+    tie.close
+    (tie.spec
+    (λ c. search needs)
+    (λ c κs. search needs)
+    (λ c κs. search needs)
+    (λ c. search needs)
+    (λ c. search needs)
+    (λ c. search needs)
+    put-record-requires
+    (λ c. search needs)
+    (λ c. search needs)
+    returns)

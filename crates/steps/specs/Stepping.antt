@@ -1,0 +1,192 @@
+-- What the registers and the lent words stand for, and what a step promises: it is one step of the published evaluation.
+-- Rests on machine's Cells, Records and Walks, on reach's Eval, Places, Evaluation and NeverStuck, and on the types of src/lib.rt.
+use Prim.Native.Nat.{ℕ, _+_, _*_, _-_, _≤_, _<_}
+use mathlib.Core.Path.{_≡_}
+use mathlib.Core.List.{List, map}
+use mathlib.Core.Option.{some}
+use lib.ListN.{length, getD}
+use Rattle.reach.specs.Syntax.{Expr, Function, Program, functionAt}
+use Rattle.reach.specs.Parts.{Parts, Place}
+use Rattle.reach.specs.Types.{sourceSlots}
+use Rattle.reach.specs.Eval as Eval
+use Rattle.reach.specs.Eval.{State, Question, Env, Frame, Closure}
+use Rattle.reach.specs.RuleFile.{Outline}
+use Rattle.reach.specs.Places.{typeAt, headAt, outlineAt}
+use Rattle.reach.proofs.Evaluation.{StateIn}
+use Rattle.reach.proofs.NeverStuck.{Sound}
+use Rattle.lookups.specs.Fields.{fieldsIn}
+use Rattle.machine.specs.Cells.{Cells, cellOf}
+use Rattle.machine.specs.Records as Records
+use Rattle.machine.specs.Records.{Code, Holds, recordWord, StateAt, expressionAt, partIn, nothingLeft}
+use Rattle.machine.specs.Walks.{Behind, OperandAt, ChosenAt, VariableAt, outsideOf}
+use Rattle.steps.specs.declared.Control.{Control}
+use Rattle.steps.specs.declared.Control.the-variants as Control
+use Rattle.steps.specs.declared.Registers.{Registers}
+use Rattle.steps.specs.declared.Alternative.{Alternative}
+use Rattle.steps.specs.declared.Alternative.the-variants as Alternative
+use Rattle.steps.specs.declared.Next.{Next}
+use Rattle.steps.specs.declared.Next.the-variants as Next
+
+-- the outline whose types and functions stand at these places
+abbrev pub outlineOf : List ℕ → List ℕ → List ℕ → Outline
+outlineOf file types functions = outlineAt file types functions 0
+
+-- the control of the registers
+abbrev pub controlOf : Control → Records.Control
+controlOf (Control.Expression i r) = expressionAt i r
+controlOf (Control.Part x) = partIn x
+controlOf Control.Missing = nothingLeft
+
+-- the record of the environment in which it is evaluated, or 0
+abbrev pub environmentOf : Control → ℕ
+environmentOf (Control.Expression i r) = r
+environmentOf (Control.Part x) = 0
+environmentOf Control.Missing = 0
+
+-- The tables are those of a checked file: the program's types are those at the places, and every function's body stands where its record says.
+pub record FileOf (file types functions : List ℕ) (p : Program) : Type 0 where
+  pub types-there : p .types ≡ map (typeAt file) types
+  pub function-there : (f : ℕ) → f < length functions
+      → (g : Function) × (functionAt p f ≡ some g) × Code file (outlineOf file types functions) ((headAt file (getD functions f 0)) .body) (g .body)
+  pub small : length file ≤ 16384
+
+-- the count word of each of the first t records is at most 255 times the record's number
+abbrev pub Few : List ℕ → ℕ → ℕ → Type 0
+Few w base t = (j : ℕ) → j < t → recordWord w base j 1 ≤ 255 * j
+
+-- The registers name records that are there, there is room for one record more, and the numbers are small.
+pub record Space (w : List ℕ) (base : ℕ) (r : Registers) : Type 0 where
+  pub some-record : 0 < r .records
+  pub environment-below : environmentOf (r .control) < r .records
+  pub frame-below : r .frame < r .records
+  pub room : base + 4 * (r .records + 1) ≤ length w
+  pub narrow : length w ≤ 1000000
+  pub few : Few w base (r .records)
+
+-- The words and registers stand for a state on an input: the cells are the input's, the records are the state's, and there is room for one record more.
+pub record StandsFor (file types functions : List ℕ) (p : Program) (w : List ℕ) (base cells : ℕ) (r : Registers) (e : Parts) (s : State) : Type 0 where
+  pub input : Cells (p .types) (sourceSlots p) w cells e
+  pub apart : 5 * cells ≤ base
+  pub zeros : Holds w base 0 0 0 0 0
+  pub state : StateAt file (outlineOf file types functions) w base (cellOf w) (controlOf (r .control)) (r .frame) s
+  pub there : StateIn e s
+  pub sound : Sound p e s
+  pub space : Space w base r
+
+-- They stand for some state of some program on some input: what a step asks.
+pub record Standing (file types functions w : List ℕ) (base : ℕ) (r : Registers) : Type 0 where
+  pub program : Program
+  pub cells : ℕ
+  pub input : Parts
+  pub state : State
+  pub file-of : FileOf file types functions program
+  pub stands : StandsFor file types functions program w base cells r input state
+
+-- An expression of this code, at this place of the file and in this environment's record, is being evaluated.
+pub record Ready (file w : List ℕ) (base : ℕ) (r : Registers) (code i env : ℕ) : Type 0 where
+  pub control-is : r .control ≡ Control.Expression i env
+  pub code-is : getD file i 0 ≡ code
+  pub within : i < length file
+  pub small : length file ≤ 16384
+  pub environment-there : env < r .records
+  pub space : Space w base r
+
+-- no word changed but those of the record at the top
+pub record OnlyTop (w w′ : List ℕ) (base records : ℕ) : Type 0 where
+  pub same-length : length w′ ≡ length w
+  pub elsewhere : (i : ℕ) → (base + 4 * records ≤ i → base + 4 * (records + 1) ≤ i) → getD w′ i 0 ≡ getD w i 0
+
+-- the record at the top was written
+pub record Wrote (w w′ : List ℕ) (base top a b c d : ℕ) : Type 0 where
+  pub only-top : OnlyTop w w′ base top
+  pub holds : Holds w′ base top a b c d
+
+-- After a step to registers r′ the words stand for state s′ (there may be no room for a further record then).
+pub record Follows (file types functions w′ : List ℕ) (base records : ℕ) (r′ : Registers) (s′ : State) : Type 0 where
+  pub state : StateAt file (outlineOf file types functions) w′ base (cellOf w′) (controlOf (r′ .control)) (r′ .frame) s′
+  pub environment-below : environmentOf (r′ .control) < r′ .records
+  pub frame-below : r′ .frame < r′ .records
+  pub no-fewer : records ≤ r′ .records
+  pub one-more : r′ .records ≤ records + 1
+  pub few : Few w′ base (r′ .records)
+
+module _ (file types functions : List ℕ) (w w′ : List ℕ) (base : ℕ) (r : Registers) (p : Program) where
+  -- what a step says of a state that the words stood for: what comes next is the evaluation's
+  abbrev pub StepMeans : (e : Parts) (s : State) → Next → Type 0
+  StepMeans e s Next.Demands = Eval.next p e s ≡ Eval.demands
+  StepMeans e s Next.Stops = (why : Eval.Stop) × (Eval.next p e s ≡ Eval.stops why)
+  StepMeans e s (Next.Goes r′) = (s′ : State) × (Eval.next p e s ≡ Eval.goes s′) × Follows file types functions w′ base (r .records) r′ s′
+  StepMeans e s (Next.Waits x) = (q : Question) × (Eval.next p e s ≡ Eval.waits q) × (cellOf w (q .place) ≡ x)
+
+  -- and it says so of every input and state that they stood for
+  abbrev pub Steps : Next → Type 0
+  Steps n = (cells : ℕ) (e : Parts) (s : State) → FileOf file types functions p → StandsFor file types functions p w base cells r e s → StepMeans e s n
+
+-- A step that leads to registers r′, whatever the program.
+pub record Leads (file types functions w w′ : List ℕ) (base : ℕ) (r r′ : Registers) : Type 0 where
+  pub only-top : OnlyTop w w′ base (r .records)
+  pub steps : (p : Program) → Steps file types functions w w′ base r p (Next.Goes r′)
+
+-- A step with any outcome, for programs of the sought label.
+pub record Stepped (file types functions w w′ : List ℕ) (base label : ℕ) (r : Registers) (n : Next) : Type 0 where
+  pub only-top : OnlyTop w w′ base (r .records)
+  pub steps : (p : Program) → label ≡ p .label → Steps file types functions w w′ base r p n
+
+-- What the parts of a step find.
+
+-- record r′ is on the walk outward from record r to the group of variable n, whatever the variable stands for
+abbrev pub Outward : List ℕ → ℕ → ℕ → ℕ → ℕ → Type 0
+Outward w base n r r′ =
+    (file : List ℕ) (o : Outline) (cell : Place → ℕ) (x : Closure) → VariableAt file o w base cell n r x → VariableAt file o w base cell n r′ x
+
+-- the variable stands for something
+abbrev pub VariableThere : List ℕ → ℕ → ℕ → ℕ → Type 0
+VariableThere w base n r = (file : List ℕ) × (o : Outline) × (cell : Place → ℕ) × (x : Closure) × VariableAt file o w base cell n r x
+
+-- the record of the variable's group
+pub record Group (w : List ℕ) (base n env group : ℕ) : Type 0 where
+  pub outward : Outward w base n env group
+  pub inside : outsideOf w base group ≤ n
+  pub no-later : group ≤ env
+
+-- constructor c of type t, if there is one, has n fields, and there are no more than a byte says
+abbrev pub FieldCount : List ℕ → List ℕ → ℕ → ℕ → ℕ → Type 0
+FieldCount file types t c n = ((us : List ℕ) → fieldsIn file types t c ≡ some us → n ≡ length us) × (n ≤ 255)
+
+module _ (file types functions : List ℕ) where
+  -- where an expression stands at i, next is the place behind it
+  abbrev pub PassedOver : ℕ → ℕ → Type 0
+  PassedOver i next = (x : Expr) → Code file (outlineOf file types functions) i x → Behind file (outlineOf file types functions) i next
+
+  -- operand n of those that begin at i stands at this place
+  abbrev pub OperandIn : ℕ → ℕ → ℕ → Type 0
+  OperandIn i n place = (x : Expr) → OperandAt file (outlineOf file types functions) i n x → Code file (outlineOf file types functions) place x
+
+  -- an alternative is there for constructor c, of alternatives that begin at i, or its absence
+  abbrev pub AlternativeThere : ℕ → ℕ → Type 0
+  AlternativeThere i c = (new : Env) × (fs : List Frame) × (s : State) × ChosenAt file (outlineOf file types functions) new fs i c s
+
+  -- where alternatives begin at i, those after the first begin at next
+  abbrev pub PassedAlternative : ℕ → ℕ → Type 0
+  PassedAlternative i next =
+      (new : Env) (fs : List Frame) (c : ℕ) (s : State) → ChosenAt file (outlineOf file types functions) new fs i c s → 0 < c
+      → ChosenAt file (outlineOf file types functions) new fs next (c - 1) s
+
+  -- what the alternative found says of the state that the case goes on to
+  abbrev pub AlternativeMeans : Env → List Frame → State → Alternative → Type 0
+  AlternativeMeans new fs s Alternative.Absent = s ≡ Eval.missing
+  AlternativeMeans new fs s (Alternative.Present i) = (x : Expr) × (s ≡ Eval.evaluating x new fs) × Code file (outlineOf file types functions) i x
+
+  -- the alternative for constructor c of those that begin at i
+  abbrev pub Found : ℕ → ℕ → Alternative → Type 0
+  Found i c a = (new : Env) (fs : List Frame) (s : State) → ChosenAt file (outlineOf file types functions) new fs i c s → AlternativeMeans new fs s a
+
+  -- The innermost waiting case has its alternative chosen: k fields begin at `first` and stand in `inner`. The alternative is missing, or its
+  -- environment is the record at the top.
+  pub data Chose (w w′ : List ℕ) (base : ℕ) (r : Registers) (c k first inner : ℕ) : Registers → Type 0 where
+    chose-none : OnlyTop w w′ base (r .records) → Found (recordWord w base (r .frame) 0) c Alternative.Absent
+        → Chose w w′ base r c k first inner (record { control = Control.Missing; frame = 0; records = r .records })
+    chose-one : (i : ℕ)
+        → Wrote w w′ base (r .records) (recordWord w base (r .frame) 2) (recordWord w base (recordWord w base (r .frame) 2) 1 + k) first inner
+        → Found (recordWord w base (r .frame) 0) c (Alternative.Present i)
+        → Chose w w′ base r c k first inner (record { control = Control.Expression i (r .records); frame = recordWord w base (r .frame) 3; records = r .records + 1 })

@@ -1,0 +1,464 @@
+// One step of the evaluation in the lent words. Records of environments and waiting cases are added at the top and never
+// changed; expressions are read where they stand in the file. Rests on crates machine, skipping and lookups.
+ghost use mathlib.Core.Path.{_≡_};
+ghost use mathlib.Core.List.{List};
+ghost use Prim.Native.Nat.{ℕ, _+_, _*_, _≤_, _<_};
+ghost use lib.ListN.{getD, length};
+ghost use Rattle.machine.specs.Cells.{cellWord};
+ghost use Rattle.machine.specs.Records.{recordWord};
+ghost use Rattle.machine.specs.Walks.{outsideOf};
+ghost use Rattle.steps.specs.Stepping.{Space, Standing, Ready, Wrote, Leads, Stepped, VariableThere, Group, FieldCount, PassedOver, OperandIn, AlternativeThere, PassedAlternative, Found, Chose};
+use lookups::Fields;
+use lookups::fields_of;
+use lookups::place_or_zero;
+use records::Step;
+use records::byte_or_zero;
+use skipping::skip_expression;
+
+const NESTING_LIMIT: usize = 32;
+
+// What is being evaluated: an expression at a place of the file in an environment's record, a part of the input in its cell, or
+// nothing, an alternative being missing.
+pub enum Control {
+    Expression(usize, usize),
+    Part(usize),
+    Missing,
+}
+
+// The registers: what is being evaluated, the record of the innermost waiting case or 0, and how many records there are.
+pub struct Registers {
+    pub control: Control,
+    pub frame: usize,
+    pub records: usize,
+}
+
+// What comes next: the sought target is demanded, the end, one step to other registers, or a case waits on the open part in a cell.
+pub enum Next {
+    Demands,
+    Stops,
+    Goes(Registers),
+    Waits(usize),
+}
+
+// An alternative: none, or the place of its expression.
+pub enum Alternative {
+    Absent,
+    Present(usize),
+}
+
+// A word of the work slice, or 0 past its end.
+pub fn word_or_zero(work: &[u32], at: usize) -> usize
+    ensures { λ r. ⌜ (r ≡ getD (now (work .entry)) at 0) × (r < 4294967296) ⌝ }
+{
+    if at < work.len() {
+        work[at] as usize
+    } else {
+        0
+    }
+}
+
+// Word k of a record.
+pub fn record_word(work: &[u32], base: usize, r: usize, k: usize) -> usize
+    requires { ⌜ (base ≤ 1000000) × (r < 4294967296) × (k < 4) ⌝ }
+    ensures { λ x. ⌜ (x ≡ recordWord (now (work .entry)) base r k) × (x < 4294967296) ⌝ }
+{
+    word_or_zero(work, base + 4 * r + k)
+}
+
+// Word k of a cell.
+pub fn cell_word(work: &[u32], cell: usize, k: usize) -> usize
+    requires { ⌜ (cell ≤ 1000000) × (k < 5) ⌝ }
+    ensures { λ x. ⌜ (x ≡ cellWord (now (work .entry)) cell k) × (x < 4294967296) ⌝ }
+{
+    word_or_zero(work, 5 * cell + k)
+}
+
+// A number that fits a word.
+pub fn narrow(x: usize) -> u32
+    requires { ⌜ x < 4294967296 ⌝ }
+    ensures { λ r. ⌜ r ≡ x ⌝ }
+{
+    x as u32
+}
+
+// Four words, the record at the top.
+pub fn put_record(work: &mut [u32], base: usize, top: usize, a: usize, b: usize, c: usize, d: usize)
+    requires { ⌜ base + 4 * (top + 1) ≤ length (now work) ⌝ }
+    requires { ⌜ (a < 4294967296) × (b < 4294967296) × (c < 4294967296) × (d < 4294967296) ⌝ }
+    ensures { λ r. ⌜ Wrote (now (work .entry)) (now (work .exit)) base top a b c d ⌝ }
+{
+    let at = base + 4 * top;
+    work[at] = narrow(a);
+    work[at + 1] = narrow(b);
+    work[at + 2] = narrow(c);
+    work[at + 3] = narrow(d);
+}
+
+// The place behind an expression.
+pub fn behind<'a>(file: &'a [u8], types: &'a [u16], functions: &'a [u16], at: usize) -> usize
+    ensures { λ r. ⌜ PassedOver (now (file .entry)) (now (types .entry)) (now (functions .entry)) at r ⌝ }
+{
+    match skip_expression(file, types, functions, at, NESTING_LIMIT) {
+        Step::Next(next) => next,
+        Step::Refused(_) => at,
+    }
+}
+
+// The place of operand n of those that begin at a place.
+pub fn operand_at<'a>(
+    file: &'a [u8],
+    types: &'a [u16],
+    functions: &'a [u16],
+    at: usize,
+    n: usize,
+) -> usize
+    ensures { λ r. ⌜ OperandIn (now (file .entry)) (now (types .entry)) (now (functions .entry)) at n r ⌝ }
+{
+    let mut place = at;
+    let mut more = n;
+    while 0 < more {
+        place = behind(file, types, functions, place);
+        more -= 1;
+    }
+    place
+}
+
+// The place behind one alternative.
+pub fn behind_alternative<'a>(
+    file: &'a [u8],
+    types: &'a [u16],
+    functions: &'a [u16],
+    at: usize,
+) -> usize
+    requires { ⌜ at ≤ 1000000 ⌝ }
+    ensures { λ r. ⌜ PassedAlternative (now (file .entry)) (now (types .entry)) (now (functions .entry)) at r ⌝ }
+{
+    if byte_or_zero(file, at) == 0 {
+        return at + 1;
+    }
+    behind(file, types, functions, at + 1)
+}
+
+// The alternative for constructor c of those that begin at a place.
+pub fn alternative_at<'a>(
+    file: &'a [u8],
+    types: &'a [u16],
+    functions: &'a [u16],
+    at: usize,
+    c: usize,
+) -> Alternative
+    requires { ⌜ AlternativeThere (now file) (now types) (now functions) at c × (length (now file) ≤ 16384) ⌝ }
+    ensures { λ r. ⌜ Found (now (file .entry)) (now (types .entry)) (now (functions .entry)) at c r ⌝ }
+{
+    let mut place = at;
+    let mut more = c;
+    while 0 < more {
+        place = behind_alternative(file, types, functions, place);
+        more -= 1;
+    }
+    if byte_or_zero(file, place) == 0 {
+        Alternative::Absent
+    } else {
+        Alternative::Present(place + 1)
+    }
+}
+
+// How many variables are in view outside a group.
+pub fn outside_of(work: &[u32], base: usize, group: usize) -> usize
+    requires { ⌜ (base ≤ 1000000) × (group < 4294967296) ⌝ }
+    ensures { λ r. ⌜ r ≡ outsideOf (now (work .entry)) base group ⌝ }
+{
+    record_word(work, base, record_word(work, base, group, 0), 1)
+}
+
+// The record of the group that holds variable n, from an environment outward.
+pub fn group_of(work: &[u32], base: usize, env: usize, n: usize) -> usize
+    requires { ⌜ VariableThere (now work) base n env × (base ≤ 1000000) × (env ≤ 1000000) ⌝ }
+    ensures { λ r. ⌜ Group (now (work .entry)) base n env r ⌝ }
+{
+    let mut group = env;
+    while n < outside_of(work, base, group) {
+        group = record_word(work, base, group, 0);
+    }
+    group
+}
+
+// A variable is followed to what it stands for.
+pub fn step_variable<'a>(
+    file: &'a [u8],
+    types: &'a [u16],
+    functions: &'a [u16],
+    work: &'a [u32],
+    base: usize,
+    at: usize,
+    env: usize,
+    r: Registers,
+) -> Registers
+    requires { ⌜ Standing (now file) (now types) (now functions) (now work) base r × Ready (now file) (now work) base r 0 at env ⌝ }
+    ensures { λ x. ⌜ Leads (now (file .entry)) (now (types .entry)) (now (functions .entry)) (now (work .entry)) (now (work .entry)) base r x ⌝ }
+{
+    let n = byte_or_zero(file, at + 1);
+    let group = group_of(work, base, env, n);
+    let slot = n - outside_of(work, base, group);
+    let first = record_word(work, base, group, 2);
+    let inner = record_word(work, base, group, 3);
+    if inner == 0 {
+        return Registers {
+            control: Control::Part(first + slot),
+            frame: r.frame,
+            records: r.records,
+        };
+    }
+    let place = operand_at(file, types, functions, first, slot);
+    Registers {
+        control: Control::Expression(place, inner - 1),
+        frame: r.frame,
+        records: r.records,
+    }
+}
+
+// A call is unfolded: its operands become the variables of the function's body.
+pub fn step_call<'a>(
+    file: &'a [u8],
+    functions: &'a [u16],
+    work: &mut [u32],
+    base: usize,
+    at: usize,
+    env: usize,
+    r: Registers,
+) -> Registers
+    requires { ⌜ Ready (now file) (now work) base r 1 at env ⌝ }
+    ensures { λ x. ⌜ ((types : List ℕ) → Leads (now (file .entry)) types (now (functions .entry)) (now (work .entry)) (now (work .exit)) base r x) ⌝ }
+{
+    let place = place_or_zero(functions, byte_or_zero(file, at + 1));
+    let n = byte_or_zero(file, place);
+    let top = r.records;
+    put_record(work, base, top, 0, n, at + 2, env + 1);
+    Registers {
+        control: Control::Expression(place + 4 + n, top),
+        frame: r.frame,
+        records: top + 1,
+    }
+}
+
+// The alternative for constructor c is chosen for the innermost waiting case; its k fields begin at `first` and stand in `inner`.
+pub fn choose<'a>(
+    file: &'a [u8],
+    types: &'a [u16],
+    functions: &'a [u16],
+    work: &mut [u32],
+    base: usize,
+    r: Registers,
+    c: usize,
+    k: usize,
+    first: usize,
+    inner: usize,
+) -> Registers
+    requires { ⌜ Space (now work) base r ⌝ }
+    requires { ⌜ AlternativeThere (now file) (now types) (now functions) (recordWord (now work) base (r .frame) 0) c × (length (now file) ≤ 16384) ⌝ }
+    requires { ⌜ (recordWord (now work) base (r .frame) 2 < r .records) × (k ≤ 255) × (first < 4294967296) × (inner < 4294967296) ⌝ }
+    ensures { λ x. ⌜ Chose (now (file .entry)) (now (types .entry)) (now (functions .entry)) (now (work .entry)) (now (work .exit)) base r c k first inner x ⌝ }
+{
+    let frame = r.frame;
+    let top = r.records;
+    let alternatives = record_word(work, base, frame, 0);
+    let env = record_word(work, base, frame, 2);
+    let next = record_word(work, base, frame, 3);
+    let seen = record_word(work, base, env, 1);
+    let Alternative::Present(place) = alternative_at(file, types, functions, alternatives, c) else {
+        return Registers {
+            control: Control::Missing,
+            frame: 0,
+            records: top,
+        };
+    };
+    put_record(work, base, top, env, seen + k, first, inner);
+    Registers {
+        control: Control::Expression(place, top),
+        frame: next,
+        records: top + 1,
+    }
+}
+
+// How many fields a constructor has.
+pub fn field_count<'a>(file: &'a [u8], types: &'a [u16], t: usize, c: usize) -> usize
+    ensures { λ r. ⌜ FieldCount (now (file .entry)) (now (types .entry)) t c r ⌝ }
+{
+    let Fields::At(_, n) = fields_of(file, types, t, c) else {
+        return 0;
+    };
+    n
+}
+
+// A construction is the value that a waiting case looks at, or the end.
+pub fn step_construct<'a>(
+    file: &'a [u8],
+    types: &'a [u16],
+    functions: &'a [u16],
+    work: &mut [u32],
+    base: usize,
+    at: usize,
+    env: usize,
+    r: Registers,
+) -> Next
+    requires { ⌜ Standing (now file) (now types) (now functions) (now work) base r × Ready (now file) (now work) base r 2 at env ⌝ }
+    ensures { λ x. ⌜ ((label : ℕ) → Stepped (now (file .entry)) (now (types .entry)) (now (functions .entry)) (now (work .entry)) (now (work .exit)) base label r x) ⌝ }
+{
+    let frame = r.frame;
+    if frame == 0 {
+        return Next::Stops;
+    }
+    let t = byte_or_zero(file, at + 1);
+    let c = byte_or_zero(file, at + 2);
+    let k = field_count(file, types, t, c);
+    Next::Goes(choose(file, types, functions, work, base, r, c, k, at + 3, env + 1))
+}
+
+// A case turns to its scrutinee and waits.
+pub fn step_case<'a>(
+    file: &'a [u8],
+    types: &'a [u16],
+    functions: &'a [u16],
+    work: &mut [u32],
+    base: usize,
+    at: usize,
+    env: usize,
+    r: Registers,
+) -> Registers
+    requires { ⌜ Standing (now file) (now types) (now functions) (now work) base r × Ready (now file) (now work) base r 3 at env ⌝ }
+    ensures { λ x. ⌜ Leads (now (file .entry)) (now (types .entry)) (now (functions .entry)) (now (work .entry)) (now (work .exit)) base r x ⌝ }
+{
+    let top = r.records;
+    let alternatives = behind(file, types, functions, at + 2);
+    let n = byte_or_zero(file, place_or_zero(types, byte_or_zero(file, at + 1)));
+    put_record(work, base, top, alternatives, n, env, r.frame);
+    Registers {
+        control: Control::Expression(at + 2, env),
+        frame: top,
+        records: top + 1,
+    }
+}
+
+// A let is opened: its body sees one more variable.
+pub fn step_let<'a>(
+    file: &'a [u8],
+    types: &'a [u16],
+    functions: &'a [u16],
+    work: &mut [u32],
+    base: usize,
+    at: usize,
+    env: usize,
+    r: Registers,
+) -> Registers
+    requires { ⌜ Ready (now file) (now work) base r 4 at env ⌝ }
+    ensures { λ x. ⌜ Leads (now (file .entry)) (now (types .entry)) (now (functions .entry)) (now (work .entry)) (now (work .exit)) base r x ⌝ }
+{
+    let top = r.records;
+    let body = behind(file, types, functions, at + 2);
+    let seen = record_word(work, base, env, 1);
+    put_record(work, base, top, env, seen + 1, at + 2, env + 1);
+    Registers {
+        control: Control::Expression(body, top),
+        frame: r.frame,
+        records: top + 1,
+    }
+}
+
+// A part of the input is the value that a waiting case looks at, or the end; the case waits where the part is open.
+pub fn step_part<'a>(
+    file: &'a [u8],
+    types: &'a [u16],
+    functions: &'a [u16],
+    work: &mut [u32],
+    base: usize,
+    cell: usize,
+    r: Registers,
+) -> Next
+    requires { ⌜ Standing (now file) (now types) (now functions) (now work) base r × (r .control ≡ Control.Part cell) ⌝ }
+    ensures { λ x. ⌜ ((label : ℕ) → Stepped (now (file .entry)) (now (types .entry)) (now (functions .entry)) (now (work .entry)) (now (work .exit)) base label r x) ⌝ }
+{
+    let frame = r.frame;
+    if frame == 0 {
+        return Next::Stops;
+    }
+    let head = cell_word(work, cell, 0);
+    if head == 0 {
+        return Next::Waits(cell);
+    }
+    let first = cell_word(work, cell, 1);
+    let t = cell_word(work, cell, 2);
+    let k = field_count(file, types, t, head - 1);
+    Next::Goes(choose(file, types, functions, work, base, r, head - 1, k, first, 0))
+}
+
+// A target of another label is passed to its inner expression; the sought one is demanded.
+pub fn step_target(file: &[u8], label: usize, at: usize, env: usize, r: Registers) -> Next
+    requires { ⌜ at ≤ 1000000 ⌝ }
+    ensures { λ x. ⌜ ((types functions w : List ℕ) (base : ℕ) → Ready (now (file .entry)) w base r 5 at env → Stepped (now (file .entry)) types functions w w base label r x) ⌝ }
+{
+    if byte_or_zero(file, at + 1) == label {
+        return Next::Demands;
+    }
+    Next::Goes(Registers {
+        control: Control::Expression(at + 2, env),
+        frame: r.frame,
+        records: r.records,
+    })
+}
+
+// An expression's step, by its code.
+pub fn step_expression<'a>(
+    file: &'a [u8],
+    types: &'a [u16],
+    functions: &'a [u16],
+    label: usize,
+    work: &mut [u32],
+    base: usize,
+    at: usize,
+    env: usize,
+    r: Registers,
+) -> Next
+    requires { ⌜ Standing (now file) (now types) (now functions) (now work) base r × (r .control ≡ Control.Expression at env) ⌝ }
+    ensures { λ x. ⌜ Stepped (now (file .entry)) (now (types .entry)) (now (functions .entry)) (now (work .entry)) (now (work .exit)) base label r x ⌝ }
+{
+    let code = byte_or_zero(file, at);
+    match code {
+        0 => Next::Goes(step_variable(file, types, functions, work, base, at, env, r)),
+        1 => Next::Goes(step_call(file, functions, work, base, at, env, r)),
+        2 => step_construct(file, types, functions, work, base, at, env, r),
+        3 => Next::Goes(step_case(file, types, functions, work, base, at, env, r)),
+        4 => Next::Goes(step_let(file, types, functions, work, base, at, env, r)),
+        _ => step_target(file, label, at, env, r),
+    }
+}
+
+// One step.
+pub fn step<'a>(
+    file: &'a [u8],
+    types: &'a [u16],
+    functions: &'a [u16],
+    label: usize,
+    work: &mut [u32],
+    base: usize,
+    r: Registers,
+) -> Next
+    requires { ⌜ Standing (now file) (now types) (now functions) (now work) base r ⌝ }
+    ensures { λ x. ⌜ Stepped (now (file .entry)) (now (types .entry)) (now (functions .entry)) (now (work .entry)) (now (work .exit)) base label r x ⌝ }
+{
+    let control = r.control;
+    match control {
+        Control::Expression(at, env) => step_expression(
+            file,
+            types,
+            functions,
+            label,
+            work,
+            base,
+            at,
+            env,
+            r,
+        ),
+        Control::Part(cell) => step_part(file, types, functions, work, base, cell, r),
+        Control::Missing => Next::Stops,
+    }
+}
