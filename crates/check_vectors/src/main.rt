@@ -37,6 +37,7 @@ fn print_answer(answer: Checked) {
     }
 }
 
+// A byte as a count.
 fn wide(x: u8) -> usize
     ensures { λ r. ⌜ r ≤ 255 ⌝ }
 {

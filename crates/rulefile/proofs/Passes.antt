@@ -1,22 +1,20 @@
--- What the first pass leaves is what the third one asks for; the third pass asks nothing of the goal; and the source's parameters are those
--- of its head.
+-- The third pass after the first: what the first one leaves is what the third one asks for, and the third one reads the bodies as the
+-- check does, which names the goal and begins behind it.
 -- Rests on reach's Limits and Encoding for what an outline keeps to, and on the lookups in tables of places.
-use Prim.Native.Nat.{ℕ, zero, suc, _<_, _≤_}
+use Prim.Native.Nat.{ℕ, zero, suc, _<_}
 use mathlib.Core.Path.{_≡_, refl, _∙_, ap, subst, fun-ext}
-use mathlib.Core.Bool.{Bool, true, false, _&&_, and-eq-true-iff}
+use mathlib.Core.Bool.{Bool, true, false}
 use mathlib.Core.List.{List, [], _∷_, map}
 use mathlib.Core.Option.{Option, none, some}
-use lib.ListN.{length, getD, getElem?, length-map}
-use lib.Dec.{ltb}
-use borrow.Author.Tests.{ltb-true}
+use lib.ListN.{length, getD}
 use Rattle.reach.specs.declared.Refusal.{Refusal}
-use Rattle.reach.specs.Syntax.{Expr, Types, Function, Program, parametersOf, functionAt, sourceTypes}
+use Rattle.reach.specs.Syntax.{Types, Function}
 use Rattle.reach.specs.Reader.{Got, got, refused}
-use Rattle.reach.specs.RuleFile.{Head, Goal, Outline, outline, Below, typesExist, headsExist, numbersExist, callOf, callExpr, constructOf, constructExpr, caseOf, caseExpr, variableExpr, letExpr, targetExpr, expressionBy, expression, bodyOf, functionsOf, programOf}
-use Rattle.reach.specs.Places.{bytesAt, typeAt, headAt, goalAt, outlineAt}
+use Rattle.reach.specs.RuleFile.{Head, Goal, Outline, outline, Below, variableExpr, callOf, callExpr, constructOf, constructExpr, caseOf, caseExpr, letExpr, targetExpr, expressionBy, expression, bodyOf, functionsOf}
+use Rattle.reach.specs.Places.{typeAt, headAt, goalAt, outlineAt}
 use Rattle.reach.proofs.Base.{clash, nth-member, Each, each-member}
 use Rattle.reach.proofs.Limits.{IfFound, ConstructorKept, TypeKept, HeadKept, OutlineKept, outline-kept}
-use Rattle.reach.proofs.Encoding.{BodyInside, BodyAt, outline-inside, function-of, bodies-are}
+use Rattle.reach.proofs.Encoding.{BodyInside, outline-inside}
 use Rattle.records.specs.declared.Step.{Step}
 use Rattle.records.specs.declared.Step.the-variants.{Next, Refused}
 use Rattle.records.specs.Steps.{stepOf}
@@ -25,6 +23,10 @@ use Rattle.bodies.specs.Check.{Small, BodiesThere, functionsAt, bodiesStep}
 
 -- ---- the tables keep to the limits, and the bodies end inside the file
 
+-- what holds of each record holds of the one at each place of the table
+each-at : {A : Type 0} (P : A → Type 0) (f : ℕ → A) (places : List ℕ) → Each P (map f places) → (n : ℕ) → n < length places → P (f (getD places n 0))
+each-at P f places all n h = each-member P all (nth-member (map f places) n _ (found f places 0 n h))
+
 module _ (s types functions : List ℕ) (goal : ℕ) {n : ℕ} (read : outline s 0 ≡ got (outlineAt s types functions goal) n) where
   kept : OutlineKept (outlineAt s types functions goal)
   kept = subst (IfFound (λ o next. OutlineKept o)) read (outline-kept .found s 0)
@@ -32,28 +34,23 @@ module _ (s types functions : List ℕ) (goal : ℕ) {n : ℕ} (read : outline s
   inside : Each (BodyInside s) ((outlineAt s types functions goal) .heads)
   inside = subst (IfFound (λ o next. Each (BodyInside s) (o .heads))) read (outline-inside s 0)
 
-  type-kept : (t : ℕ) → t < length types → TypeKept (typeAt s (getD types t 0))
-  unfolding outlineAt
-  type-kept t h = each-member TypeKept (kept .types-kept) (nth-member (map (typeAt s) types) t _ (found (typeAt s) types 0 t h))
-
-  head-kept : (f : ℕ) → f < length functions → HeadKept (headAt s (getD functions f 0))
-  unfolding outlineAt
-  head-kept f h = each-member HeadKept (kept .heads-kept) (nth-member (map (headAt s) functions) f _ (found (headAt s) functions 0 f h))
-
   pub tables-small : Small s types functions
-  unfolding headAt
+  unfolding outlineAt headAt
   tables-small =
       record {
-        fields-limit = λ t h c us e. each-member ConstructorKept ((type-kept t h) .1) (nth-member (typeAt s (getD types t 0)) c us e);
-        parameters-limit = λ f h. rw bytes-length at (head-kept f h);
+        fields-limit = λ t h c us e.
+            each-member ConstructorKept ((each-at TypeKept (typeAt s) types (kept .types-kept) t h) .1)
+            (nth-member (typeAt s (getD types t 0)) c us e);
+        parameters-limit = λ f h. rw bytes-length at (each-at HeadKept (headAt s) functions (kept .heads-kept) f h);
       }
 
   pub bodies-inside : BodiesThere s functions
   unfolding outlineAt
-  bodies-inside f h = each-member (BodyInside s) inside (nth-member (map (headAt s) functions) f _ (found (headAt s) functions 0 f h))
+  bodies-inside = each-at (BodyInside s) (headAt s) functions inside
 
 -- ---- bodies do not look at the goal
 
+-- two outlines that differ in the goal alone
 module _ (types : Types) (heads : List Head) (a b : Goal) where
   abbrev first : Outline
   first = record { types = types; heads = heads; goal = a }
@@ -98,8 +95,9 @@ module _ (types : Types) (heads : List Head) (a b : Goal) where
   functions-same [] s i = refl
   functions-same (h ∷ hs) s i = simp (body-same, functions-same hs)
 
--- ---- what the third pass answers is what the check goes on with, wherever it begins to read
+-- ---- what the third pass answers is what the check goes on with
 
+-- the place where the bodies' reader begins does not matter
 module _ (o : Outline) (s : List ℕ) (i j : ℕ) where
   refused-anywhere : (hs : List Head) {why : Refusal} → functionsOf o hs s i ≡ refused why → functionsOf o hs s j ≡ refused why
   unfolding functionsOf
@@ -111,6 +109,7 @@ module _ (o : Outline) (s : List ℕ) (i j : ℕ) where
   got-anywhere [] e = (j, (cc))
   got-anywhere (h ∷ hs) {m = m} e = (m, e)
 
+-- what the answer of the third pass tells
 step-got : {A : Type 0} (g : Got A) {r : Step} {n : ℕ} → bodiesStep r ≡ bodiesStep (stepOf g) → r ≡ Next n → (a : A) × (m : ℕ) × (g ≡ got a m)
 step-got (got a m) told e = (a, m, refl)
 step-got (refused why) told e = absurd (clash (let z = rw e at told in cc))
@@ -137,4 +136,6 @@ module _ (s types functions : List ℕ) (goal i : ℕ) where
 
     pub bodies-refused : {why : Refusal} → r ≡ Refused why → bodiesRead ≡ refused why
     unfolding outlineAt
-    bodies-refused e = refused-anywhere (outlineAt s types functions goal) s 0 i (map (headAt s) functions) (goal-apart ∙ step-refused (functionsAt s types functions) told e)
+    bodies-refused e =
+        refused-anywhere (outlineAt s types functions goal) s 0 i (map (headAt s) functions)
+        (goal-apart ∙ step-refused (functionsAt s types functions) told e)

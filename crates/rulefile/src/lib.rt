@@ -1,8 +1,8 @@
 // The check of a rule file: the three passes in their order, then the tests of depth. `check` answers accepted or the one refusal
 // of 1 to 9; `load` also hands on what later layers need of an accepted file: the places of its records and the least depths.
-// Rests on crates outline, numbers, bodies and depths.
+// `source`, `label`, `depth` and `steps` look the goal up there. Rests on crates outline, numbers, bodies, depths and lookups.
 ghost use mathlib.Core.Path.{_≡_};
-ghost use Prim.Native.Nat.{ℕ, _+_, _≤_};
+ghost use Prim.Native.Nat.{_+_, _≤_};
 ghost use lib.ListN.{getD};
 ghost use Rattle.reach.specs.Places.{goalAt};
 ghost use Rattle.reach.specs.Answers;

@@ -1,5 +1,4 @@
 -- `check_vectors::main` is safe and ends: it counts down, and asks nothing of what it reads.
-use Prim.Native.Nat.{ℕ}
 use native.Mathlib.Omega.{arith}
 use Rattle.check_vectors.proofs.main.Statement.{statement}
 use Rattle.check_vectors.proofs.main.Tie as tie
