@@ -10,8 +10,9 @@ use Rattle.steps.proofs.choose.Tie as tie
 
 alternative-at-requires : tie.Need-alternative-at-requires
 alternative-at-requires c κs =
-    let a = c .before .before .before .before .before .before .before .before .before .before .before .before .args in
-    let there = c .before .before .before .before .before .before .before .before .before .before .before .before .pre .1 .0 in
+    let start = c .before .before .before .before .before .before .before .before .before .before .before .before in
+    let a = start .args in
+    let there = start .pre .1 .0 in
     (subst (λ (j : ℕ). AlternativeThere (a .file .now) (a .types .now) (a .functions .now) j (a .c)) (sym (c .before .before .before .before .before .before .record-word .ensures .0)) (there .0), there .1)
 
 returns : tie.Need-returns

@@ -17,8 +17,9 @@ slice-write-work-4 c = simp length-set (omega arith)
 
 returns : tie.Need-returns
 returns c =
-    let a = c .before .before .before .before .before .args in
-    wrote (a .work .now) (a .base) (a .top) (c .before .before .before .narrow .ensures) (c .before .before .narrow2 .ensures) (c .before .narrow3 .ensures) (c .narrow4 .ensures) (c .before .before .before .before .before .pre .0)
+    let start = c .before .before .before .before .before in
+    let a = start .args in
+    wrote (a .work .now) (a .base) (a .top) (c .before .before .before .narrow .ensures) (c .before .before .narrow2 .ensures) (c .before .narrow3 .ensures) (c .narrow4 .ensures) (start .pre .0)
 
 pub put-record-spec : {M : Type 1} → statement M
 put-record-spec =

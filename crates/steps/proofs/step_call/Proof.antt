@@ -19,8 +19,9 @@ add-t12 c = omega (arith, c .before .before .before .before .byte-or-zero2 .ensu
 
 returns : tie.Need-returns
 returns c =
-    let a = c .before .before .before .before .before .before .before .before .before .before .args in
-    call-leads (a .file .now) (a .functions .now) (a .work .now) _ (a .base) (a .at) (a .env) (a .r) (c .before .before .before .before .before .before .before .before .before .before .pre)
+    let start = c .before .before .before .before .before .before .before .before .before .before in
+    let a = start .args in
+    call-leads (a .file .now) (a .functions .now) (a .work .now) _ (a .base) (a .at) (a .env) (a .r) (start .pre)
     (c .before .before .before .before .before .place-or-zero .ensures ∙ ap (λ (k : ℕ). getD (a .functions .now) k 0) (c .before .before .before .before .before .before .byte-or-zero .ensures)) (c .before .before .before .before .byte-or-zero2 .ensures)
     (omega (arith, c .before .before .before .before .byte-or-zero2 .ensures, c .before .before .before .before .before .before .before .before .before .shared-slice-known .given (c .before .before .before .before .before .place-or-zero .result))) (c .before .before .put-record .ensures)
 

@@ -10,13 +10,15 @@ use Rattle.steps.proofs.step_case.Tie as tie
 
 put-record-requires : tie.Need-put-record-requires
 put-record-requires c κs =
-    let a = c .before .before .before .before .before .before .before .before .before .args in
-    omega (arith, case-small (a .file .now) (a .types .now) (a .functions .now) (a .work .now) (a .base) (a .at) (a .env) (a .r) (c .before .before .before .before .before .before .before .before .before .pre .0) (c .before .before .before .before .before .before .before .before .before .pre .1) (c .before .before .before .before .behind .ensures), c .before .byte-or-zero2 .ensures, c .before .before .before .before .before .before .before .before .shared-slice-known .given (c .before .before .place-or-zero .result))
+    let start = c .before .before .before .before .before .before .before .before .before in
+    let a = start .args in
+    omega (arith, case-small (a .file .now) (a .types .now) (a .functions .now) (a .work .now) (a .base) (a .at) (a .env) (a .r) (start .pre .0) (start .pre .1) (c .before .before .before .before .behind .ensures), c .before .byte-or-zero2 .ensures, c .before .before .before .before .before .before .before .before .shared-slice-known .given (c .before .before .place-or-zero .result))
 
 returns : tie.Need-returns
 returns c =
-    let a = c .before .before .before .before .before .before .before .before .before .before .before .before .args in
-    case-leads (a .file .now) (a .types .now) (a .functions .now) (a .work .now) _ (a .base) (a .at) (a .env) (a .r) (c .before .before .before .before .before .before .before .before .before .before .before .before .pre .1)
+    let start = c .before .before .before .before .before .before .before .before .before .before .before .before in
+    let a = start .args in
+    case-leads (a .file .now) (a .types .now) (a .functions .now) (a .work .now) _ (a .base) (a .at) (a .env) (a .r) (start .pre .1)
     (c .before .before .before .before .before .before .before .behind .ensures) (c .before .before .before .before .byte-or-zero2 .ensures ∙ ap (λ (k : ℕ). getD (a .file .now) k 0) (c .before .before .before .before .before .place-or-zero .ensures ∙ ap (λ (k : ℕ). getD (a .types .now) k 0) (c .before .before .before .before .before .before .byte-or-zero .ensures)))
     (omega (arith, c .before .before .before .before .byte-or-zero2 .ensures, c .before .before .before .before .before .before .before .before .before .before .before .shared-slice-known .given (c .before .before .before .before .before .place-or-zero .result))) (c .before .before .put-record .ensures)
 

@@ -7,20 +7,23 @@ use Rattle.steps.proofs.step_construct.Tie as tie
 
 returns : tie.Need-returns
 returns c =
-    let a = c .before .before .before .before .before .args in
-    construct-stops (a .file .now) (a .types .now) (a .functions .now) (a .work .now) (a .base) (a .at) (a .env) (a .r) (c .before .before .before .before .before .pre .1) (c .if1 .taken)
+    let start = c .before .before .before .before .before in
+    let a = start .args in
+    construct-stops (a .file .now) (a .types .now) (a .functions .now) (a .work .now) (a .base) (a .at) (a .env) (a .r) (start .pre .1) (c .if1 .taken)
 
 choose-requires : tie.Need-choose-requires
 choose-requires c κs =
-    let a = c .before .before .before .before .before .before .before .before .before .args in
-    let ready = c .before .before .before .before .before .before .before .before .before .pre .1 in
-    let got = construct-chooses (a .file .now) (a .types .now) (a .functions .now) (a .work .now) (a .base) (a .at) (a .env) (a .r) ready (c .before .before .byte-or-zero2 .ensures) (c .before .before .before .before .if1 .left) (c .before .before .before .before .before .before .before .before .before .pre .0) in
+    let start = c .before .before .before .before .before .before .before .before .before in
+    let a = start .args in
+    let ready = start .pre .1 in
+    let got = construct-chooses (a .file .now) (a .types .now) (a .functions .now) (a .work .now) (a .base) (a .at) (a .env) (a .r) ready (c .before .before .byte-or-zero2 .ensures) (c .before .before .before .before .if1 .left) (start .pre .0) in
     (ready .space, ((got .0, ready .small), (got .1, c .before .field-count .ensures .1, omega arith, omega arith)))
 
 returns-2 : tie.Need-returns-2
 returns-2 c =
-    let a = c .before .before .before .before .before .before .before .before .before .before .before .before .args in
-    construct-goes (a .file .now) (a .types .now) (a .functions .now) (a .work .now) (a .base) (a .at) (a .env) (a .r) (c .before .before .before .before .before .before .before .before .before .before .before .before .pre .1) (c .before .before .before .before .before .byte-or-zero2 .ensures) (c .before .before .before .before .before .before .before .if1 .left)
+    let start = c .before .before .before .before .before .before .before .before .before .before .before .before in
+    let a = start .args in
+    construct-goes (a .file .now) (a .types .now) (a .functions .now) (a .work .now) (a .base) (a .at) (a .env) (a .r) (start .pre .1) (c .before .before .before .before .before .byte-or-zero2 .ensures) (c .before .before .before .before .before .before .before .if1 .left)
     (c .before .before .before .before .before .before .byte-or-zero .ensures) (c .before .before .before .before .field-count .ensures) (c .before .before .choose .ensures)
 
 pub step-construct-spec : {M : Type 1} → statement M

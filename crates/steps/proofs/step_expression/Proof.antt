@@ -13,8 +13,9 @@ ready :
     (c : tie.After-byte-or-zero) (code : ℕ) → c .byte-or-zero .result ≡ code
     → Ready (c .before .before .before .before .before .args .file .now) (c .before .before .before .before .before .args .work .now) (c .before .before .before .before .before .args .base) (c .before .before .before .before .before .args .r) code (c .before .before .before .before .before .args .at) (c .before .before .before .before .before .args .env)
 ready c code is =
-    let a = c .before .before .before .before .before .args in
-    ready-at (a .file .now) (a .types .now) (a .functions .now) (a .work .now) (a .base) (a .at) (a .env) (a .r) (c .before .before .before .before .before .pre .0) (c .before .before .before .before .before .pre .1) (sym is ∙ c .byte-or-zero .ensures)
+    let start = c .before .before .before .before .before in
+    let a = start .args in
+    ready-at (a .file .now) (a .types .now) (a .functions .now) (a .work .now) (a .base) (a .at) (a .env) (a .r) (start .pre .0) (start .pre .1) (sym is ∙ c .byte-or-zero .ensures)
 
 step-variable-requires : tie.Need-step-variable-requires
 step-variable-requires c κs = (c .before .before .before .before .before .before .before .pre .0, ready (c .before .before) 0 (c .before .match .keys1))
@@ -51,9 +52,10 @@ returns-5 c = stepped (c .before .before .before .before .before .before .before
 
 returns-6 : tie.Need-returns-6
 returns-6 c =
-    let a = c .before .before .before .before .before .before .before .args in
+    let start = c .before .before .before .before .before .before .before in
+    let a = start .args in
     let others = c .before .match .rest in
-    let known = code-known (a .file .now) (a .types .now) (a .functions .now) (a .work .now) (a .base) (a .at) (a .env) (a .r) (c .before .before .before .before .before .before .before .pre .0) (c .before .before .before .before .before .before .before .pre .1) in
+    let known = code-known (a .file .now) (a .types .now) (a .functions .now) (a .work .now) (a .base) (a .at) (a .env) (a .r) (start .pre .0) (start .pre .1) in
     c .step-target .ensures (a .types .now) (a .functions .now) (a .work .now) (a .base)
     (ready (c .before .before) 5 (omega (arith, known, c .before .before .byte-or-zero .ensures, others .1, others .0 .1, others .0 .0 .1, others .0 .0 .0 .1, others .0 .0 .0 .0 .1)))
 

@@ -6,12 +6,14 @@ use Rattle.steps.proofs.step_let.Statement.{statement}
 use Rattle.steps.proofs.step_let.Tie as tie
 
 put-record-requires : tie.Need-put-record-requires
-put-record-requires c κs = let a = c .before .before .before .before .before .before .before .before .args in omega (arith, c .before .record-word .ensures .0, c .before .before .before .before .before .before .before .before .pre .space .few (a .env) (omega arith))
+put-record-requires c κs = let start = c .before .before .before .before .before .before .before .before in
+    let a = start .args in omega (arith, c .before .record-word .ensures .0, start .pre .space .few (a .env) (omega arith))
 
 returns : tie.Need-returns
 returns c =
-    let a = c .before .before .before .before .before .before .before .before .before .before .before .args in
-    let-leads (a .file .now) (a .types .now) (a .functions .now) (a .work .now) _ (a .base) (a .at) (a .env) (a .r) (c .before .before .before .before .before .before .before .before .before .before .before .pre)
+    let start = c .before .before .before .before .before .before .before .before .before .before .before in
+    let a = start .args in
+    let-leads (a .file .now) (a .types .now) (a .functions .now) (a .work .now) _ (a .base) (a .at) (a .env) (a .r) (start .pre)
     (c .before .before .before .before .before .before .behind .ensures) (c .before .before .before .before .record-word .ensures .0) (c .before .before .put-record .ensures)
 
 pub step-let-spec : {M : Type 1} → statement M

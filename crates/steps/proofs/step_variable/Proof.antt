@@ -8,22 +8,25 @@ use Rattle.steps.proofs.step_variable.Tie as tie
 
 group-of-requires : tie.Need-group-of-requires
 group-of-requires c κs =
-    let a = c .before .before .before .before .before .args in
-    (variable-there (a .file .now) (a .types .now) (a .functions .now) (a .work .now) (a .base) (a .at) (a .env) (a .r) (c .before .before .before .before .before .pre .1) (c .byte-or-zero .ensures) (c .before .before .before .before .before .pre .0), omega arith, omega arith)
+    let start = c .before .before .before .before .before in
+    let a = start .args in
+    (variable-there (a .file .now) (a .types .now) (a .functions .now) (a .work .now) (a .base) (a .at) (a .env) (a .r) (start .pre .1) (c .byte-or-zero .ensures) (start .pre .0), omega arith, omega arith)
 
 add-t17 : tie.Need-add-t17
 add-t17 c = omega (arith, c .before .before .before .before .before .byte-or-zero .ensures, c .before .before .before .before .before .before .before .before .before .shared-slice-known .given (c .before .before .before .before .before .before .before .before .before .before .args .at + 1), c .before .before .record-word .ensures .1)
 
 returns : tie.Need-returns
 returns c =
-    let a = c .before .before .before .before .before .before .before .before .before .before .args in
-    part-leads (a .file .now) (a .types .now) (a .functions .now) (a .work .now) (a .base) (a .at) (a .env) (a .r) (c .before .before .before .before .before .before .before .before .before .before .pre .1) (c .before .before .before .before .before .byte-or-zero .ensures)
+    let start = c .before .before .before .before .before .before .before .before .before .before in
+    let a = start .args in
+    part-leads (a .file .now) (a .types .now) (a .functions .now) (a .work .now) (a .base) (a .at) (a .env) (a .r) (start .pre .1) (c .before .before .before .before .before .byte-or-zero .ensures)
     (c .before .before .before .before .group-of .ensures) (c .before .before .before .outside-of .ensures) (c .before .before .record-word .ensures .0) (c .before .record-word2 .ensures .0) (c .if1 .taken)
 
 returns-2 : tie.Need-returns-2
 returns-2 c =
-    let a = c .before .before .before .before .before .before .before .before .before .before .before .args in
-    operand-leads (a .file .now) (a .types .now) (a .functions .now) (a .work .now) (a .base) (a .at) (a .env) (a .r) (c .before .before .before .before .before .before .before .before .before .before .before .pre .1) (c .before .before .before .before .before .before .byte-or-zero .ensures)
+    let start = c .before .before .before .before .before .before .before .before .before .before .before in
+    let a = start .args in
+    operand-leads (a .file .now) (a .types .now) (a .functions .now) (a .work .now) (a .base) (a .at) (a .env) (a .r) (start .pre .1) (c .before .before .before .before .before .before .byte-or-zero .ensures)
     (c .before .before .before .before .before .group-of .ensures) (c .before .before .before .before .outside-of .ensures) (c .before .before .before .record-word .ensures .0) (c .before .before .record-word2 .ensures .0) (c .before .if1 .left) (c .operand-at .ensures)
 
 pub step-variable-spec : {M : Type 1} → statement M
