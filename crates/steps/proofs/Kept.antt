@@ -19,8 +19,9 @@ use Rattle.machine.proofs.Records.{holds-kept, env-kept, frames-kept, operands-
 use Rattle.steps.specs.declared.Control.{Control}
 use Rattle.steps.specs.declared.Control.the-variants as Control
 use Rattle.steps.specs.declared.Registers.{Registers}
+use Rattle.steps.specs.declared.Next.{Next}
 use Rattle.steps.specs.declared.Next.the-variants as Next
-use Rattle.steps.specs.Stepping.{outlineOf, controlOf, environmentOf, Few, StandsFor, Standing, Ready, OnlyTop, Wrote, Follows, Leads, Stepped}
+use Rattle.steps.specs.Stepping.{outlineOf, controlOf, environmentOf, Few, StandsFor, Standing, Ready, OnlyTop, Wrote, Follows, StepMeans, Leads, Stepped}
 use Rattle.steps.proofs.Words.{records-same, cells-same, few-more}
 use Rattle.steps.proofs.Which.{when-expression}
 
@@ -52,6 +53,20 @@ module _ (file types functions w : List ℕ) (base i env : ℕ) (r : Registers) 
       show x env′ fs (rw (ready .code-is) at ((code-kind file (outlineOf file types functions) i x code) .1))
       (record { code = code; env-at = env-at; frames-at = frames-at; env-in = there .0; frames-in = there .1; sound = sound }))
       (stands .there) (stands .sound)
+
+-- What a step says of the state, it says of an expression of the code, whatever environment and frames are met.
+module _ (file types functions w w′ : List ℕ) (base i env : ℕ) (r : Registers) (p : Program) (e : Parts) (n : Next) where
+  abbrev pub StepsAt : Expr → Type 0
+  StepsAt x =
+      (env′ : Env) (fs : List Frame) → Met file types functions w base i env r p e x env′ fs
+      → StepMeans file types functions w w′ base r p e (Eval.evaluating x env′ fs) n
+
+  pub steps-by :
+      {code cells : ℕ} {s : State} → Ready file w base r code i env → StandsFor file types functions p w base cells r e s
+      → ((x : Expr) → Coded code x → StepsAt x) → StepMeans file types functions w w′ base r p e s n
+  steps-by ready stands show =
+      shown file types functions w base i env r p e (λ s. StepMeans file types functions w w′ base r p e s n) ready stands
+      (λ x env′ fs coded met. show x coded env′ fs met)
 
 -- where an expression is evaluated, its code stands in the file
 module _ (file types functions w : List ℕ) (base i env : ℕ) (r : Registers) (standing : Standing file types functions w base r) (is : r .control ≡ Control.Expression i env) where

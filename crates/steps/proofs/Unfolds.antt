@@ -30,7 +30,7 @@ use Rattle.steps.specs.declared.Next.the-variants as Next
 use Rattle.steps.specs.Stepping.{outlineOf, FileOf, StandsFor, Standing, Ready, Wrote, Leads, Stepped, StepMeans, PassedOver}
 use Rattle.steps.proofs.Words.{nothing-written}
 use Rattle.steps.proofs.Which.{when-call, when-let, when-case, when-target}
-use Rattle.steps.proofs.Kept.{Met, shown, env-there, frames-there, operands-there, waiting-there, few-added}
+use Rattle.steps.proofs.Kept.{Met, shown, StepsAt, steps-by, env-there, frames-there, operands-there, waiting-there, few-added}
 
 -- what a mapped list holds at a number is the image of what stands there
 mapped : {A B : Type 0} (f : A → B) (xs : List A) (d : A) (n : ℕ) (y : B) → getElem? (map f xs) n ≡ some y → (n < length xs) × (f (getD xs n d) ≡ y)
@@ -39,6 +39,11 @@ mapped f (x ∷ xs) d zero y is = (omega arith, Option·some-injective (f x) y i
 mapped f (x ∷ xs) d (suc n) y is = let rest = mapped f xs d n y is in (omega (arith, rest .0), rest .1)
 
 -- A call.
+
+body-place : (file : List ℕ) (place : ℕ) → (headAt file place) .body ≡ place + 4 + getD file place 0
+unfolding headAt
+body-place file place = refl
+
 module _ (file types functions : List ℕ) where
   -- a called function is one of the table, and takes as many operands as its record says
   called :
@@ -48,10 +53,6 @@ module _ (file types functions : List ℕ) where
   called f es h is many =
       let known = mapped (headAt file) functions 0 f h is in
       (known .0, many ∙ (ap (λ (g : Head). length (g .parameters)) (sym (known .1)) ∙ bytes-length file (getD functions f 0 + 1) (getD file (getD functions f 0) 0)))
-
-  body-place : (place : ℕ) → (headAt file place) .body ≡ place + 4 + getD file place 0
-  unfolding headAt
-  body-place place = refl
 
 call-next :
     (p : Program) (e : Parts) (f : ℕ) (es : Exprs) (env : Env) (fs : List Frame) (g : Function) → functionAt p f ≡ some g
@@ -79,7 +80,7 @@ module _
         let there = file-of .function-there f (known .0) in
         let here : place ≡ getD functions f 0 = is-place ∙ ap (λ (k : ℕ). getD functions k 0) (bytes .1 .1) in
         let many : n ≡ count es = is-n ∙ (ap (λ (k : ℕ). getD file k 0) here ∙ sym (known .1)) in
-        let body : (headAt file (getD functions f 0)) .body ≡ place + 4 + n = ap (λ (k : ℕ). (headAt file k) .body) (sym here) ∙ (body-place file types functions place ∙ ap (λ (k : ℕ). place + 4 + k) (sym is-n)) in (
+        let body : (headAt file (getD functions f 0)) .body ≡ place + 4 + n = ap (λ (k : ℕ). (headAt file k) .body) (sym here) ∙ (body-place file place ∙ ap (λ (k : ℕ). place + 4 + k) (sym is-n)) in (
           Eval.evaluating (there .0 .body) (operands empty es env′) fs,
           call-next p e f es env′ fs (there .0) (there .1),
           record {
@@ -101,10 +102,8 @@ module _
     call-leads types = record {
       only-top = wrote .only-top;
       steps = λ p cells e s file-of stands.
-          shown file types functions w base i env r p e (λ s′. StepMeans file types functions w w′ base r p e s′ (Next.Goes call-after)) ready stands
-          (λ x env′ fs coded met.
-          when-call (λ y. Met file types functions w base i env r p e y env′ fs → StepMeans file types functions w w′ base r p e (Eval.evaluating y env′ fs) (Next.Goes call-after))
-          coded (λ f es. call-follows types p cells e s file-of stands f es env′ fs) met);
+          steps-by file types functions w w′ base i env r p e (Next.Goes call-after) ready stands
+          (λ x coded. when-call (StepsAt file types functions w w′ base i env r p e (Next.Goes call-after)) coded (λ f es. call-follows types p cells e s file-of stands f es));
     }
 
 -- A let.
@@ -151,10 +150,8 @@ module _
     let-leads = record {
       only-top = wrote .only-top;
       steps = λ p cells e s file-of stands.
-          shown file types functions w base i env r p e (λ s′. StepMeans file types functions w w′ base r p e s′ (Next.Goes let-after)) ready stands
-          (λ x env′ fs coded met.
-          when-let (λ y. Met file types functions w base i env r p e y env′ fs → StepMeans file types functions w w′ base r p e (Eval.evaluating y env′ fs) (Next.Goes let-after))
-          coded (λ t y b. let-follows p cells e s stands t y b env′ fs) met);
+          steps-by file types functions w w′ base i env r p e (Next.Goes let-after) ready stands
+          (λ x coded. when-let (StepsAt file types functions w w′ base i env r p e (Next.Goes let-after)) coded (λ t y b. let-follows p cells e s stands t y b));
     }
 
 -- A case.
@@ -218,10 +215,8 @@ module _
     case-leads = record {
       only-top = wrote .only-top;
       steps = λ p cells e s file-of stands.
-          shown file types functions w base i env r p e (λ s′. StepMeans file types functions w w′ base r p e s′ (Next.Goes case-after)) ready stands
-          (λ x env′ fs coded met.
-          when-case (λ y. Met file types functions w base i env r p e y env′ fs → StepMeans file types functions w w′ base r p e (Eval.evaluating y env′ fs) (Next.Goes case-after))
-          coded (λ t y alts. case-follows p cells e s stands t y alts env′ fs) met);
+          steps-by file types functions w w′ base i env r p e (Next.Goes case-after) ready stands
+          (λ x coded. when-case (StepsAt file types functions w w′ base i env r p e (Next.Goes case-after)) coded (λ t y alts. case-follows p cells e s stands t y alts));
     }
 
 -- the place of the alternatives is small enough to be written
@@ -244,27 +239,21 @@ unfolding next view
 target-next p e l y env fs = refl
 
 module _ (file types functions w : List ℕ) (base label i env : ℕ) (r : Registers) (ready : Ready file w base r 5 i env) where
-  module _ (n : Next) where
-    TargetMeans : Type 0
-    TargetMeans =
-        (p : Program) (cells : ℕ) (e : Parts) (s : State) → label ≡ p .label → StandsFor file types functions p w base cells r e s
-        → (l : ℕ) (y : Expr) (env′ : Env) (fs : List Frame) → Met file types functions w base i env r p e (target l y) env′ fs
-        → StepMeans file types functions w w base r p e (Eval.evaluating (target l y) env′ fs) n
-
-    target-steps : TargetMeans → Stepped file types functions w w base label r n
-    unfolding TargetMeans
-    target-steps means = record {
-      only-top = nothing-written w base (r .records);
-      steps = λ p sought cells e s file-of stands.
-          shown file types functions w base i env r p e (λ s′. StepMeans file types functions w w base r p e s′ n) ready stands
-          (λ x env′ fs coded met.
-          when-target (λ y. Met file types functions w base i env r p e y env′ fs → StepMeans file types functions w w base r p e (Eval.evaluating y env′ fs) n)
-          coded (λ l y. means p cells e s sought stands l y env′ fs) met);
-    }
+  -- what is right at every target is right
+  target-steps :
+      (n : Next)
+      → ((p : Program) (e : Parts) → label ≡ p .label → (l : ℕ) (y : Expr) → StepsAt file types functions w w base i env r p e n (target l y))
+      → Stepped file types functions w w base label r n
+  target-steps n means = record {
+    only-top = nothing-written w base (r .records);
+    steps = λ p sought cells e s file-of stands.
+        steps-by file types functions w w base i env r p e n ready stands
+        (λ x coded. when-target (StepsAt file types functions w w base i env r p e n) coded (means p e sought));
+  }
 
   pub target-demands : getD file (i + 1) 0 ≡ label → Stepped file types functions w w base label r Next.Demands
-  unfolding TargetMeans answer
-  target-demands is = target-steps Next.Demands (λ p cells e s sought stands l y env′ fs met.
+  unfolding answer
+  target-demands is = target-steps Next.Demands (λ p e sought l y env′ fs met.
       let at = code-target file (outlineOf file types functions) i l y (met .code) in
       let same : l ≡ p .label = cc (at .1 .1) in
       rw (target-next, eq-eqb l (p .label) same))
@@ -272,8 +261,8 @@ module _ (file types functions w : List ℕ) (base label i env : ℕ) (r : Regis
   pub target-goes :
       (getD file (i + 1) 0 ≡ label → ⊥)
       → Stepped file types functions w w base label r (Next.Goes (record { control = Control.Expression (i + 2) env; frame = r .frame; records = r .records }))
-  unfolding TargetMeans answer
-  target-goes other = target-steps (Next.Goes (record { control = Control.Expression (i + 2) env; frame = r .frame; records = r .records })) (λ p cells e s sought stands l y env′ fs met.
+  unfolding answer
+  target-goes other = target-steps (Next.Goes (record { control = Control.Expression (i + 2) env; frame = r .frame; records = r .records })) (λ p e sought l y env′ fs met.
       let at = code-target file (outlineOf file types functions) i l y (met .code) in (
         Eval.evaluating y env′ fs,
         rw (target-next, ne-eqb l (p .label) (λ same. other (at .1 .1 ∙ (same ∙ sym sought)))),

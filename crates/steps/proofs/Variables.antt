@@ -19,10 +19,10 @@ use Rattle.steps.specs.declared.Control.the-variants as Control
 use Rattle.steps.specs.declared.Registers.{Registers}
 use Rattle.steps.specs.declared.Next.{Next}
 use Rattle.steps.specs.declared.Next.the-variants as Next
-use Rattle.steps.specs.Stepping.{outlineOf, StandsFor, Standing, Ready, Leads, StepMeans, VariableThere, Group, OperandIn}
+use Rattle.steps.specs.Stepping.{outlineOf, StandsFor, Standing, Ready, Leads, VariableThere, Group, OperandIn}
 use Rattle.steps.proofs.Words.{nothing-written}
 use Rattle.steps.proofs.Which.{when-variable}
-use Rattle.steps.proofs.Kept.{Met, shown}
+use Rattle.steps.proofs.Kept.{Met, shown, StepsAt, steps-by}
 
 -- what comes next at a variable, by what it stands for
 part-next :
@@ -58,23 +58,18 @@ module _ (file types functions w : List ℕ) (base i env : ℕ) (r : Registers) 
       (λ m met′. let there = found p (standing .cells) e (standing .state) (standing .stands) m env′ fs met′ in
       (file, outlineOf file types functions, cellOf w, there .0, there .2)) met)
 
-  module _ (r′ : Registers) where
-    VariableMeans : Type 0
-    VariableMeans =
-        (p : Program) (cells : ℕ) (e : Parts) (s : State) → StandsFor file types functions p w base cells r e s
-        → (m : ℕ) (env′ : Env) (fs : List Frame) → Met file types functions w base i env r p e (variable m) env′ fs
-        → StepMeans file types functions w w base r p e (Eval.evaluating (variable m) env′ fs) (Next.Goes r′)
-
-    variable-leads : VariableMeans → Leads file types functions w w base r r′
-    unfolding VariableMeans
-    variable-leads means = record {
-      only-top = nothing-written w base (r .records);
-      steps = λ p cells e s file-of stands.
-          shown file types functions w base i env r p e (λ s′. StepMeans file types functions w w base r p e s′ (Next.Goes r′)) ready stands
-          (λ x env′ fs coded met.
-          when-variable (λ y. Met file types functions w base i env r p e y env′ fs → StepMeans file types functions w w base r p e (Eval.evaluating y env′ fs) (Next.Goes r′))
-          coded (λ m. means p cells e s stands m env′ fs) met);
-    }
+  -- what is right at every variable is right
+  variable-leads :
+      (r′ : Registers)
+      → ((p : Program) (cells : ℕ) (e : Parts) (s : State) → StandsFor file types functions p w base cells r e s
+      → (m : ℕ) → StepsAt file types functions w w base i env r p e (Next.Goes r′) (variable m))
+      → Leads file types functions w w base r r′
+  variable-leads r′ means = record {
+    only-top = nothing-written w base (r .records);
+    steps = λ p cells e s file-of stands.
+        steps-by file types functions w w base i env r p e (Next.Goes r′) ready stands
+        (λ x coded. when-variable (StepsAt file types functions w w base i env r p e (Next.Goes r′)) coded (means p cells e s stands));
+  }
 
   module _
       {group outside first inner : ℕ} (group-is : Group w base n env group) (is-outside : outside ≡ outsideOf w base group)
@@ -83,7 +78,6 @@ module _ (file types functions w : List ℕ) (base i env : ℕ) (r : Registers) 
       -- a part of the input
       pub part-leads :
           inner ≡ 0 → Leads file types functions w w base r (record { control = Control.Part (first + (n - outside)); frame = r .frame; records = r .records })
-      unfolding VariableMeans
       part-leads mark = variable-leads (record { control = Control.Part (first + (n - outside)); frame = r .frame; records = r .records }) (λ p cells e s stands m env′ fs met.
           let there = found p cells e s stands m env′ fs met in
           let at-group = group-is .outward file (outlineOf file types functions) (cellOf w) (there .0) (there .2) in
@@ -104,7 +98,6 @@ module _ (file types functions w : List ℕ) (base i env : ℕ) (r : Registers) 
       pub operand-leads :
           {place : ℕ} → (inner ≡ 0 → ⊥) → OperandIn file types functions first (n - outside) place
           → Leads file types functions w w base r (record { control = Control.Expression place (inner - 1); frame = r .frame; records = r .records })
-      unfolding VariableMeans
       operand-leads {place} other placed = variable-leads (record { control = Control.Expression place (inner - 1); frame = r .frame; records = r .records }) (λ p cells e s stands m env′ fs met.
           let there = found p cells e s stands m env′ fs met in
           let at-group = group-is .outward file (outlineOf file types functions) (cellOf w) (there .0) (there .2) in
