@@ -1,6 +1,6 @@
 // The third pass over a rule file: bodies. The check of an expression and the checks of its operands and of its alternatives call
 // each other; the nesting that is left falls. Records of types and functions are looked at where the first pass found them.
-// Rests on crate records.
+// Rests on crates records and lookups.
 ghost use mathlib.Core.Path.{_≡_};
 ghost use mathlib.Core.List.{[], _∷_, _++_};
 ghost use Prim.Native.Nat.{_+_, _≤_};
