@@ -1,6 +1,6 @@
 // The least depth of each type, that of its shallowest closed value, in an array of 32 numbers by value: filled round by round
-// until a round changes nothing. 0 stands for a type without a closed value. `types` holds the places of the types' records. Rests on crate
-// records; the proofs rest on the rows of crate numbers, too.
+// until a round changes nothing. 0 stands for a type without a closed value. `types` holds the places of the types' records. Rests on
+// crate records, its proofs on the tables of crate lookups too.
 ghost use mathlib.Core.Path.{_≡_};
 ghost use mathlib.Core.List.{map};
 ghost use Prim.Native.Nat.{_≤_};

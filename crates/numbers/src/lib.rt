@@ -1,5 +1,6 @@
 // The second pass over a rule file: the type and function numbers in TY, FN heads and GO all exist. The records are looked at
-// where the first pass found them: `types` and `functions` hold the places behind the marks. Rests on crate records.
+// where the first pass found them: `types` and `functions` hold the places behind the marks. Rests on crate
+// records, its proofs on the tables of crate lookups too.
 ghost use mathlib.Core.Path.{_≡_};
 ghost use Prim.Native.Nat.{_≤_};
 ghost use mathlib.Core.List.{map};
