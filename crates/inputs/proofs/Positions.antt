@@ -43,8 +43,8 @@ following-field here n = ap inside (following-part n)
 following-field (after q) n = ap after (following-field q n)
 following-field (inside q) n = ap inside (following-field q n)
 
--- The part at q of a row with these slots stands in the bytes: a value of its slot's type and room at its place, its first field one byte on, and
--- the next part of its row where it ends.
+-- The part at q of a row with these slots stands in the bytes: a value of its slot's type and room at its place, its first field one byte on, its
+-- other fields behind it, and the next part of its row where it ends.
 pub record PartStands (types : Types) (s : List ℕ) (j : Parts) (q : Place) (ss : List Slot) (i : ℕ) : Type 0 where
   pub slot : Slot
   pub slot-there : slotAt types j q ss ≡ some slot
@@ -56,6 +56,7 @@ pub record PartStands (types : Types) (s : List ℕ) (j : Parts) (q : Place) (ss
   pub stands : ValueStands types (slot .room) (slot .type) others s (byteOf j q i) number fields rest next
   pub seen : at j q ≡ has number (length (stands .fields))
   pub first-field : byteOf j (within q here) i ≡ byteOf j q i + 1
+  pub field-parts : (r : Place) → byteOf j (within q r) i ≡ byteOf fields r (byteOf j q i + 1)
   pub next-part : byteOf j (following q) i ≡ stands .behind
 
 module _ (types : Types) (s : List ℕ) where
@@ -74,6 +75,7 @@ module _ (types : Types) (s : List ℕ) where
         stands = v;
         seen = ap (has c) (row-width types s (d - 1) (v .fields) (i + 1) (v .inner));
         first-field = refl;
+        field-parts = λ p. refl;
         next-part = sym (row-length types s fs (d - 1) (v .fields) (i + 1) (v .inner));
       }
 
@@ -99,6 +101,7 @@ module _ (types : Types) (s : List ℕ) where
         stands = p .stands;
         seen = p .seen;
         first-field = p .first-field;
+        field-parts = p .field-parts;
         next-part = p .next-part;
       }
   part-stands (bound c fs r) (inside q) d (t ∷ ts) i e there =
@@ -115,6 +118,7 @@ module _ (types : Types) (s : List ℕ) where
         stands = p .stands;
         seen = p .seen;
         first-field = p .first-field;
+        field-parts = p .field-parts;
         next-part = p .next-part;
       }
 

@@ -1,0 +1,74 @@
+// Where the values of a closed input stand, noted in the open cells: the low half of the place in word 4, the high half in word 1,
+// which a bound cell needs for its first field and an open one does not. Rests on crates cells and inputs.
+ghost use mathlib.Core.Path.{_≡_};
+ghost use Prim.Native.Nat.{_+_, _*_, _≤_};
+ghost use lib.ListN.{length};
+ghost use Rattle.reach.specs.Places.{bytesAt};
+ghost use Rattle.values.specs.Notes.{Noted, notedPlace, notePlace, behindValue};
+use cells::word_or_zero;
+use inputs::Behind;
+use inputs::value;
+use records::byte_or_zero;
+
+// The place that is noted in an open cell.
+pub fn noted(work: &[u32], cell: usize) -> usize
+    requires { ⌜ cell ≤ 1000000 ⌝ }
+    ensures { λ r. ⌜ r ≡ notedPlace (now (work .entry)) cell ⌝ }
+{
+    word_or_zero(work, 5 * cell + 4) + 4294967296 * word_or_zero(work, 5 * cell + 1)
+}
+
+// Notes a place in an open cell.
+pub fn note(work: &mut [u32], cell: usize, place: usize)
+    requires { ⌜ 5 * cell + 5 ≤ length (now work) ⌝ }
+    ensures { λ _. ⌜ now (work .exit) ≡ notePlace (now (work .entry)) cell place ⌝ }
+{
+    work[5 * cell + 1] = (place / 4294967296) as u32;
+    work[5 * cell + 4] = (place % 4294967296) as u32;
+}
+
+// Notes in the k cells from `first` on where their values stand, one behind the other from a place of the input on; the values' types
+// stand from a place of the file on, and each value is at most so deep.
+pub fn note_values<'a>(
+    file: &'a [u8],
+    types: &'a [u16],
+    input: &'a [u8],
+    work: &mut [u32],
+    first: usize,
+    fields: usize,
+    k: usize,
+    at: usize,
+    room: usize,
+)
+    requires { ⌜ (5 * (first + k) ≤ length (now work)) × (k ≤ 255) × (fields ≤ 1000000) ⌝ }
+    ensures { λ _. ⌜ Noted (now (file .entry)) (now (types .entry)) (now (input .entry)) (now (work .entry)) (now (work .exit)) first (bytesAt (now (file .entry)) fields k) at room ⌝ }
+{
+    let mut cell = first;
+    let mut field = fields;
+    let mut place = at;
+    let mut more = k;
+    while 0 < more {
+        note(work, cell, place);
+        place = behind_value(file, types, input, place, byte_or_zero(file, field), room);
+        cell += 1;
+        field += 1;
+        more -= 1;
+    }
+}
+
+// The place behind the value of type t that stands at a place, or that place where there is none.
+pub fn behind_value<'a>(
+    file: &'a [u8],
+    types: &'a [u16],
+    input: &'a [u8],
+    at: usize,
+    t: usize,
+    room: usize,
+) -> usize
+    ensures { λ r. ⌜ r ≡ behindValue (now (file .entry)) (now (types .entry)) (now (input .entry)) at t room ⌝ }
+{
+    let Behind::At(next) = value(file, types, input, at, t, room) else {
+        return at;
+    };
+    next
+}
