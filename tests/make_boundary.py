@@ -6,16 +6,15 @@ instead of writing and exits 1 where the stored files differ. Each boundary case
 blind checker must agree.
 """
 
-import os
 import random
 import sys
 from collections import Counter
 
 from blind.build import call, case, con, fn, go, let, random_program, target, two, ty, var
 from blind.rulefile import (CODE, HOLLOW, MARK, MISFIT, RANGE, SHALLOW, SHORT, STRANGER, TAIL, Program, check)
+from vectors import store
 
 ACCEPTED = 0
-DATA = os.path.join(os.path.dirname(os.path.abspath(__file__)), os.pardir, "crates", "check_vectors")
 
 CASES = []  # name, bytes, expected number or ACCEPTED
 
@@ -753,21 +752,11 @@ def main():
     make()
     container = b"".join(two(len(data)) + data for _, data, _ in CASES)
     expected = "".join(f"refused {number}\n" if number else "accepted\n" for _, _, number in CASES).encode()
-    outputs = {"stdin": container, "stdout": expected}
-    if sys.argv[1:] == ["--check"]:
-        for name, made in outputs.items():
-            with open(os.path.join(DATA, name), "rb") as stored:
-                if stored.read() != made:
-                    print(f"check_vectors: the stored {name} differs from what is made")
-                    return 1
-        return 0
-    for name, made in outputs.items():
-        with open(os.path.join(DATA, name), "wb") as stored:
-            stored.write(made)
     counts = Counter(number for _, _, number in CASES)
-    print(f"{len(CASES)} cases, {len(container)} bytes: accepted {counts[ACCEPTED]}, "
-          + ", ".join(f"refused {number} {counts[number]}" for number in range(1, 10)))
-    return 0
+    if not sys.argv[1:]:
+        print(f"{len(CASES)} cases, {len(container)} bytes: accepted {counts[ACCEPTED]}, "
+              + ", ".join(f"refused {number} {counts[number]}" for number in range(1, 10)))
+    return store("check_vectors", container, expected, sys.argv[1:])
 
 
 if __name__ == "__main__":
