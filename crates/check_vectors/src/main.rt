@@ -3,26 +3,7 @@
 ghost use Prim.Native.Nat.{_≤_};
 use libc::STDIN_FILENO;
 use libc::STDOUT_FILENO;
-use reach::Refusal;
 use rulefile::Checked;
-
-// The number of a refusal.
-fn number(why: Refusal) -> u64 {
-    match why {
-        Refusal::Truncated => 1,
-        Refusal::UnexpectedMark => 2,
-        Refusal::OutOfRange => 3,
-        Refusal::UnknownNumber => 4,
-        Refusal::UnknownCode => 5,
-        Refusal::TypeMismatch => 6,
-        Refusal::TrailingBytes => 7,
-        Refusal::EmptyType => 8,
-        Refusal::DepthTooSmall => 9,
-        Refusal::BadInput => 10,
-        Refusal::WorkTooShort => 11,
-        Refusal::ListFull => 12,
-    }
-}
 
 fn print_answer(answer: Checked) {
     match answer {
@@ -31,7 +12,7 @@ fn print_answer(answer: Checked) {
         }
         Checked::Refused(why) => {
             io::write_all(STDOUT_FILENO, b"refused ");
-            io::print_decimal(STDOUT_FILENO, number(why));
+            io::print_decimal(STDOUT_FILENO, rulefile::number(why));
             io::write_all(STDOUT_FILENO, b"\n");
         }
     }
