@@ -1,0 +1,8 @@
+pub mod Reached
+pub mod Files
+pub mod Standing
+pub mod Advancing
+pub mod Bound
+pub mod Looping
+pub mod Beginning
+pub mod Answering

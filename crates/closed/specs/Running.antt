@@ -1,0 +1,160 @@
+-- What the closed run knows between two steps, and what its functions promise.
+-- Rests on reach's Eval and Answers, on steps' Stepping, on values' Notes and Binding and on the types of src/lib.rt.
+use Prim.Native.Nat.{ℕ, zero, suc, _+_, _*_, _-_, _≤_, _<_}
+use mathlib.Core.Path.{_≡_}
+use mathlib.Core.List.{List, map}
+use mathlib.Core.Option.{some}
+use lib.ListN.{length, getD, drop}
+use Rattle.reach.specs.declared.Outcome.{Outcome}
+use Rattle.reach.specs.declared.Outcome.the-variants as Outcome
+use Rattle.reach.specs.Syntax.{Program}
+use Rattle.reach.specs.Parts.{Parts}
+use Rattle.reach.specs.Types.{sourceSlots}
+use Rattle.reach.specs.Eval as Eval
+use Rattle.reach.specs.Eval.{State, eval, reached, ended, unfinished, run}
+use Rattle.reach.specs.Input.{inputOf}
+use Rattle.reach.specs.Places.{bytesAt, typeAt, goalAt}
+use Rattle.reach.specs.Answers.{check, accepted, outcomeOf, RunAnswer, noRun, ran}
+use Rattle.reach.proofs.NeverStuck.{Steps}
+use Rattle.lookups.specs.Fields.{fieldsIn}
+use Rattle.machine.specs.Cells.{cellWord, Binds}
+use Rattle.cells.specs.Writes.{Starts}
+use Rattle.inputs.proofs.Closed.{Placed}
+use Rattle.values.specs.Notes.{notedPlace, Noted}
+use Rattle.values.proofs.Binding as Values
+use Rattle.steps.specs.declared.Registers.{Registers}
+use Rattle.steps.specs.declared.Next.{Next}
+use Rattle.steps.specs.declared.Next.the-variants as Next
+use Rattle.closed.specs.declared.Answer.{Answer}
+use Rattle.closed.specs.declared.Answer.the-variants as Answer
+use Rattle.steps.specs.Stepping.{FileOf, StandsFor, Wrote}
+
+-- A checked file with its tables, its program, and a closed input of the program.
+pub record Given (file types functions input : List ℕ) (goal : ℕ) (p : Program) (j : Parts) : Type 0 where
+  pub checked : check file ≡ accepted p
+  pub file-of : FileOf file types functions p
+  pub placed : Placed p file types functions goal
+  pub goal-is : goalAt file goal ≡ record { source = p .source; label = p .label; depth = p .depth; steps = p .steps }
+  pub source-there : p .source < length functions
+  pub reads : inputOf p input ≡ some j
+
+-- The run after so many steps and at most so many binds, in words for `limit` steps: a part of the closed input is bound, the words stand for
+-- the state reached on it, and where each open part's value stands is noted in its cell.
+pub record Running (file types functions : List ℕ) (p : Program) (j : Parts) (limit : ℕ) (w : List ℕ) (base cells done binds : ℕ) (r : Registers) (s : State) : Type 0 where
+  pub input : Parts
+  pub stands : StandsFor file types functions p w base cells r input s
+  pub follows : Values.Follows (map (typeAt file) types) (sourceSlots p) w cells input j
+  pub steps : Steps p input done s
+  pub few-cells : cells ≤ 8 + 6 * binds
+  pub few-records : r .records ≤ done + 2
+  pub base-is : base ≡ 30 * limit + 80
+  pub long : base + 4 * (limit + 4) ≤ length w
+
+-- The run between two steps, not all of them taken or just so many.
+pub record Underway (file types functions input : List ℕ) (label limit : ℕ) (w : List ℕ) (base cells done : ℕ) (r : Registers) (p : Program) (j : Parts) (s : State) : Type 0 where
+  pub goal : ℕ
+  pub given : Given file types functions input goal p j
+  pub sought : label ≡ p .label
+  pub in-time : done ≤ limit
+  pub running : Running file types functions p j limit w base cells done done r s
+
+-- it is under way, for some program and closed input
+abbrev pub SomeUnderway : List ℕ → List ℕ → List ℕ → List ℕ → ℕ → List ℕ → ℕ → ℕ → Registers → Type 0
+SomeUnderway file types functions input label w base cells r =
+    (limit done : ℕ) × (p : Program) × (j : Parts) × (s : State) × Underway file types functions input label limit w base cells done r p j s
+
+-- Binding a cell.
+
+-- the constructor that stands at the place noted in cell x
+abbrev pub notedNumber : List ℕ → List ℕ → ℕ → ℕ
+notedNumber input w x = getD input (notedPlace w x) 0
+
+-- Cell x can be bound to it: its fields are no more than 6, there is room for their cells, and it may have fields at all.
+pub record Bindable (file types input w : List ℕ) (cells x : ℕ) : Type 0 where
+  pub in-use : x < cells
+  pub room : 5 * (cells + 6) ≤ length w
+  pub narrow : length w ≤ 1000000
+  pub deep : 1 ≤ cellWord w x 3
+  pub shallow : cellWord w x 3 ≤ 255
+  pub small-place : notedPlace w x < length input
+  pub few : (us : List ℕ) → fieldsIn file types (cellWord w x 2) (notedNumber input w x) ≡ some us → length us ≤ 6
+
+-- cell x was bound to the constructor whose k fields' types stand from place `fields` of the file on, and where their values stand was noted
+pub record BoundCell (file types input w w′ : List ℕ) (cells x fields k : ℕ) : Type 0 where
+  pub between : List ℕ
+  pub binds : Binds w between x (notedNumber input w x) cells k (bytesAt file fields k) (cellWord w x 3 - 1)
+  pub noted : Noted file types input between w′ cells (bytesAt file fields k) (notedPlace w x + 1) (cellWord w x 3 - 1)
+
+-- so it was, if the constructor is known, and so many cells are in use now
+abbrev pub BoundAs : List ℕ → List ℕ → List ℕ → List ℕ → List ℕ → ℕ → ℕ → ℕ → Type 0
+BoundAs file types input w w′ cells x more =
+    (us : List ℕ) → fieldsIn file types (cellWord w x 2) (notedNumber input w x) ≡ some us
+    → (fields k : ℕ) × (us ≡ bytesAt file fields k) × (more ≡ cells + k) × BoundCell file types input w w′ cells x fields k
+
+-- One step, with what a case looks at bound first.
+
+-- what comes next, in words w′ with so many cells in use: the run on the closed input ends, or goes on to other registers
+abbrev pub Advances : (file types functions input : List ℕ) (label limit : ℕ) (w′ : List ℕ) (base done : ℕ) (p : Program) (j : Parts) (s : State) → ℕ → Next → Type 0
+Advances file types functions input label limit w′ base done p j s cells Next.Demands = (left : ℕ) → eval p j left done s ≡ reached done
+Advances file types functions input label limit w′ base done p j s cells Next.Stops = (why : Eval.Stop) × ((left : ℕ) → eval p j left done s ≡ ended why done)
+Advances file types functions input label limit w′ base done p j s cells (Next.Goes r) =
+    (s′ : State) × (eval p j zero done s ≡ unfinished done) × ((left : ℕ) → eval p j (suc left) done s ≡ eval p j left (suc done) s′)
+    × (done < limit → Underway file types functions input label limit w′ base cells (suc done) r p j s′)
+Advances file types functions input label limit w′ base done p j s cells (Next.Waits x) = ⊥
+
+abbrev pub AdvancesAll : List ℕ → List ℕ → List ℕ → List ℕ → ℕ → List ℕ → List ℕ → ℕ → ℕ → Registers → ℕ → Next → Type 0
+AdvancesAll file types functions input label w w′ base cells r cells′ n =
+    (limit done : ℕ) (p : Program) (j : Parts) (s : State) → Underway file types functions input label limit w base cells done r p j s
+    → Advances file types functions input label limit w′ base done p j s cells′ n
+
+-- the run of at most `limit` steps from where it is under way ends so
+abbrev pub EndsAs : List ℕ → List ℕ → List ℕ → List ℕ → ℕ → ℕ → List ℕ → ℕ → ℕ → Registers → Outcome → Type 0
+EndsAs file types functions input label limit w base cells r o =
+    (p : Program) (j : Parts) (s : State) → Underway file types functions input label limit w base cells 0 r p j s → o ≡ outcomeOf (eval p j limit 0 s)
+
+-- some run begins here
+abbrev pub Begins : List ℕ → List ℕ → List ℕ → List ℕ → ℕ → ℕ → List ℕ → ℕ → ℕ → Registers → Type 0
+Begins file types functions input label limit w base cells r =
+    (p : Program) × (j : Parts) × (s : State) × Underway file types functions input label limit w base cells 0 r p j s
+
+-- the run came from the beginning to here
+abbrev pub CameTo : (file types functions input : List ℕ) (label limit : ℕ) (w₀ : List ℕ) (base first : ℕ) (from : Registers) (w : List ℕ) (cells done : ℕ) (r : Registers) → Type 0
+CameTo file types functions input label limit w₀ base first from w cells done r =
+    (p : Program) (j : Parts) (s : State) → Underway file types functions input label limit w₀ base first 0 from p j s
+    → (s′ : State) × Underway file types functions input label limit w base cells done r p j s′ × (eval p j limit 0 s ≡ eval p j (limit - done) done s′)
+
+-- the end of a run, by what comes next where no step is left or taken
+abbrev pub endedAs : Next → ℕ → Outcome
+endedAs Next.Demands done = Outcome.Reached done
+endedAs Next.Stops done = Outcome.Ended done
+endedAs (Next.Goes r) done = Outcome.Unfinished done
+endedAs (Next.Waits x) done = Outcome.Unfinished done
+
+-- The words at the beginning: the source's n parameters, whose types stand behind its record's first byte, have open cells with their values' places
+-- noted, and records 0 and 1 are the empty environment and the parameters' group.
+pub record Begun (file types input w w′ : List ℕ) (base head n depth : ℕ) : Type 0 where
+  pub w₁ : List ℕ
+  pub w₂ : List ℕ
+  pub w₃ : List ℕ
+  pub starts : Starts w w₁ n (bytesAt file (head + 1) n) depth
+  pub noted : Noted file types input w₁ w₂ 0 (bytesAt file (head + 1) n) 0 depth
+  pub zeros : Wrote w₂ w₃ base 0 0 0 0 0
+  pub group : Wrote w₃ w′ base 1 0 n 0 0
+
+-- the closed run of a program on an input
+abbrev pub RunsAs : List ℕ → List ℕ → List ℕ → List ℕ → ℕ → Outcome → Type 0
+RunsAs file types functions input goal o = (p : Program) (j : Parts) → Given file types functions input goal p j → o ≡ outcomeOf (run p j)
+
+-- there is such a program and input, the tables' places are small, and the words are as many as the run needs
+abbrev pub Runnable : List ℕ → List ℕ → List ℕ → List ℕ → ℕ → List ℕ → Type 0
+Runnable file types functions input goal w = (p : Program) × (j : Parts) × Given file types functions input goal p j × (length w ≡ 64 * p .steps + 1024) × (goal ≤ 16384)
+
+-- the answer of reach's definition, as the enum shows it
+abbrev pub answerOf : RunAnswer → Answer
+answerOf (noRun why) = Answer.Refused why
+answerOf (ran o) = Answer.Ran o
+
+-- The answer is right; a refusal changes no word, and a run none behind its first 64 S + 1,024 words.
+abbrev pub Unchanged : Answer → List ℕ → List ℕ → List ℕ → Type 0
+Unchanged (Answer.Refused why) file w w′ = w′ ≡ w
+Unchanged (Answer.Ran o) file w w′ = (p : Program) → check file ≡ accepted p → drop (64 * p .steps + 1024) w′ ≡ drop (64 * p .steps + 1024) w

@@ -1,0 +1,258 @@
+// The closed run: the evaluation of a rule on one closed input, in the lent words. Parts of the input are bound when a case looks at
+// them. Rests on crates rulefile, inputs, cells, values and steps.
+ghost use mathlib.Core.Path.{_≡_};
+ghost use Prim.Native.Nat.{ℕ, _+_, _*_, _≤_, _<_};
+ghost use lib.ListN.{length, getD};
+ghost use Rattle.reach.specs.Answers.{runAnswer};
+ghost use Rattle.closed.specs.Running.{SomeUnderway, Bindable, BoundAs, AdvancesAll, Begins, EndsAs, endedAs, Begun, Runnable, RunsAs, answerOf, Unchanged};
+use cells::bind_cell;
+use cells::start_cells;
+use inputs::input_fits;
+use lookups::Fields;
+use lookups::fields_of;
+use lookups::place_or_zero;
+use reach::Outcome;
+use reach::Refusal;
+use records::byte_or_zero;
+use rulefile::Checked;
+use rulefile::depth;
+use rulefile::label;
+use rulefile::load;
+use rulefile::source;
+use rulefile::steps;
+use steps::Control;
+use steps::Next;
+use steps::Registers;
+use steps::cell_word;
+use steps::put_record;
+use steps::step;
+use values::note_values;
+use values::noted;
+
+// The answer of a closed run.
+pub enum Answer {
+    Ran(Outcome),
+    Refused(Refusal),
+}
+
+// What comes next, and how many cells are in use.
+pub struct Advanced {
+    pub next: Next,
+    pub cells: usize,
+}
+
+// Binds the open cell x to the constructor that stands at its noted place in the input, and notes where its fields' values stand;
+// the new cells are from `cells` on. Answers how many are in use then.
+pub fn bind_asked<'a>(
+    file: &'a [u8],
+    types: &'a [u16],
+    input: &'a [u8],
+    work: &mut [u32],
+    cells: usize,
+    x: usize,
+) -> usize
+    requires { ⌜ Bindable (now file) (now types) (now input) (now work) cells x ⌝ }
+    ensures { λ r. ⌜ BoundAs (now (file .entry)) (now (types .entry)) (now (input .entry)) (now (work .entry)) (now (work .exit)) cells x r ⌝ }
+{
+    let place = noted(work, x);
+    let c = byte_or_zero(input, place);
+    let t = cell_word(work, x, 2);
+    let room = cell_word(work, x, 3);
+    let Fields::At(fields, k) = fields_of(file, types, t, c) else {
+        return cells;
+    };
+    bind_cell(file, work, x, c, fields, k, cells);
+    note_values(
+        file,
+        types,
+        input,
+        work,
+        cells,
+        fields,
+        k,
+        place + 1,
+        room - 1,
+    );
+    cells + k
+}
+
+// One step; a part that a case looks at is bound first.
+pub fn advance<'a>(
+    file: &'a [u8],
+    types: &'a [u16],
+    functions: &'a [u16],
+    label: usize,
+    input: &'a [u8],
+    work: &mut [u32],
+    base: usize,
+    cells: usize,
+    r: Registers,
+) -> Advanced
+    requires { ⌜ SomeUnderway (now file) (now types) (now functions) (now input) label (now work) base cells r ⌝ }
+    ensures { λ a. ⌜ AdvancesAll (now (file .entry)) (now (types .entry)) (now (functions .entry)) (now (input .entry)) label (now (work .entry)) (now (work .exit)) base cells r (a .cells) (a .next) ⌝ }
+{
+    let first = step(file, types, functions, label, work, base, r);
+    match first {
+        Next::Demands => Advanced {
+            next: Next::Demands,
+            cells,
+        },
+        Next::Stops => Advanced {
+            next: Next::Stops,
+            cells,
+        },
+        Next::Goes(to) => Advanced {
+            next: Next::Goes(to),
+            cells,
+        },
+        Next::Waits(x) => {
+            let more = bind_asked(file, types, input, work, cells, x);
+            let next = step(file, types, functions, label, work, base, r);
+            Advanced { next, cells: more }
+        }
+    }
+}
+
+// The end of a run after so many steps, by what comes next where no step is left.
+pub fn last(next: Next, done: usize) -> Outcome
+    requires { ⌜ done ≤ 4096 ⌝ }
+    ensures { λ o. ⌜ o ≡ endedAs next done ⌝ }
+{
+    match next {
+        Next::Demands => Outcome::Reached(done as u16),
+        Next::Stops => Outcome::Ended(done as u16),
+        Next::Goes(_) => Outcome::Unfinished(done as u16),
+        Next::Waits(_) => Outcome::Unfinished(done as u16),
+    }
+}
+
+// At most so many steps from the registers on.
+pub fn go_on<'a>(
+    file: &'a [u8],
+    types: &'a [u16],
+    functions: &'a [u16],
+    label: usize,
+    input: &'a [u8],
+    work: &mut [u32],
+    base: usize,
+    first: usize,
+    from: Registers,
+    limit: usize,
+) -> Outcome
+    requires { ⌜ (limit ≤ 4096) × Begins (now file) (now types) (now functions) (now input) label limit (now work) base first from ⌝ }
+    ensures { λ o. ⌜ EndsAs (now (file .entry)) (now (types .entry)) (now (functions .entry)) (now (input .entry)) label limit (now (work .entry)) base first from o ⌝ }
+{
+    let mut r = from;
+    let mut cells = first;
+    let mut done: usize = 0;
+    while done < limit {
+        let turn = advance(file, types, functions, label, input, work, base, cells, r);
+        let next = turn.next;
+        match next {
+            Next::Goes(to) => r = to,
+            Next::Demands => return Outcome::Reached(done as u16),
+            Next::Stops => return Outcome::Ended(done as u16),
+            Next::Waits(_) => return Outcome::Unfinished(done as u16),
+        }
+        cells = turn.cells;
+        done += 1;
+    }
+    let turn = advance(file, types, functions, label, input, work, base, cells, r);
+    let next = turn.next;
+    last(next, done)
+}
+
+// The words at the beginning: open cells for the n parameters of the source, whose record stands at a place of the file, with their
+// values' places noted, and the records of the empty environment and of the parameters' group.
+pub fn begin<'a>(
+    file: &'a [u8],
+    types: &'a [u16],
+    input: &'a [u8],
+    work: &mut [u32],
+    base: usize,
+    head: usize,
+    n: usize,
+    deep: usize,
+)
+    requires { ⌜ (5 * n ≤ base) × (base + 12 ≤ length (now work)) × (n ≤ 255) × (head ≤ 65536) × (deep ≤ 255) ⌝ }
+    ensures { λ _. ⌜ Begun (now (file .entry)) (now (types .entry)) (now (input .entry)) (now (work .entry)) (now (work .exit)) base head n deep ⌝ }
+{
+    start_cells(file, work, head + 1, n, deep);
+    note_values(file, types, input, work, 0, head + 1, n, 0, deep);
+    put_record(work, base, 0, 0, 0, 0, 0);
+    put_record(work, base, 1, 0, n, 0, 0);
+}
+
+// The run of a checked file's rule on a closed input that fits.
+pub fn evaluate<'a>(
+    file: &'a [u8],
+    types: &'a [u16],
+    functions: &'a [u16],
+    goal: usize,
+    input: &'a [u8],
+    work: &mut [u32],
+) -> Outcome
+    requires { ⌜ Runnable (now file) (now types) (now functions) (now input) goal (now work) ⌝ }
+    ensures { λ o. ⌜ RunsAs (now (file .entry)) (now (types .entry)) (now (functions .entry)) (now (input .entry)) goal o ⌝ }
+{
+    let limit = steps(file, goal);
+    let base = 30 * limit + 80;
+    let head = place_or_zero(functions, source(file, goal));
+    let n = byte_or_zero(file, head);
+    begin(file, types, input, work, base, head, n, depth(file, goal));
+    let from = Registers {
+        control: Control::Expression(head + 4 + n, 1),
+        frame: 0,
+        records: 2,
+    };
+    go_on(
+        file,
+        types,
+        functions,
+        label(file, goal),
+        input,
+        work,
+        base,
+        n,
+        from,
+        limit,
+    )
+}
+
+// The closed run of a rule file on an input, in the lent words.
+pub fn run<'a>(file: &'a [u8], input: &'a [u8], work: &mut [u32]) -> Answer
+    ensures { λ r. ⌜ r ≡ answerOf (runAnswer (now (file .entry)) (now (input .entry)) (length (now (work .entry)))) ⌝ }
+    ensures words { λ r. ⌜ Unchanged r (now (file .entry)) (now (work .entry)) (now (work .exit)) ⌝ }
+{
+    let loaded = load(file);
+    let answer = loaded.answer;
+    if let Checked::Refused(why) = answer {
+        return Answer::Refused(why);
+    }
+    let types = loaded.types;
+    let functions = loaded.functions;
+    let goal = loaded.goal_at;
+    let type_at = loaded.type_at;
+    let function_at = loaded.function_at;
+    if !input_fits(
+        file,
+        &type_at[..types],
+        &function_at[..functions],
+        goal,
+        input,
+    ) {
+        return Answer::Refused(Refusal::BadInput);
+    }
+    let words = 64 * steps(file, goal) + 1024;
+    if work.len() < words {
+        return Answer::Refused(Refusal::WorkTooShort);
+    }
+    Answer::Ran(evaluate(
+        file,
+        &type_at[..types],
+        &function_at[..functions],
+        goal,
+        input,
+        &mut work[..words],
+    ))
+}
