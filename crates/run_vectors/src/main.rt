@@ -57,7 +57,8 @@ fn read_part(part: &mut [u8]) -> usize
     if part.len() < n {
         return 65536;
     }
-    io::read_full(STDIN_FILENO, &mut part[..n])
+    let got = io::read_full(STDIN_FILENO, &mut part[..n]);
+    if n < got { n } else { got }
 }
 
 // Reads the words of the work slice, at most WORDS.
