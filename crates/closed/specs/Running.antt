@@ -154,7 +154,8 @@ abbrev pub answerOf : RunAnswer → Answer
 answerOf (noRun why) = Answer.Refused why
 answerOf (ran o) = Answer.Ran o
 
--- The answer is right; a refusal changes no word, and a run none behind its first 64 S + 1,024 words.
+-- A refusal changes no word, and a run none behind its first 64 S + 1,024 words. Those first words are the evaluation's own: what its cells and
+-- records left in them is not said.
 abbrev pub Unchanged : Answer → List ℕ → List ℕ → List ℕ → Type 0
 Unchanged (Answer.Refused why) file w w′ = w′ ≡ w
 Unchanged (Answer.Ran o) file w w′ = (p : Program) → check file ≡ accepted p → drop (64 * p .steps + 1024) w′ ≡ drop (64 * p .steps + 1024) w
