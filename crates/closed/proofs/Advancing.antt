@@ -17,6 +17,7 @@ use Rattle.reach.proofs.Evaluation.{waits-free, waits-answered}
 use Rattle.reach.proofs.ClosedInputs.{input-exactly}
 use Rattle.reach.proofs.Limits.{accepted-keeps}
 use Rattle.reach.proofs.NeverStuck.{one-more}
+use Rattle.reach.proofs.Reached.{steps-more}
 use Rattle.lookups.specs.Fields.{fieldsIn}
 use Rattle.machine.specs.Cells.{cellWord, cellOf, Cells, Unmoved}
 use Rattle.machine.proofs.Cells.{kept-cells}
@@ -30,8 +31,8 @@ use Rattle.steps.specs.declared.Next.the-variants as Next
 use Rattle.steps.specs.Stepping.{Standing, OnlyTop, Follows, StepMeans, Stepped}
 use Rattle.steps.proofs.Words.{records-same}
 use Rattle.closed.specs.Running.{Given, Running, Underway, notedNumber, Bindable, BoundAs, Advances}
-use Rattle.closed.proofs.Reached.{steps-more, below-width, reached-in, reached-sound, run-goes, run-demands, run-stops, run-spent}
-use Rattle.closed.proofs.Standing.{stands-after, stands-below}
+use Rattle.closed.proofs.Reached.{below-width, reached-in, reached-sound, run-goes, run-demands, run-stops, run-spent}
+use Rattle.steps.proofs.Standing.{stands-after, stands-below}
 
 -- what is noted in the cells stays while the record at the top is written
 module _

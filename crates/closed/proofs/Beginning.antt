@@ -22,7 +22,7 @@ use Rattle.machine.specs.Records.{Code}
 use Rattle.steps.specs.Stepping.{outlineOf}
 use Rattle.closed.specs.Running.{Given, Underway, Begun}
 use Rattle.closed.proofs.Reached.{reached-in, reached-sound}
-use Rattle.closed.proofs.Standing.{startRegisters, stands-start}
+use Rattle.steps.proofs.Standing.{startRegisters, stands-start}
 use Rattle.closed.proofs.Advancing.{within, follows-kept}
 
 module _ {file types functions input : List ℕ} {goal : ℕ} {p : Program} {j : Parts} (given : Given file types functions input goal p j) where

@@ -1,6 +1,5 @@
 pub mod Reached
 pub mod Files
-pub mod Standing
 pub mod Advancing
 pub mod Bound
 pub mod Looping

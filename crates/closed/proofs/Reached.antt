@@ -1,6 +1,6 @@
 -- The evaluation on a part of a closed input: what the loop over the steps knows. It evaluates on an input e of which only the parts that a case
 -- looked at are bound; e is below the closed input j, every state it reaches is reached on j too, and what comes next is what comes next on j.
--- Rests on reach's Evaluation, Order, Depths and NeverStuck.
+-- Rests on reach's Evaluation, Order, Depths, NeverStuck and Reached.
 use Prim.Native.Nat.{ℕ, zero, suc}
 use mathlib.Core.Path.{_≡_, _∙_}
 use mathlib.Core.List.{List, [], _∷_}
@@ -11,9 +11,10 @@ use Rattle.reach.specs.Types.{Typed, WithinDepth}
 use Rattle.reach.specs.Eval.{State, Stop, demands, stops, goes, next, reached, ended, unfinished, eval}
 use Rattle.reach.specs.Answers.{accepted, check}
 use Rattle.reach.proofs.Order.{⊑-width}
-use Rattle.reach.proofs.Evaluation.{StateIn, start-in, next-in, next-more, eval-step, eval-demands, eval-stops, eval-spent}
+use Rattle.reach.proofs.Evaluation.{StateIn, next-more, eval-step, eval-demands, eval-stops, eval-spent}
 use Rattle.reach.proofs.Depths.{typed-width}
-use Rattle.reach.proofs.NeverStuck.{Steps, no-step, one-more, Sound, steps-sound}
+use Rattle.reach.proofs.NeverStuck.{Steps, Sound, steps-sound}
+use Rattle.reach.proofs.Reached.{steps-in}
 
 -- an input below one of these types is of these types
 pub below-typed : (types : Types) (ts : List ℕ) {e j : Parts} → e ⊑ j → Typed types ts j → Typed types ts e
@@ -25,20 +26,6 @@ below-typed types (t ∷ ts) ⊑-end h = absurd h
 below-typed types (t ∷ ts) (⊑-open a) h = below-typed types ts a h
 below-typed types (t ∷ ts) (⊑-bind a) h = below-typed types ts a (h .3)
 below-typed types (t ∷ ts) (⊑-same f a) h = (h .0, h .1, below-typed types (h .0) f (h .2), below-typed types ts a (h .3))
-
--- States that are reached.
-
--- the places that they speak of are there
-pub steps-in : (p : Program) (e : Parts) → width e ≡ length (sourceTypes p) → {n : ℕ} {s : State} → Steps p e n s → StateIn e s
-steps-in p e wide no-step = start-in p e wide
-steps-in p e wide (one-more {s = s} {s′ = s′} before on) = next-in p e s (steps-in p e wide before) (goes s′) on
-
--- what is reached on an input is reached on every input that binds at least as much
-pub steps-more :
-    (p : Program) {e j : Parts} → e ⊑ j → width e ≡ length (sourceTypes p) → {n : ℕ} {s : State} → Steps p e n s → Steps p j n s
-steps-more p below wide no-step = no-step
-steps-more p {e} below wide (one-more {s = s} {s′ = s′} before on) =
-    one-more (steps-more p below wide before) (next-more p below s (steps-in p e wide before) (goes s′) tt on)
 
 -- A checked program on a closed input that fits, and on the inputs below it.
 module _ (file : List ℕ) (p : Program) (checked : check file ≡ accepted p) (j : Parts) (fits : WithinDepth p j) where

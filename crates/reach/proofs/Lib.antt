@@ -16,6 +16,7 @@ pub mod Answers
 pub mod Places
 pub mod WellTyped
 pub mod NeverStuck
+pub mod Reached
 pub mod Encoding
 pub mod Accepted
 pub mod Demands

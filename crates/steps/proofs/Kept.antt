@@ -10,7 +10,7 @@ use Rattle.reach.specs.Parts.{Parts}
 use Rattle.reach.specs.Encoding.{countAlternatives}
 use Rattle.reach.specs.Eval as Eval
 use Rattle.reach.specs.Eval.{Env, operands, size, Frame, waiting, State}
-use Rattle.reach.proofs.Evaluation.{EnvIn, FramesIn, StateIn, next-in}
+use Rattle.reach.proofs.Evaluation.{EnvIn, FramesIn, StateIn}
 use Rattle.reach.proofs.NeverStuck.{Sound}
 use Rattle.machine.specs.Cells.{cellOf}
 use Rattle.machine.specs.Records.{Holds, Code, CodeAll, CodeAlternatives, EnvAt, FramesAt, StateAt}
@@ -137,27 +137,3 @@ module _
 pub few-added :
     {w w′ : List ℕ} {base top a n b c : ℕ} → Few w base top → Wrote w w′ base top a n b c → n ≤ 255 * top → Few w′ base (top + 1)
 few-added few wrote small = few-more (wrote .only-top) few (rw (wrote .holds .word-1) small)
-
--- After a step the words stand for the state that follows, if there is room for one record more: what the next step asks.
-pub stands-after :
-    {file types functions w w′ : List ℕ} {base cells : ℕ} {p : Program} {r r′ : Registers} {e : Parts} {s s′ : State}
-    → StandsFor file types functions p w base cells r e s → OnlyTop w w′ base (r .records) → Eval.next p e s ≡ Eval.goes s′
-    → Follows file types functions w′ base (r .records) r′ s′ → Sound p e s′ → base + 4 * (r′ .records + 1) ≤ length w
-    → StandsFor file types functions p w′ base cells r′ e s′
-stands-after {w = w} {w′ = w′} {base = base} {p = p} {r = r} {e = e} {s = s} {s′ = s′} stands only goes follows sound room =
-    record {
-      input = (cells-same only stands) .1;
-      apart = stands .apart;
-      zeros = holds-kept w w′ base (r .records) (records-same only) (stands .space .some-record) (stands .zeros);
-      state = follows .state;
-      there = next-in p e s (stands .there) (Eval.goes s′) goes;
-      sound = sound;
-      space = record {
-        some-record = omega (arith, follows .no-fewer, stands .space .some-record);
-        environment-below = follows .environment-below;
-        frame-below = follows .frame-below;
-        room = rw (only .same-length) room;
-        narrow = rw (only .same-length) (stands .space .narrow);
-        few = follows .few;
-      };
-    }

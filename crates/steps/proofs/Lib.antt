@@ -6,3 +6,4 @@ pub mod Unfolds
 pub mod Variables
 pub mod Choosing
 pub mod Inspecting
+pub mod Standing

@@ -1,0 +1,57 @@
+-- States that are reached on a partial input: the places that they speak of are there, and they are reached on every input that binds at least as
+-- much; and a partial input keeps to its types where an open part is bound to a constructor of its type.
+-- Rests on Evaluation and NeverStuck.
+use Prim.Native.Nat.{ℕ, _-_}
+use mathlib.Core.Path.{_≡_, sym, subst}
+use mathlib.Core.List.{List, [], _∷_}
+use mathlib.Core.Option.{some, Option·some-injective}
+use lib.ListN.{length}
+use Rattle.reach.specs.Syntax.{Types, Program, fieldTypes, sourceTypes}
+use Rattle.reach.specs.Parts.{Parts, end, opened, bound, width, allOpen, Place, here, after, inside, free, at, bindAt, _⊑_}
+use Rattle.reach.specs.Types.{Typed, Slot, slots, slotsOf, fieldSlots, slotAt}
+use Rattle.reach.specs.Eval.{State, goes}
+use Rattle.reach.proofs.Order.{There, free-unbound}
+use Rattle.reach.proofs.Evaluation.{StateIn, start-in, next-in, next-more}
+use Rattle.reach.proofs.NeverStuck.{Steps, no-step, one-more}
+
+-- the places that they speak of are there
+pub steps-in : (p : Program) (e : Parts) → width e ≡ length (sourceTypes p) → {n : ℕ} {s : State} → Steps p e n s → StateIn e s
+steps-in p e wide no-step = start-in p e wide
+steps-in p e wide (one-more {s = s} {s′ = s′} before on) = next-in p e s (steps-in p e wide before) (goes s′) on
+
+-- what is reached on an input is reached on every input that binds at least as much
+pub steps-more :
+    (p : Program) {e j : Parts} → e ⊑ j → width e ≡ length (sourceTypes p) → {n : ℕ} {s : State} → Steps p e n s → Steps p j n s
+steps-more p below wide no-step = no-step
+steps-more p {e} below wide (one-more {s = s} {s′ = s′} before on) =
+    one-more (steps-more p below wide before) (next-more p below s (steps-in p e wide before) (goes s′) tt on)
+
+-- open parts are of every type
+pub open-typed : (types : Types) (ts : List ℕ) → Typed types ts (allOpen (length ts))
+unfolding allOpen
+open-typed types [] = tt
+open-typed types (t ∷ ts) = open-typed types ts
+
+-- the slots of the fields of a bound part, by their types
+field-slots : (types : Types) (s : Slot) (c : ℕ) (us : List ℕ) → fieldTypes types (s .type) c ≡ some us → (d : ℕ) × (fieldSlots types (some s) c ≡ slots us d)
+unfolding fieldSlots
+field-slots types s c us h = (s .room - 1, rw h)
+
+-- binding an open part to a constructor of its type keeps the types
+pub bind-typed :
+    (types : Types) (ts : List ℕ) (d : ℕ) (e : Parts) (q : Place) (s : Slot) (c : ℕ) (us : List ℕ) → Typed types ts e → at e q ≡ free
+    → slotAt types e q (slots ts d) ≡ some s → fieldTypes types (s .type) c ≡ some us → Typed types ts (bindAt q c (length us) e)
+unfolding at bindAt slotAt slots
+bind-typed types ts d end q s c us h g k f = h
+bind-typed types [] d (opened r) q s c us h g k f = absurd h
+bind-typed types (t ∷ ts) d (opened r) here s c us h g k f =
+    let same : record { type = t; room = d } ≡ s = Option·some-injective _ _ k in
+    (us, rw (← same) at f, open-typed types us, h)
+bind-typed types (t ∷ ts) d (opened r) (after q) s c us h g k f = bind-typed types ts d r q s c us h g k f
+bind-typed types (t ∷ ts) d (opened r) (inside q) s c us h g k f = absurd (subst There (sym g) tt)
+bind-typed types [] d (bound b fs r) q s c us h g k f = absurd h
+bind-typed types (t ∷ ts) d (bound b fs r) here s c us h g k f = absurd (free-unbound (sym g))
+bind-typed types (t ∷ ts) d (bound b fs r) (after q) s c us h g k f = (h .0, h .1, h .2, bind-typed types ts d r q s c us (h .3) g k f)
+bind-typed types (t ∷ ts) d (bound b fs r) (inside q) s c us h g k f =
+    let below = field-slots types (record { type = t; room = d }) b (h .0) (h .1) in
+    (h .0, h .1, bind-typed types (h .0) (below .0) fs q s c us (h .2) g (rw (below .1) at k) f, h .3)
