@@ -164,7 +164,7 @@ pub next-more : (p : Program) {e j : Parts} → e ⊑ j → (s : State) → Stat
 unfolding next
 next-more p {e} {j} a s h N t g = answer-more a (view p s) (view-in p e s h) (subst Settled (sym g) t) ∙ g
 
-answer-waits : (e : Parts) (N : Next) (q : Question) → answer e N ≡ waits q → (N ≡ waits q) × (at e (q .place) ≡ free)
+pub answer-waits : (e : Parts) (N : Next) (q : Question) → answer e N ≡ waits q → (N ≡ waits q) × (at e (q .place) ≡ free)
 unfolding answer look
 answer-waits e demands q h = absurd (subst Settled h tt)
 answer-waits e (stops why) q h = absurd (subst Settled h tt)
