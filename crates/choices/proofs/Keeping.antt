@@ -46,25 +46,25 @@ path-kept {w′ = w′} path same-length kept same =
 
 -- The words in which the cell of a choice point is open again.
 module _ (g : Setting) (w : List ℕ) (h : ℕ) where
-  pub reopened-length : length (reopened g w h) ≡ length w
+  pub reopened-length : length (reopened (g .stack) w h) ≡ length w
   unfolding reopened
   reopened-length = simp length-set
 
-  pub reopened-other : (i : ℕ) → i ≢ 5 * choiceWord g w h 0 → i ≢ 5 * choiceWord g w h 0 + 1 → getD (reopened g w h) i 0 ≡ getD w i 0
+  pub reopened-other : (i : ℕ) → i ≢ 5 * choiceWord (g .stack) w h 0 → i ≢ 5 * choiceWord (g .stack) w h 0 + 1 → getD (reopened (g .stack) w h) i 0 ≡ getD w i 0
   unfolding reopened
   reopened-other i head first =
-      getD-set-other (set w (5 * choiceWord g w h 0) 0) _ i (choiceWord g w h 1) 0 first ∙ getD-set-other w _ i 0 0 head
+      getD-set-other (set w (5 * choiceWord (g .stack) w h 0) 0) _ i (choiceWord (g .stack) w h 1) 0 first ∙ getD-set-other w _ i 0 0 head
 
-  module _ (fits : 5 * choiceWord g w h 0 + 1 < length w) where
-    pub reopened-head : getD (reopened g w h) (5 * choiceWord g w h 0) 0 ≡ 0
+  module _ (fits : 5 * choiceWord (g .stack) w h 0 + 1 < length w) where
+    pub reopened-head : getD (reopened (g .stack) w h) (5 * choiceWord (g .stack) w h 0) 0 ≡ 0
     unfolding reopened
     reopened-head =
-        let apart : 5 * choiceWord g w h 0 ≢ 5 * choiceWord g w h 0 + 1 = omega arith in
-        getD-set-other (set w (5 * choiceWord g w h 0) 0) _ _ (choiceWord g w h 1) 0 apart ∙ getD-set-same w (5 * choiceWord g w h 0) 0 0 (omega arith)
+        let apart : 5 * choiceWord (g .stack) w h 0 ≢ 5 * choiceWord (g .stack) w h 0 + 1 = omega arith in
+        getD-set-other (set w (5 * choiceWord (g .stack) w h 0) 0) _ _ (choiceWord (g .stack) w h 1) 0 apart ∙ getD-set-same w (5 * choiceWord (g .stack) w h 0) 0 0 (omega arith)
 
-    pub reopened-first : getD (reopened g w h) (5 * choiceWord g w h 0 + 1) 0 ≡ choiceWord g w h 1
+    pub reopened-first : getD (reopened (g .stack) w h) (5 * choiceWord (g .stack) w h 0 + 1) 0 ≡ choiceWord (g .stack) w h 1
     unfolding reopened
-    reopened-first = getD-set-same (set w (5 * choiceWord g w h 0) 0) (5 * choiceWord g w h 0 + 1) (choiceWord g w h 1) 0 (simp length-set fits)
+    reopened-first = getD-set-same (set w (5 * choiceWord (g .stack) w h 0) 0) (5 * choiceWord (g .stack) w h 0 + 1) (choiceWord (g .stack) w h 1) 0 (simp length-set fits)
 
 -- the cell of a choice point is one of those that were in use
 module _ {g : Setting} {w : List ℕ} {h : ℕ} {c : Choice} (at-h : ChoiceAt g w h c) where
@@ -74,75 +74,75 @@ module _ {g : Setting} {w : List ℕ} {h : ℕ} {c : Choice} (at-h : ChoiceAt g 
   pub there : There (at (c .input) (c .question .place))
   there = subst There (sym unbound) tt
 
-  pub cell-below : choiceWord g w h 0 < choiceWord g w h 4
+  pub cell-below : choiceWord (g .stack) w h 0 < choiceWord (g .stack) w h 4
   cell-below = rw (← at-h .cell-is) (at-h .path .stands .input .in-use (c .question .place) there)
 
-  pub cells-fit : 5 * choiceWord g w h 4 ≤ length w
+  pub cells-fit : 5 * choiceWord (g .stack) w h 4 ≤ length w
   cells-fit = omega (arith, at-h .path .stands .input .fits, reopened-length g w h)
 
-  pub cell-fits : 5 * choiceWord g w h 0 + 1 < length w
+  pub cell-fits : 5 * choiceWord (g .stack) w h 0 + 1 < length w
   cell-fits = omega (arith, cell-below, cells-fit)
 
 -- Words that agree on two cells' words and elsewhere agree.
 module _
     {g : Setting} {w : List ℕ} {h : ℕ} {c : Choice} (at-h : ChoiceAt g w h c) (w′ : List ℕ) (same-length : length w′ ≡ length w)
-    (word : (k : ℕ) → k < 6 → choiceWord g w′ h k ≡ choiceWord g w h k)
+    (word : (k : ℕ) → k < 6 → choiceWord (g .stack) w′ h k ≡ choiceWord (g .stack) w h k)
   where
-    same-cell : choiceWord g w′ h 0 ≡ choiceWord g w h 0
+    same-cell : choiceWord (g .stack) w′ h 0 ≡ choiceWord (g .stack) w h 0
     same-cell = word 0 (omega arith)
 
     -- a word that is as before, but for the head and the first field of the choice point's cell, is as before once the cell is open again
-    pub reopened-same : (i : ℕ) → (i ≢ 5 * choiceWord g w h 0 → i ≢ 5 * choiceWord g w h 0 + 1 → getD w′ i 0 ≡ getD w i 0)
-        → getD (reopened g w′ h) i 0 ≡ getD (reopened g w h) i 0
-    reopened-same i same = by-place (ℕ-discrete i (5 * choiceWord g w h 0)) (ℕ-discrete i (5 * choiceWord g w h 0 + 1))
+    pub reopened-same : (i : ℕ) → (i ≢ 5 * choiceWord (g .stack) w h 0 → i ≢ 5 * choiceWord (g .stack) w h 0 + 1 → getD w′ i 0 ≡ getD w i 0)
+        → getD (reopened (g .stack) w′ h) i 0 ≡ getD (reopened (g .stack) w h) i 0
+    reopened-same i same = by-place (ℕ-discrete i (5 * choiceWord (g .stack) w h 0)) (ℕ-discrete i (5 * choiceWord (g .stack) w h 0 + 1))
       where
-        fits′ : 5 * choiceWord g w′ h 0 + 1 < length w′
+        fits′ : 5 * choiceWord (g .stack) w′ h 0 + 1 < length w′
         fits′ = omega (arith, same-cell, same-length, cell-fits at-h)
 
-        head′ : getD (reopened g w′ h) (5 * choiceWord g w h 0) 0 ≡ 0
+        head′ : getD (reopened (g .stack) w′ h) (5 * choiceWord (g .stack) w h 0) 0 ≡ 0
         head′ = rw same-cell at (reopened-head g w′ h fits′)
 
-        first′ : getD (reopened g w′ h) (5 * choiceWord g w h 0 + 1) 0 ≡ choiceWord g w h 1
+        first′ : getD (reopened (g .stack) w′ h) (5 * choiceWord (g .stack) w h 0 + 1) 0 ≡ choiceWord (g .stack) w h 1
         first′ = (rw same-cell at (reopened-first g w′ h fits′)) ∙ word 1 (omega arith)
 
-        by-place : Dec (i ≡ 5 * choiceWord g w h 0) → Dec (i ≡ 5 * choiceWord g w h 0 + 1) → getD (reopened g w′ h) i 0 ≡ getD (reopened g w h) i 0
+        by-place : Dec (i ≡ 5 * choiceWord (g .stack) w h 0) → Dec (i ≡ 5 * choiceWord (g .stack) w h 0 + 1) → getD (reopened (g .stack) w′ h) i 0 ≡ getD (reopened (g .stack) w h) i 0
         by-place (yes is) first = rw is (head′ ∙ sym (reopened-head g w h (cell-fits at-h)))
         by-place (no head) (yes is) = rw is (first′ ∙ sym (reopened-first g w h (cell-fits at-h)))
         by-place (no head) (no first) =
             reopened-other g w′ h i (λ is. head (is ∙ ap (λ x. 5 * x) same-cell)) (λ is. first (is ∙ ap (λ x. 5 * x + 1) same-cell))
             ∙ same head first ∙ sym (reopened-other g w h i head first)
 
-    pub reopened-lengths : length (reopened g w′ h) ≡ length (reopened g w h)
+    pub reopened-lengths : length (reopened (g .stack) w′ h) ≡ length (reopened (g .stack) w h)
     reopened-lengths = reopened-length g w′ h ∙ same-length ∙ sym (reopened-length g w h)
 
     -- so is a path that has no more cells and records than stay
     pub path-same :
-        {cells done binds : ℕ} {r : Registers} {e : Parts} {s : State} → Path g (reopened g w h) cells done binds r e s
-        → ((i : ℕ) → i < 5 * cells → i ≢ 5 * choiceWord g w h 0 → i ≢ 5 * choiceWord g w h 0 + 1 → getD w′ i 0 ≡ getD w i 0)
-        → ((i : ℕ) → g .base ≤ i → i < g .base + 4 * r .records → getD w′ i 0 ≡ getD w i 0) → Path g (reopened g w′ h) cells done binds r e s
+        {cells done binds : ℕ} {r : Registers} {e : Parts} {s : State} → Path g (reopened (g .stack) w h) cells done binds r e s
+        → ((i : ℕ) → i < 5 * cells → i ≢ 5 * choiceWord (g .stack) w h 0 → i ≢ 5 * choiceWord (g .stack) w h 0 + 1 → getD w′ i 0 ≡ getD w i 0)
+        → ((i : ℕ) → g .base ≤ i → i < g .base + 4 * r .records → getD w′ i 0 ≡ getD w i 0) → Path g (reopened (g .stack) w′ h) cells done binds r e s
     path-same path kept same =
         path-kept path reopened-lengths (λ i below. reopened-same i (λ head first. kept i below head first)) (λ i from below. reopened-same i (λ head first. same i from below))
 
 -- A choice point is kept, whichever constructors it has left, while its own words are.
 module _
     {g : Setting} {w : List ℕ} {h : ℕ} {c : Choice} (at-h : ChoiceAt g w h c) (w′ : List ℕ) (same-length : length w′ ≡ length w)
-    (word : (k : ℕ) → k < 6 → choiceWord g w′ h k ≡ choiceWord g w h k)
-    (kept : (i : ℕ) → i < 5 * choiceWord g w h 4 → i ≢ 5 * choiceWord g w h 0 → i ≢ 5 * choiceWord g w h 0 + 1 → getD w′ i 0 ≡ getD w i 0)
-    (same : (i : ℕ) → g .base ≤ i → i < g .base + 4 * choiceWord g w h 3 → getD w′ i 0 ≡ getD w i 0)
+    (word : (k : ℕ) → k < 6 → choiceWord (g .stack) w′ h k ≡ choiceWord (g .stack) w h k)
+    (kept : (i : ℕ) → i < 5 * choiceWord (g .stack) w h 4 → i ≢ 5 * choiceWord (g .stack) w h 0 → i ≢ 5 * choiceWord (g .stack) w h 0 + 1 → getD w′ i 0 ≡ getD w i 0)
+    (same : (i : ℕ) → g .base ≤ i → i < g .base + 4 * choiceWord (g .stack) w h 3 → getD w′ i 0 ≡ getD w i 0)
   where
-    path-there : Path g (reopened g w′ h) (choiceWord g w h 4) (choiceWord g w h 5) (choiceWord g w h 5) (waitingAt g w h) (c .input) (at-h .state)
+    path-there : Path g (reopened (g .stack) w′ h) (choiceWord (g .stack) w h 4) (choiceWord (g .stack) w h 5) (choiceWord (g .stack) w h 5) (waitingAt (g .stack) w h) (c .input) (at-h .state)
     path-there = path-same at-h w′ same-length word (at-h .path) kept same
 
     -- the part of the choice point is in its cell
-    cell-there : cellOf (reopened g w′ h) (c .question .place) ≡ choiceWord g w h 0
+    cell-there : cellOf (reopened (g .stack) w′ h) (c .question .place) ≡ choiceWord (g .stack) w h 0
     cell-there =
-        kept-cells (reopened g w′ h) (at-h .path .stands .input) (path-there .stands .input .fits)
+        kept-cells (reopened (g .stack) w′ h) (at-h .path .stands .input) (path-there .stands .input .fits)
         (λ i below. reopened-same at-h w′ same-length word i (λ head first. kept i below head first)) .0 (c .question .place) (there at-h)
         ∙ at-h .cell-is
 
     pub choice-same :
         (d : Choice) → d .question ≡ c .question → d .left ≡ c .left → d .done ≡ c .done → d .input ≡ c .input
-        → d .untried ≡ untried (g .program .types) (leastDepths (g .program .types)) (cellWord w (choiceWord g w h 0) 2) (cellWord w (choiceWord g w h 0) 3) (cellWord w′ (choiceWord g w h 0) 0)
+        → d .untried ≡ untried (g .program .types) (leastDepths (g .program .types)) (cellWord w (choiceWord (g .stack) w h 0) 2) (cellWord w (choiceWord (g .stack) w h 0) 3) (cellWord w′ (choiceWord (g .stack) w h 0) 0)
         → ChoiceAt g w′ h d
     choice-same d question left done input untried-are =
         let z₀ = word 0 (omega arith) in
@@ -150,7 +150,7 @@ module _
         let z₃ = word 3 (omega arith) in
         let z₄ = word 4 (omega arith) in
         let z₅ = word 5 (omega arith) in
-        let x = choiceWord g w h 0 in
+        let x = choiceWord (g .stack) w h 0 in
         let below = cell-below at-h in
         let type : cellWord w′ x 2 ≡ cellWord w x 2 = kept (5 * x + 2) (omega arith) (omega arith) (omega arith) in
         let room : cellWord w′ x 3 ≡ cellWord w x 3 = kept (5 * x + 3) (omega arith) (omega arith) (omega arith) in
@@ -166,31 +166,45 @@ module _
           untried-are = rw (z₀, type, room) untried-are;
         }
 
+-- What is kept of the choice point at h, and of those before it, whose words are those in which its cell is open again.
+module _
+    {g : Setting} {w : List ℕ} (w′ : List ℕ) {h cells records : ℕ} {c : Choice} (at-h : ChoiceAt g w h c) (few-cells : choiceWord (g .stack) w h 4 ≤ cells)
+    (few-records : choiceWord (g .stack) w h 3 ≤ records) (kept : Kept g w w′ cells records (suc h))
+  where
+    pub word-kept : (k : ℕ) → k < 6 → choiceWord (g .stack) w′ h k ≡ choiceWord (g .stack) w h k
+    word-kept k small = kept .choices-kept (g .stack + 6 * h + k) (omega arith) (omega arith)
+
+    pub head-kept : cellWord w′ (choiceWord (g .stack) w h 0) 0 ≡ cellWord w (choiceWord (g .stack) w h 0) 0
+    head-kept = let used = cell-below at-h in kept .cells-kept (5 * choiceWord (g .stack) w h 0 + 0) (omega arith)
+
+    choice-kept : ChoiceAt g w′ h c
+    choice-kept =
+        choice-same at-h w′ (kept .same-length) word-kept (λ i l head first. kept .cells-kept i (omega arith)) (λ i from l. kept .records-kept i from (omega arith))
+        c refl refl refl refl (rw head-kept (at-h .untried-are))
+
+    pub kept-before : Kept g (reopened (g .stack) w h) (reopened (g .stack) w′ h) (choiceWord (g .stack) w h 4) (choiceWord (g .stack) w h 3) h
+    kept-before = record {
+      same-length = reopened-lengths at-h w′ (kept .same-length) word-kept;
+      cells-kept = λ i l. reopened-same at-h w′ (kept .same-length) word-kept i (λ x y. kept .cells-kept i (omega arith));
+      records-kept = λ i from l. reopened-same at-h w′ (kept .same-length) word-kept i (λ x y. kept .records-kept i from (omega arith));
+      choices-kept = λ i from l. reopened-same at-h w′ (kept .same-length) word-kept i (λ x y. kept .choices-kept i from (omega arith));
+    }
+
+    one-kept :
+        {cs : List Choice} → ChoicesAt g (reopened (g .stack) w′ h) h (choiceWord (g .stack) w h 4) (choiceWord (g .stack) w h 3) cs
+        → ChoicesAt g w′ (suc h) cells records (c ∷ cs)
+    one-kept {cs} rest =
+        let z₃ = word-kept 3 (omega arith) in
+        let z₄ = word-kept 4 (omega arith) in
+        one-choice {cells = cells} {records = records} {cs = cs} choice-kept (rw z₄ few-cells) (rw z₃ few-records) (rw (z₄, z₃) rest)
+
 -- The choice points are kept.
 pub choices-kept :
     {g : Setting} {w : List ℕ} (w′ : List ℕ) {h cells records : ℕ} {cs : List Choice} → ChoicesAt g w h cells records cs → Kept g w w′ cells records h
     → ChoicesAt g w′ h cells records cs
 choices-kept w′ no-choice kept = no-choice
-choices-kept {g} {w} w′ {cells = cells} {records} (one-choice {h = h} {c = c} {cs = cs} at-h few-cells few-records rest) kept =
-    let word : (k : ℕ) → k < 6 → choiceWord g w′ h k ≡ choiceWord g w h k = λ k small. kept .choices-kept (g .stack + 6 * h + k) (omega arith) (omega arith) in
-    let below : (i : ℕ) → i < 5 * choiceWord g w h 4 → i ≢ 5 * choiceWord g w h 0 → i ≢ 5 * choiceWord g w h 0 + 1 → getD w′ i 0 ≡ getD w i 0 =
-    λ i l head first. kept .cells-kept i (omega arith) in
-    let same : (i : ℕ) → g .base ≤ i → i < g .base + 4 * choiceWord g w h 3 → getD w′ i 0 ≡ getD w i 0 = λ i from l. kept .records-kept i from (omega arith) in
-    let used = cell-below at-h in
-    let head : cellWord w′ (choiceWord g w h 0) 0 ≡ cellWord w (choiceWord g w h 0) 0 = kept .cells-kept (5 * choiceWord g w h 0 + 0) (omega arith) in
-    let deeper : Kept g (reopened g w h) (reopened g w′ h) (choiceWord g w h 4) (choiceWord g w h 3) h =
-    record {
-      same-length = reopened-lengths at-h w′ (kept .same-length) word;
-      cells-kept = λ i l. reopened-same at-h w′ (kept .same-length) word i (λ x y. kept .cells-kept i (omega arith));
-      records-kept = λ i from l. reopened-same at-h w′ (kept .same-length) word i (λ x y. same i from l);
-      choices-kept = λ i from l. reopened-same at-h w′ (kept .same-length) word i (λ x y. kept .choices-kept i from (omega arith));
-    } in
-    let z₃ = word 3 (omega arith) in
-    let z₄ = word 4 (omega arith) in
-    one-choice {cells = cells} {records = records} {cs = cs} (choice-same at-h w′ (kept .same-length) word below same c refl refl refl refl (rw head (at-h .untried-are)))
-    (rw z₄ few-cells)
-    (rw z₃ few-records)
-    (rw (z₄, z₃) (choices-kept (reopened g w′ h) rest deeper))
+choices-kept {g} w′ (one-choice {h = h} at-h few-cells few-records rest) kept =
+    one-kept w′ at-h few-cells few-records kept (choices-kept (reopened (g .stack) w′ h) rest (kept-before w′ at-h few-cells few-records kept))
 
 -- more cells and records may be in use
 pub choices-more :

@@ -1,3 +1,4 @@
 pub mod Keeping
 pub mod Pushing
 pub mod Taking
+pub mod Weights

@@ -129,7 +129,7 @@ cell-untried types table w x t room type-is room-is = rw (type-is, room-is) (sym
 module _
     {g : Setting} (given : Given g) {w w′ : List ℕ} {cells done h : ℕ} {r : Registers} {e : Parts} {s : State} {q : Question} {x : ℕ}
     (path : Path g w cells done done r e s) (in-time : done < g .limit) (no-higher : h ≤ done) (asks : next (g .program) e s ≡ waits q)
-    (cell-is : cellOf w (q .place) ≡ x) (pushes : Pushes g w w′ h x (r .frame) (r .records) cells done)
+    (cell-is : cellOf w (q .place) ≡ x) (pushes : Pushes (g .stack) w w′ h x (r .frame) (r .records) cells done)
   where
     unbound : at e (q .place) ≡ free
     unbound = waits-free (g .program) e s q asks
@@ -153,7 +153,7 @@ module _
     base-low : g .base ≤ g .stack
     base-low = omega (arith, given .base-is, given .stack-is)
 
-    fits : 5 * choiceWord g w′ h 0 + 1 < length w′
+    fits : 5 * choiceWord (g .stack) w′ h 0 + 1 < length w′
     fits = omega (arith, pushes .word-0, pushes .same-length, path .stands .input .fits, below)
 
     -- the cell is open as it was
@@ -162,19 +162,19 @@ module _
         let z : 5 * x + 0 ≡ 5 * x = omega arith in
         rw (← z, ← cell-is) (path .stands .input .head-free (q .place) unbound)
 
-    fresh : (i : ℕ) → i < g .stack + 6 * h → getD (reopened g w′ h) i 0 ≡ getD w i 0
+    fresh : (i : ℕ) → i < g .stack + 6 * h → getD (reopened (g .stack) w′ h) i 0 ≡ getD w i 0
     fresh i l = by-place (ℕ-discrete i (5 * x)) (ℕ-discrete i (5 * x + 1))
       where
-        by-place : Dec (i ≡ 5 * x) → Dec (i ≡ 5 * x + 1) → getD (reopened g w′ h) i 0 ≡ getD w i 0
+        by-place : Dec (i ≡ 5 * x) → Dec (i ≡ 5 * x + 1) → getD (reopened (g .stack) w′ h) i 0 ≡ getD w i 0
         by-place (yes is) first = rw is ((rw (pushes .word-0) at (reopened-head g w′ h fits)) ∙ sym head-open)
         by-place (no head) (yes is) = rw is ((rw (pushes .word-0) at (reopened-first g w′ h fits)) ∙ pushes .word-1)
         by-place (no head) (no first) =
             reopened-other g w′ h i (λ is. head (is ∙ ap (λ y. 5 * y) (pushes .word-0))) (λ is. first (is ∙ ap (λ y. 5 * y + 1) (pushes .word-0))) ∙ above i l
 
-    same-length : length (reopened g w′ h) ≡ length w
+    same-length : length (reopened (g .stack) w′ h) ≡ length w
     same-length = reopened-length g w′ h ∙ pushes .same-length
 
-    kept : Kept g w (reopened g w′ h) cells (r .records) h
+    pub kept : Kept g w (reopened (g .stack) w′ h) cells (r .records) h
     kept = record {
       same-length = same-length;
       cells-kept = λ i l. fresh i (omega (arith, cells-low, base-low));
@@ -182,7 +182,7 @@ module _
       choices-kept = λ i from l. fresh i l;
     }
 
-    waits-there : Path g (reopened g w′ h) cells done done (lookingAt x r) e s
+    waits-there : Path g (reopened (g .stack) w′ h) cells done done (lookingAt x r) e s
     waits-there = path-kept (path-looking path asks cell-is) same-length (kept .cells-kept) (kept .records-kept)
 
     -- the part has a slot, of which its cell tells the type and the depth
@@ -209,6 +209,9 @@ module _
       untried = branches (g .program) (leastDepths (g .program .types)) e q;
     }
 
+    pub head-new : cellWord w′ x 0 ≡ 0
+    head-new = above (5 * x + 0) (omega (arith, cells-low, base-low, below)) ∙ (let z : 5 * x + 0 ≡ 5 * x = omega arith in rw z head-open)
+
     choice-at : ChoiceAt g w′ h newChoice
     unfolding newChoice
     choice-at =
@@ -217,11 +220,10 @@ module _
         let z₃ = pushes .word-3 in
         let z₄ = pushes .word-4 in
         let z₅ = pushes .word-5 in
-        let head : cellWord w′ x 0 ≡ 0 = above (5 * x + 0) (omega (arith, cells-low, base-low, below)) ∙ (let z : 5 * x + 0 ≡ 5 * x = omega arith in rw z head-open) in
         let type : cellWord w′ x 2 ≡ cellWord w x 2 = above (5 * x + 2) (omega (arith, cells-low, base-low, below)) in
         let room : cellWord w′ x 3 ≡ cellWord w x 3 = above (5 * x + 3) (omega (arith, cells-low, base-low, below)) in
-        let moved : cellOf (reopened g w′ h) (q .place) ≡ x =
-        kept-cells (reopened g w′ h) (path .stands .input) (waits-there .stands .input .fits) (kept .cells-kept) .0 (q .place) there ∙ cell-is in
+        let moved : cellOf (reopened (g .stack) w′ h) (q .place) ≡ x =
+        kept-cells (reopened (g .stack) w′ h) (path .stands .input) (waits-there .stands .input .fits) (kept .cells-kept) .0 (q .place) there ∙ cell-is in
         record {
           state = s;
           path = rw (z₀, z₂, z₃, z₄, z₅) waits-there;
@@ -231,7 +233,7 @@ module _
           no-higher = rw z₅ no-higher;
           left-is = rw z₅ refl;
           done-is = rw z₅ refl;
-          untried-are = rw (z₀, type, room, head) all-untried;
+          untried-are = rw (z₀, type, room, head-new) all-untried;
         }
 
     pub choices-pushed : {cs : List Choice} → ChoicesAt g w h cells (r .records) cs → ChoicesAt g w′ (suc h) cells (r .records) (newChoice ∷ cs)
@@ -239,4 +241,4 @@ module _
         let z₃ = pushes .word-3 in
         let z₄ = pushes .word-4 in
         one-choice {cells = cells} {records = r .records} {cs = cs} choice-at (rw z₄ (omega arith)) (rw z₃ (omega arith))
-        (rw (z₄, z₃) (choices-kept (reopened g w′ h) rest kept))
+        (rw (z₄, z₃) (choices-kept (reopened (g .stack) w′ h) rest kept))

@@ -36,12 +36,12 @@ typed-bound types ts d e q s c k us many typed open-there slot-is known = rw man
 
 module _
     {g : Setting} (given : Given g) {w : List ℕ} {h : ℕ} {c : Choice} (at-h : ChoiceAt g w h c) {w′ us : List ℕ} {n k : ℕ}
-    (known : fieldTypes (g .program .types) (cellWord w (choiceWord g w h 0) 2) n ≡ some us) (many : k ≡ length us) (few : k ≤ 6)
-    (deep : 1 ≤ cellWord w (choiceWord g w h 0) 3)
-    (binds : Binds w w′ (choiceWord g w h 0) n (choiceWord g w h 4) k us (cellWord w (choiceWord g w h 0) 3 - 1))
+    (known : fieldTypes (g .program .types) (cellWord w (choiceWord (g .stack) w h 0) 2) n ≡ some us) (many : k ≡ length us) (few : k ≤ 6)
+    (deep : 1 ≤ cellWord w (choiceWord (g .stack) w h 0) 3)
+    (binds : Binds w w′ (choiceWord (g .stack) w h 0) n (choiceWord (g .stack) w h 4) k us (cellWord w (choiceWord (g .stack) w h 0) 3 - 1))
   where
     abbrev x : ℕ
-    x = choiceWord g w h 0
+    x = choiceWord (g .stack) w h 0
 
     abbrev q : Place
     q = c .question .place
@@ -51,7 +51,7 @@ module _
     bound = bindAt q n k (c .input)
 
     w₀ : List ℕ
-    w₀ = reopened g w h
+    w₀ = reopened (g .stack) w h
 
     -- where the cell is open again it is bound just so
     other : (i : ℕ) → i ≢ 5 * x → i ≢ 5 * x + 1 → getD w₀ i 0 ≡ getD w i 0
@@ -62,7 +62,7 @@ module _
     unfolding w₀
     same-length = binds .same-length ∙ sym (reopened-length g w h)
 
-    binds-open : Binds w₀ w′ (cellOf w₀ q) n (choiceWord g w h 4) k us (cellWord w x 3 - 1)
+    binds-open : Binds w₀ w′ (cellOf w₀ q) n (choiceWord (g .stack) w h 4) k us (cellWord w x 3 - 1)
     unfolding w₀
     binds-open = rw (at-h .cell-is) (record {
       same-length = same-length;
@@ -93,17 +93,17 @@ module _
     known-there : fieldTypes (g .program .types) (slotted .0) n ≡ some us
     known-there = subst (λ t. fieldTypes (g .program .types) t n ≡ some us) type-is known
 
-    cells-bound : choiceWord g w h 4 ≤ 8 + 6 * choiceWord g w h 5
+    cells-bound : choiceWord (g .stack) w h 4 ≤ 8 + 6 * choiceWord (g .stack) w h 5
     cells-bound = at-h .path .few-cells
 
-    fits : 5 * (choiceWord g w h 4 + k) ≤ g .base
+    fits : 5 * (choiceWord (g .stack) w h 4 + k) ≤ g .base
     fits = omega (arith, cells-bound, given .base-is, at-h .in-time)
 
     long : length w₀ ≡ 64 * g .limit + 1024
     unfolding w₀
     long = at-h .path .long
 
-    cells-there : Cells (g .program .types) (sourceSlots (g .program)) w′ (choiceWord g w h 4 + k) bound
+    cells-there : Cells (g .program .types) (sourceSlots (g .program)) w′ (choiceWord (g .stack) w h 4 + k) bound
     unfolding w₀
     cells-there =
         bind-cells q (at-h .path .stands .input) (unbound at-h) (slotted .1 .1) (omega (arith, room-is)) known-there many
@@ -122,10 +122,10 @@ module _
     wide : (e : Parts) → Typed (g .program .types) (sourceTypes (g .program)) e → width e ≡ length (sourceTypes (g .program))
     wide e = typed-width (g .program .types) (sourceTypes (g .program)) e
 
-    steps-there : Steps (g .program) bound (choiceWord g w h 5) (at-h .state)
+    steps-there : Steps (g .program) bound (choiceWord (g .stack) w h 5) (at-h .state)
     steps-there = steps-more (g .program) (bind-refines q n k (c .input)) (wide (c .input) (at-h .path .typed)) (at-h .path .steps)
 
-    base-high : g .base + 4 * choiceWord g w h 3 ≤ g .stack
+    base-high : g .base + 4 * choiceWord (g .stack) w h 3 ≤ g .stack
     base-high = omega (arith, given .base-is, given .stack-is, at-h .path .few-records, at-h .in-time)
 
     base-low : g .base ≤ g .stack
@@ -136,7 +136,7 @@ module _
     above i from = binds .elsewhere i (omega (arith, cell-below at-h, fits)) (omega (arith, cell-below at-h, fits)) (λ l. omega (arith, fits))
 
     -- the path on which the part is bound
-    pub path-taken : Path g w′ (choiceWord g w h 4 + k) (choiceWord g w h 5) (suc (choiceWord g w h 5)) (waitingAt g w h) bound (at-h .state)
+    pub path-taken : Path g w′ (choiceWord (g .stack) w h 4 + k) (choiceWord (g .stack) w h 5) (suc (choiceWord (g .stack) w h 5)) (waitingAt (g .stack) w h) bound (at-h .state)
     unfolding w₀
     path-taken = record {
       stands =
@@ -154,34 +154,36 @@ module _
     pub goes-taken : next (g .program) bound (at-h .state) ≡ goes (answered (c .question) n k)
     goes-taken = waits-answered (g .program) (c .input) bound (at-h .state) (c .question) n k (at-h .asks) (bind-has q n k (c .input) (unbound at-h))
 
-    word : (m : ℕ) → m < 6 → choiceWord g w′ h m ≡ choiceWord g w h m
+    pub word : (m : ℕ) → m < 6 → choiceWord (g .stack) w′ h m ≡ choiceWord (g .stack) w h m
     word m small = above (g .stack + 6 * h + m) (omega (arith, base-low))
 
-    cells-same : (i : ℕ) → i < 5 * choiceWord g w h 4 → i ≢ 5 * x → i ≢ 5 * x + 1 → getD w′ i 0 ≡ getD w i 0
+    cells-same : (i : ℕ) → i < 5 * choiceWord (g .stack) w h 4 → i ≢ 5 * x → i ≢ 5 * x + 1 → getD w′ i 0 ≡ getD w i 0
     cells-same i below head first = binds .elsewhere i head first (λ l. absurd (omega arith))
+
+    -- the choice points before it
+    pub kept : Kept g (reopened (g .stack) w h) (reopened (g .stack) w′ h) (choiceWord (g .stack) w h 4) (choiceWord (g .stack) w h 3) h
+    kept = record {
+      same-length = reopened-lengths at-h w′ (binds .same-length) word;
+      cells-kept = λ i l. reopened-same at-h w′ (binds .same-length) word i (λ a b. cells-same i l a b);
+      records-kept = λ i from l. reopened-same at-h w′ (binds .same-length) word i (λ a b. above i from);
+      choices-kept = λ i from l. reopened-same at-h w′ (binds .same-length) word i (λ a b. above i (omega (arith, base-low)));
+    }
 
     -- the choice point with these constructors left
     pub choices-taken :
         {cs : List Choice} (d : Choice) → d .question ≡ c .question → d .left ≡ c .left → d .done ≡ c .done → d .input ≡ c .input
         → d .untried ≡ untried (g .program .types) (leastDepths (g .program .types)) (cellWord w x 2) (cellWord w x 3) (suc n)
-        → ChoicesAt g (reopened g w h) h (choiceWord g w h 4) (choiceWord g w h 3) cs
-        → ChoicesAt g w′ (suc h) (choiceWord g w h 4 + k) (choiceWord g w h 3) (d ∷ cs)
+        → ChoicesAt g (reopened (g .stack) w h) h (choiceWord (g .stack) w h 4) (choiceWord (g .stack) w h 3) cs
+        → ChoicesAt g w′ (suc h) (choiceWord (g .stack) w h 4 + k) (choiceWord (g .stack) w h 3) (d ∷ cs)
     choices-taken {cs} d question left done input untried-are rest =
         let z₃ = word 3 (omega arith) in
         let z₄ = word 4 (omega arith) in
         let head : cellWord w′ x 0 ≡ suc n = binds .new-head in
-        let kept : Kept g (reopened g w h) (reopened g w′ h) (choiceWord g w h 4) (choiceWord g w h 3) h =
-        record {
-          same-length = reopened-lengths at-h w′ (binds .same-length) word;
-          cells-kept = λ i l. reopened-same at-h w′ (binds .same-length) word i (λ a b. cells-same i l a b);
-          records-kept = λ i from l. reopened-same at-h w′ (binds .same-length) word i (λ a b. above i from);
-          choices-kept = λ i from l. reopened-same at-h w′ (binds .same-length) word i (λ a b. above i (omega (arith, base-low)));
-        } in
-        one-choice {cells = choiceWord g w h 4 + k} {records = choiceWord g w h 3} {cs = cs}
+        one-choice {cells = choiceWord (g .stack) w h 4 + k} {records = choiceWord (g .stack) w h 3} {cs = cs}
         (choice-same at-h w′ (binds .same-length) word cells-same (λ i from l. above i from) d question left done input (rw head untried-are))
         (rw z₄ (omega arith))
         (rw z₃ (omega arith))
-        (rw (z₄, z₃) (choices-kept (reopened g w′ h) rest kept))
+        (rw (z₄, z₃) (choices-kept (reopened (g .stack) w′ h) rest kept))
 
 -- A step that writes a record.
 module _

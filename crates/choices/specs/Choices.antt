@@ -15,17 +15,19 @@ use Rattle.reach.specs.Moves.{Choice}
 use Rattle.reach.specs.Answers.{check, accepted}
 use Rattle.reach.proofs.NeverStuck.{Steps}
 use Rattle.machine.specs.Cells.{cellWord, cellOf}
+use Rattle.depths.specs.Table.{padded}
 use Rattle.forks.specs.Untried.{untried}
 use Rattle.steps.specs.declared.Control.the-variants as Control
 use Rattle.steps.specs.declared.Registers.{Registers}
 use Rattle.steps.specs.Stepping.{FileOf, StandsFor}
 
--- What stays throughout a search: the file with the places of its types and functions, its program, the step limit, and where the records
--- and the choice points begin in the words.
+-- What stays throughout a search: the file with the places of its types and functions and the least depths, its program, the step limit, and
+-- where the records and the choice points begin in the words.
 pub record Setting : Type 0 where
   pub file : List ℕ
   pub types : List ℕ
   pub functions : List ℕ
+  pub least : List ℕ
   pub program : Program
   pub limit : ℕ
   pub base : ℕ
@@ -35,22 +37,23 @@ pub record Setting : Type 0 where
 pub record Given (g : Setting) : Type 0 where
   pub checked : check (g .file) ≡ accepted (g .program)
   pub file-of : FileOf (g .file) (g .types) (g .functions) (g .program)
+  pub least-are : g .least ≡ padded (leastDepths (g .program .types))
   pub limit-is : g .limit ≡ g .program .steps
   pub base-is : g .base ≡ 30 * g .limit + 80
   pub stack-is : g .stack ≡ 34 * g .limit + 96
 
 -- word k of choice point h: 0 the cell, 1 its word 1 before it was bound, 2 the frame that waits, 3 the number of records, 4 that of cells,
 -- 5 the steps done
-abbrev pub choiceWord : Setting → List ℕ → ℕ → ℕ → ℕ
-choiceWord g w h k = getD w (g .stack + 6 * h + k) 0
+abbrev pub choiceWord : ℕ → List ℕ → ℕ → ℕ → ℕ
+choiceWord stack w h k = getD w (stack + 6 * h + k) 0
 
 -- the words in which the cell of choice point h is open again
-unfoldable pub reopened : Setting → List ℕ → ℕ → List ℕ
-reopened g w h = set (set w (5 * choiceWord g w h 0) 0) (5 * choiceWord g w h 0 + 1) (choiceWord g w h 1)
+unfoldable pub reopened : ℕ → List ℕ → ℕ → List ℕ
+reopened stack w h = set (set w (5 * choiceWord stack w h 0) 0) (5 * choiceWord stack w h 0 + 1) (choiceWord stack w h 1)
 
 -- the registers with which the case of choice point h waits
-abbrev pub waitingAt : Setting → List ℕ → ℕ → Registers
-waitingAt g w h = record { control = Control.Part (choiceWord g w h 0); frame = choiceWord g w h 2; records = choiceWord g w h 3 }
+abbrev pub waitingAt : ℕ → List ℕ → ℕ → Registers
+waitingAt stack w h = record { control = Control.Part (choiceWord stack w h 0); frame = choiceWord stack w h 2; records = choiceWord stack w h 3 }
 
 -- A path: the words and registers stand for the state to which so many steps lead on the input, with cells for at most so many binds and records for
 -- the steps.
@@ -66,31 +69,31 @@ pub record Path (g : Setting) (w : List ℕ) (cells done binds : ℕ) (r : Regis
 -- from the cell's head on.
 pub record ChoiceAt (g : Setting) (w : List ℕ) (h : ℕ) (c : Choice) : Type 0 where
   pub state : State
-  pub path : Path g (reopened g w h) (choiceWord g w h 4) (choiceWord g w h 5) (choiceWord g w h 5) (waitingAt g w h) (c .input) state
+  pub path : Path g (reopened (g .stack) w h) (choiceWord (g .stack) w h 4) (choiceWord (g .stack) w h 5) (choiceWord (g .stack) w h 5) (waitingAt (g .stack) w h) (c .input) state
   pub asks : next (g .program) (c .input) state ≡ waits (c .question)
-  pub cell-is : cellOf (reopened g w h) (c .question .place) ≡ choiceWord g w h 0
-  pub in-time : choiceWord g w h 5 < g .limit
-  pub no-higher : h ≤ choiceWord g w h 5
-  pub left-is : c .left ≡ g .limit - suc (choiceWord g w h 5)
-  pub done-is : c .done ≡ suc (choiceWord g w h 5)
+  pub cell-is : cellOf (reopened (g .stack) w h) (c .question .place) ≡ choiceWord (g .stack) w h 0
+  pub in-time : choiceWord (g .stack) w h 5 < g .limit
+  pub no-higher : h ≤ choiceWord (g .stack) w h 5
+  pub left-is : c .left ≡ g .limit - suc (choiceWord (g .stack) w h 5)
+  pub done-is : c .done ≡ suc (choiceWord (g .stack) w h 5)
   pub untried-are :
       c .untried
-      ≡ untried (g .program .types) (leastDepths (g .program .types)) (cellWord w (choiceWord g w h 0) 2) (cellWord w (choiceWord g w h 0) 3)
-      (cellWord w (choiceWord g w h 0) 0)
+      ≡ untried (g .program .types) (leastDepths (g .program .types)) (cellWord w (choiceWord (g .stack) w h 0) 2) (cellWord w (choiceWord (g .stack) w h 0) 3)
+      (cellWord w (choiceWord (g .stack) w h 0) 0)
 
 -- So many choice points are these, the last first, and none has more cells and records than so many.
 pub data ChoicesAt (g : Setting) : List ℕ → ℕ → ℕ → ℕ → List Choice → Type 0 where
   no-choice : {w : List ℕ} {cells records : ℕ} → ChoicesAt g w 0 cells records []
-  one-choice : {w : List ℕ} {h cells records : ℕ} {c : Choice} {cs : List Choice} → ChoiceAt g w h c → choiceWord g w h 4 ≤ cells → choiceWord g w h 3 ≤ records
-      → ChoicesAt g (reopened g w h) h (choiceWord g w h 4) (choiceWord g w h 3) cs → ChoicesAt g w (suc h) cells records (c ∷ cs)
+  one-choice : {w : List ℕ} {h cells records : ℕ} {c : Choice} {cs : List Choice} → ChoiceAt g w h c → choiceWord (g .stack) w h 4 ≤ cells → choiceWord (g .stack) w h 3 ≤ records
+      → ChoicesAt g (reopened (g .stack) w h) h (choiceWord (g .stack) w h 4) (choiceWord (g .stack) w h 3) cs → ChoicesAt g w (suc h) cells records (c ∷ cs)
 
 -- What is written to make choice point h: six words behind the others.
-pub record Pushes (g : Setting) (w w′ : List ℕ) (h x frame records cells done : ℕ) : Type 0 where
+pub record Pushes (stack : ℕ) (w w′ : List ℕ) (h x frame records cells done : ℕ) : Type 0 where
   pub same-length : length w′ ≡ length w
-  pub word-0 : choiceWord g w′ h 0 ≡ x
-  pub word-1 : choiceWord g w′ h 1 ≡ cellWord w x 1
-  pub word-2 : choiceWord g w′ h 2 ≡ frame
-  pub word-3 : choiceWord g w′ h 3 ≡ records
-  pub word-4 : choiceWord g w′ h 4 ≡ cells
-  pub word-5 : choiceWord g w′ h 5 ≡ done
-  pub elsewhere : (i : ℕ) → (g .stack + 6 * h ≤ i → g .stack + 6 * (h + 1) ≤ i) → getD w′ i 0 ≡ getD w i 0
+  pub word-0 : choiceWord stack w′ h 0 ≡ x
+  pub word-1 : choiceWord stack w′ h 1 ≡ cellWord w x 1
+  pub word-2 : choiceWord stack w′ h 2 ≡ frame
+  pub word-3 : choiceWord stack w′ h 3 ≡ records
+  pub word-4 : choiceWord stack w′ h 4 ≡ cells
+  pub word-5 : choiceWord stack w′ h 5 ≡ done
+  pub elsewhere : (i : ℕ) → (stack + 6 * h ≤ i → stack + 6 * (h + 1) ≤ i) → getD w′ i 0 ≡ getD w i 0
