@@ -202,7 +202,8 @@ module _
 pub choices-kept :
     {g : Setting} {w : List ℕ} (w′ : List ℕ) {h cells records : ℕ} {cs : List Choice} → ChoicesAt g w h cells records cs → Kept g w w′ cells records h
     → ChoicesAt g w′ h cells records cs
-choices-kept w′ no-choice kept = no-choice
+choices-kept w′ (no-choice (few, cells)) kept =
+    no-choice (few, kept-cells w′ cells (rw (kept .same-length) (cells .fits)) (λ i l. kept .cells-kept i (omega arith)) .1)
 choices-kept {g} w′ (one-choice {h = h} at-h few-cells few-records rest) kept =
     one-kept w′ at-h few-cells few-records kept (choices-kept (reopened (g .stack) w′ h) rest (kept-before w′ at-h few-cells few-records kept))
 
@@ -210,6 +211,6 @@ choices-kept {g} w′ (one-choice {h = h} at-h few-cells few-records rest) kept 
 pub choices-more :
     {g : Setting} {w : List ℕ} {h cells records more-cells more-records : ℕ} {cs : List Choice} → cells ≤ more-cells → records ≤ more-records
     → ChoicesAt g w h cells records cs → ChoicesAt g w h more-cells more-records cs
-choices-more more fewer no-choice = no-choice
+choices-more {more-cells = cells} more fewer (no-choice (few, stands)) = no-choice {cells = cells} (omega arith, stands)
 choices-more {more-cells = cells} {more-records = records} more fewer (one-choice at-h few-cells few-records rest) =
     one-choice {cells = cells} {records = records} at-h (omega arith) (omega arith) rest

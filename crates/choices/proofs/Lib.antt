@@ -1,4 +1,6 @@
+pub mod Writing
 pub mod Keeping
 pub mod Pushing
 pub mod Taking
 pub mod Weights
+pub mod Returning

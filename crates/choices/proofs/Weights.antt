@@ -1,6 +1,6 @@
--- A number that falls with every move of the search, read off the words alone: a path with n steps left weighs 257 to the power n, and a choice
--- point as many paths as constructors may be left to it, each with one step less.
--- Rests on Keeping, Pushing and Taking.
+-- The weight of choice points: it stays while their words do, a new one weighs less than the path that it comes from, and one that takes its next
+-- constructor at least a path behind it less.
+-- Rests on specs/Weights, Keeping, Pushing and Taking.
 use Prim.Native.Nat.{ℕ, zero, suc, _+_, _*_, _-_, _≤_, _<_}
 use mathlib.Core.Path.{_≡_, refl, sym, _∙_, ap}
 use mathlib.Core.List.{List}
@@ -15,15 +15,10 @@ use Rattle.reach.specs.Moves.{Choice}
 use Rattle.machine.specs.Cells.{cellWord, cellOf, Binds}
 use Rattle.steps.specs.declared.Registers.{Registers}
 use Rattle.choices.specs.Choices.{Setting, Given, choiceWord, reopened, Path, ChoiceAt, ChoicesAt, no-choice, one-choice, Pushes}
-use Rattle.choices.proofs.Keeping as Keeping
+use Rattle.choices.specs.Weights.{power, weight}
 use Rattle.choices.proofs.Keeping.{Kept, word-kept, head-kept, kept-before}
 use Rattle.choices.proofs.Pushing as Pushing
 use Rattle.choices.proofs.Taking as Taking
-
--- the weight of a path with n steps left
-unfoldable pub power : ℕ → ℕ
-power zero = 1
-power (suc n) = 257 * power n
 
 pub power-positive : (n : ℕ) → 1 ≤ power n
 unfolding power
@@ -33,12 +28,6 @@ power-positive (suc n) = omega (arith, power-positive n)
 pub power-more : (n : ℕ) → power (suc n) ≡ 257 * power n
 unfolding power
 power-more n = refl
-
--- the weight of the choice points up to height h
-unfoldable pub weight : ℕ → ℕ → List ℕ → ℕ → ℕ
-weight stack limit w zero = 0
-weight stack limit w (suc h) =
-    (256 - cellWord w (choiceWord stack w h 0) 0) * power (limit - suc (choiceWord stack w h 5)) + weight stack limit (reopened stack w h) h
 
 pub weight-more :
     (stack limit : ℕ) (w : List ℕ) (h : ℕ)
@@ -52,7 +41,7 @@ pub weight-kept :
     {g : Setting} {w : List ℕ} (w′ : List ℕ) {h cells records : ℕ} {cs : List Choice} → ChoicesAt g w h cells records cs → Kept g w w′ cells records h
     → weight (g .stack) (g .limit) w′ h ≡ weight (g .stack) (g .limit) w h
 unfolding weight
-weight-kept w′ no-choice kept = refl
+weight-kept w′ (no-choice open-there) kept = refl
 weight-kept {g} w′ (one-choice {h = h} at-h few-cells few-records rest) kept =
     let z₀ = word-kept w′ at-h few-cells few-records kept 0 (omega arith) in
     let z₅ = word-kept w′ at-h few-cells few-records kept 5 (omega arith) in

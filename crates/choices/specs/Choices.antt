@@ -9,12 +9,13 @@ use mathlib.Core.List.{List, [], _∷_}
 use lib.ListN.{length, getD, set}
 use Rattle.reach.specs.Syntax.{Program, sourceTypes}
 use Rattle.reach.specs.Parts.{Parts}
-use Rattle.reach.specs.Types.{Typed, leastDepths}
+use Rattle.reach.specs.Types.{Typed, sourceSlots, leastDepths}
 use Rattle.reach.specs.Eval.{State, next, waits}
+use Rattle.reach.specs.Search.{openInput}
 use Rattle.reach.specs.Moves.{Choice}
 use Rattle.reach.specs.Answers.{check, accepted}
 use Rattle.reach.proofs.NeverStuck.{Steps}
-use Rattle.machine.specs.Cells.{cellWord, cellOf}
+use Rattle.machine.specs.Cells.{cellWord, cellOf, Cells}
 use Rattle.depths.specs.Table.{padded}
 use Rattle.forks.specs.Untried.{untried}
 use Rattle.steps.specs.declared.Control.the-variants as Control
@@ -81,9 +82,15 @@ pub record ChoiceAt (g : Setting) (w : List ℕ) (h : ℕ) (c : Choice) : Type 0
       ≡ untried (g .program .types) (leastDepths (g .program .types)) (cellWord w (choiceWord (g .stack) w h 0) 2) (cellWord w (choiceWord (g .stack) w h 0) 3)
       (cellWord w (choiceWord (g .stack) w h 0) 0)
 
--- So many choice points are these, the last first, and none has more cells and records than so many.
+-- every parameter is open, in the first cells, of which so many are in use
+abbrev pub AllOpen : Setting → List ℕ → ℕ → Type 0
+AllOpen g w cells =
+    (length (sourceTypes (g .program)) ≤ cells)
+    × Cells (g .program .types) (sourceSlots (g .program)) w (length (sourceTypes (g .program))) (openInput (g .program))
+
+-- So many choice points are these, the last first, and none has more cells and records than so many. Before the first of them every parameter is open.
 pub data ChoicesAt (g : Setting) : List ℕ → ℕ → ℕ → ℕ → List Choice → Type 0 where
-  no-choice : {w : List ℕ} {cells records : ℕ} → ChoicesAt g w 0 cells records []
+  no-choice : {w : List ℕ} {cells records : ℕ} → AllOpen g w cells → ChoicesAt g w 0 cells records []
   one-choice : {w : List ℕ} {h cells records : ℕ} {c : Choice} {cs : List Choice} → ChoiceAt g w h c → choiceWord (g .stack) w h 4 ≤ cells → choiceWord (g .stack) w h 3 ≤ records
       → ChoicesAt g (reopened (g .stack) w h) h (choiceWord (g .stack) w h 4) (choiceWord (g .stack) w h 3) cs → ChoicesAt g w (suc h) cells records (c ∷ cs)
 
