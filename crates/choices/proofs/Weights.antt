@@ -25,14 +25,14 @@ unfolding power
 power-positive zero = omega arith
 power-positive (suc n) = omega (arith, power-positive n)
 
-pub power-more : (n : ℕ) → power (suc n) ≡ 257 * power n
+pub power-more : (n : ℕ) → power (suc n) ≡ 258 * power n
 unfolding power
 power-more n = refl
 
 pub weight-more :
     (stack limit : ℕ) (w : List ℕ) (h : ℕ)
     → weight stack limit w (suc h)
-    ≡ (256 - cellWord w (choiceWord stack w h 0) 0) * power (limit - suc (choiceWord stack w h 5)) + weight stack limit (reopened stack w h) h
+    ≡ 1 + (256 - cellWord w (choiceWord stack w h 0) 0) * power (limit - suc (choiceWord stack w h 5)) + weight stack limit (reopened stack w h) h
 unfolding weight
 weight-more stack limit w h = refl
 
@@ -48,6 +48,11 @@ weight-kept {g} w′ (one-choice {h = h} at-h few-cells few-records rest) kept =
     let head = head-kept w′ at-h few-cells few-records kept in
     let before = weight-kept (reopened (g .stack) w′ h) rest (kept-before w′ at-h few-cells few-records kept) in
     rw (z₀, z₅, head, before)
+
+-- a choice point weighs something
+pub weight-some : (stack limit : ℕ) (w : List ℕ) (h : ℕ) → 0 < h → 1 ≤ weight stack limit w h
+weight-some stack limit w zero higher = absurd (omega arith)
+weight-some stack limit w (suc h) higher = omega (arith, weight-more stack limit w h)
 
 -- dropping a choice point does not add to it
 pub weight-dropped : (stack limit : ℕ) (w : List ℕ) (h : ℕ) → weight stack limit (reopened stack w h) h ≤ weight stack limit w (suc h)
@@ -65,7 +70,7 @@ weight-pushed {g} given {w} {w′} {done = done} {h = h} path in-time no-higher 
     let z₅ = pushes .word-5 in
     let head = Pushing.head-new given path in-time no-higher asks cell-is pushes in
     let before = weight-kept (reopened (g .stack) w′ h) choices (Pushing.kept given path in-time no-higher asks cell-is pushes) in
-    let all : weight (g .stack) (g .limit) w′ (suc h) ≡ 256 * power (g .limit - suc done) + weight (g .stack) (g .limit) w h =
+    let all : weight (g .stack) (g .limit) w′ (suc h) ≡ 1 + 256 * power (g .limit - suc done) + weight (g .stack) (g .limit) w h =
     weight-more (g .stack) (g .limit) w′ h ∙ rw (z₀, z₅, head, before) in
     rw left (omega (arith, all, power-more (g .limit - suc done), power-positive (g .limit - suc done)))
 
@@ -86,7 +91,7 @@ weight-taken {g} given {w} {h} at-h {w′} {n = n} known many few deep binds res
     let head = binds .new-head in
     let before = weight-kept (reopened (g .stack) w′ h) rest (Taking.kept given at-h known many few deep binds) in
     let p = power (g .limit - suc (choiceWord (g .stack) w h 5)) in
-    let after : weight (g .stack) (g .limit) w′ (suc h) ≡ (256 - suc n) * p + weight (g .stack) (g .limit) (reopened (g .stack) w h) h =
+    let after : weight (g .stack) (g .limit) w′ (suc h) ≡ 1 + (256 - suc n) * p + weight (g .stack) (g .limit) (reopened (g .stack) w h) h =
     weight-more (g .stack) (g .limit) w′ h ∙ rw (z₀, z₅, head, before) in
     let less = fewer (256 - suc n) (256 - cellWord w (choiceWord (g .stack) w h 0) 0) p (omega arith) in
     omega (arith, after, less, weight-more (g .stack) (g .limit) w h)
