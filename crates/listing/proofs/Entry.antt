@@ -1,21 +1,21 @@
 -- From the words that stand for the input to the row of its parameters, and what was written for it.
 -- Rests on Bytes, on specs/Entry and specs/Rows, on machine's Cells and on the lookups' Tables.
 use Prim.Native.Nat.{ℕ, suc, _+_, _-_, _≤_, _<_}
-use mathlib.Core.Path.{_≡_, refl, sym, _∙_, ap, subst}
-use mathlib.Core.List.{List, [], _∷_, map, head?}
-use mathlib.Core.Option.{Option, none, some, Option·none-ne-some}
+use mathlib.Core.Path.{_≡_, refl, sym, _∙_}
+use mathlib.Core.List.{List, [], _∷_, map}
+use mathlib.Core.Option.{some, Option·none-ne-some}
 use native.Mathlib.Decide.{decLt}
 use native.Mathlib.Omega.{arith}
 use lib.ListN.{length, getD}
 use lib.Seq.{sets}
-use Rattle.reach.specs.Syntax.{Types, fieldTypes}
+use Rattle.reach.specs.Syntax.{Types}
 use Rattle.reach.specs.Parts.{Parts, end, opened, bound, Place, here, after, inside, free, has, at, prefix}
 use Rattle.reach.specs.Places.{typeAt}
 use Rattle.reach.specs.Types.{Slot, Typed, slots, fieldSlots, slotAt}
 use Rattle.reach.proofs.Order.{There}
 use Rattle.lookups.specs.Fields.{fieldsIn}
 use Rattle.lookups.proofs.Tables.{fields-found, fields-missing, constructor-missing}
-use Rattle.machine.specs.Cells.{cellWord, cellFrom, Cells}
+use Rattle.machine.specs.Cells.{cellWord, cellFrom}
 use Rattle.listing.specs.declared.Mark.{Mark}
 use Rattle.listing.specs.declared.Written.the-variants as Written
 use Rattle.listing.specs.Rows.{RowAt, RowFits, WroteRow}

@@ -1,6 +1,6 @@
 -- The walk over a row of cells: what an open part and a bound part leave to write, and that what was written of the parts is the whole row.
 -- Rests on Bytes, specs/Rows and steps' Stepping.
-use Prim.Native.Nat.{ℕ, zero, suc, _+_, _-_, _≤_, _<_}
+use Prim.Native.Nat.{ℕ, _+_, _-_, _≤_, _<_}
 use mathlib.Core.Path.{_≡_, refl, sym, _∙_, ap}
 use mathlib.Core.List.{List, [], _∷_, _++_}
 use mathlib.Core.Logic.{_≢_}

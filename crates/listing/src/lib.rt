@@ -87,9 +87,10 @@ fn write_row<'a>(
         list[at] = OPEN;
         return write_row(file, types, work, first + 1, k - 1, fuel - 1, list, at + 1);
     }
+    let number = head - 1;
     let fields = cell_word(work, first, 1);
-    let n = field_count(file, types, cell_word(work, first, 2), head - 1);
-    list[at] = (head - 1) as u8;
+    let n = field_count(file, types, cell_word(work, first, 2), number);
+    list[at] = number as u8;
     let next = write_row(file, types, work, fields, n, fuel - 1, list, at + 1);
     write_row(file, types, work, first + 1, k - 1, fuel - 1, list, next)
 }

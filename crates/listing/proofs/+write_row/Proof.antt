@@ -78,17 +78,14 @@ module _ (t : ℕ) where
       wrote-open (c .before .before .before .before .before .before .if1 .left) (c .before .before .before .before .before .cell-word .ensures .0) (c .before .before .before .before .if2 .taken) (c .before .before .write-row .ensures)
 
   -- a bound part, its fields, and the rest of the row
+  sub-number : lts.Need-sub-number claims given write-row.Post
+  sub-number c = omega (arith, c .if2 .left)
+
   cell-word-requires-2 : lts.Need-cell-word-requires-2 claims given write-row.Post
   cell-word-requires-2 c κs = ((there (c .before .before)) .2, omega arith)
 
   cell-word-requires-3 : lts.Need-cell-word-requires-3 claims given write-row.Post
   cell-word-requires-3 c κs = ((there (c .before .before .before)) .2, omega arith)
-
-  sub-field-count : lts.Need-sub-field-count claims given write-row.Post
-  sub-field-count c = omega (arith, c .before .before .if2 .left)
-
-  sub-list : lts.Need-sub-list claims given write-row.Post
-  sub-list c = omega (arith, c .before .before .before .if2 .left)
 
   cast-list : lts.Need-cast-list claims given write-row.Post
   cast-list c =
@@ -155,6 +152,6 @@ pub +write-row-spec : {M : Type 1} → statement M
     (λ t. lts.spec (claims t) (given t) write-row.Post
     (returns t) (cell-word-requires t)
     (slice-write-list t) (add-write-row t) (sub-write-row t) (sub-write-row-2 t) (add-write-row-2 t) (write-row-requires t) (same-length t) (returns-2 t)
-    (cell-word-requires-2 t) (cell-word-requires-3 t) (sub-field-count t) (λ c κs. search needs) (sub-list t) (cast-list t)
+    (sub-number t) (cell-word-requires-2 t) (cell-word-requires-3 t) (λ c κs. search needs) (cast-list t)
     (slice-write-list-2 t) (sub-write-row-3 t) (add-write-row-3 t) (write-row-requires-2 t)
     (add-write-row-4 t) (sub-write-row-4 t) (sub-write-row-5 t) (write-row-requires-3 t) (same-length-2 t) (returns-3 t))
