@@ -1,0 +1,120 @@
+// One entry of the search's list, written from the input's cells in the lent words, only where it fits whole. Rests on crates
+// reach, lookups, machine and steps.
+ghost use mathlib.Core.Path.{_≡_};
+ghost use mathlib.Core.List.{[], _∷_, _++_};
+ghost use Prim.Native.Nat.{_+_, _≤_, _<_};
+ghost use lib.ListN.{length, getD};
+ghost use lib.Seq.{sets};
+ghost use Rattle.reach.specs.Lists.{wordBytes, kindBytes};
+ghost use Rattle.listing.specs.Rows.{RowFits, WroteRow};
+ghost use Rattle.listing.specs.Entry.{kindOf, Listable, WroteEntry};
+use steps::cell_word;
+use steps::field_count;
+
+// An open part, in prefix form.
+const OPEN: u8 = 0xFF;
+
+// The place behind the entry, or it does not fit.
+pub enum Written {
+    Behind(usize),
+    Full,
+}
+
+// The kind of an entry: `RE` or `UN`.
+pub enum Mark {
+    Reach,
+    Unfinished,
+}
+
+// Two bytes, as a byte string has them.
+fn put_two(list: &mut [u8], at: usize, two: &[u8; 2])
+    requires { ⌜ at + 2 ≤ length (now list) ⌝ }
+    ensures { λ _. ⌜ now (list .exit) ≡ sets (now (list .entry)) at (getD (now (two .entry)) 0 0 ∷ getD (now (two .entry)) 1 0 ∷ []) ⌝ }
+{
+    list[at] = two[0];
+    list[at + 1] = two[1];
+}
+
+// The mark of an entry.
+fn put_mark(list: &mut [u8], at: usize, mark: Mark)
+    requires { ⌜ at + 2 ≤ length (now list) ⌝ }
+    ensures { λ _. ⌜ now (list .exit) ≡ sets (now (list .entry)) at (kindBytes (kindOf mark)) ⌝ }
+{
+    match mark {
+        Mark::Reach => put_two(list, at, b"RE"),
+        Mark::Unfinished => put_two(list, at, b"UN"),
+    }
+}
+
+// A two-byte number, the low byte first.
+fn put_word(list: &mut [u8], at: usize, n: usize)
+    requires { ⌜ at + 2 ≤ length (now list) ⌝ }
+    ensures { λ _. ⌜ now (list .exit) ≡ sets (now (list .entry)) at (wordBytes n) ⌝ }
+{
+    list[at] = (n % 256) as u8;
+    list[at + 1] = (n / 256 % 256) as u8;
+}
+
+// The mark, the steps, and how many bytes follow.
+fn put_header(list: &mut [u8], at: usize, mark: Mark, steps: usize, bytes: usize)
+    requires { ⌜ at + 6 ≤ length (now list) ⌝ }
+    ensures { λ _. ⌜ now (list .exit) ≡ sets (now (list .entry)) at (kindBytes (kindOf mark) ++ (wordBytes steps ++ wordBytes bytes)) ⌝ }
+{
+    put_mark(list, at, mark);
+    put_word(list, at + 2, steps);
+    put_word(list, at + 4, bytes);
+}
+
+// The k parts in the cells from `first` on, in prefix form; the place behind them. No more than `fuel` bytes are written.
+fn write_row<'a>(
+    file: &'a [u8],
+    types: &'a [u16],
+    work: &'a [u32],
+    first: usize,
+    k: usize,
+    fuel: usize,
+    list: &mut [u8],
+    at: usize,
+) -> usize
+    requires { ⌜ RowFits (now file) (now types) (now work) first k fuel at (length (now list)) ⌝ }
+    ensures { λ r. ⌜ WroteRow (now (file .entry)) (now (types .entry)) (now (work .entry)) first k at (now (list .entry)) (now (list .exit)) r ⌝ }
+{
+    if k == 0 {
+        return at;
+    }
+    let head = cell_word(work, first, 0);
+    if head == 0 {
+        list[at] = OPEN;
+        return write_row(file, types, work, first + 1, k - 1, fuel - 1, list, at + 1);
+    }
+    let number = head - 1;
+    let fields = cell_word(work, first, 1);
+    let n = field_count(file, types, cell_word(work, first, 2), number);
+    list[at] = number as u8;
+    let next = write_row(file, types, work, fields, n, fuel - 1, list, at + 1);
+    write_row(file, types, work, first + 1, k - 1, fuel - 1, list, next)
+}
+
+// Writes one entry at a place of the list, if it fits whole: its mark, its steps, and the input that the words stand for, whose
+// parameters are the first cells of those in use.
+pub fn write_entry<'a>(
+    file: &'a [u8],
+    types: &'a [u16],
+    work: &'a [u32],
+    parameters: usize,
+    cells: usize,
+    mark: Mark,
+    steps: usize,
+    list: &mut [u8],
+    at: usize,
+) -> Written
+    requires { ⌜ Listable (now file) (now types) (now work) parameters cells × (at ≤ length (now list)) ⌝ }
+    ensures { λ r. ⌜ WroteEntry (now (file .entry)) (now (types .entry)) (now (work .entry)) parameters cells mark steps at (now (list .entry)) (now (list .exit)) r ⌝ }
+{
+    if list.len() - at < 6 + cells {
+        return Written::Full;
+    }
+    put_header(list, at, mark, steps, cells);
+    let behind = write_row(file, types, work, 0, parameters, cells, list, at + 6);
+    Written::Behind(behind)
+}
