@@ -125,6 +125,16 @@ cell-untried :
     → forks types table t room ≡ untried types table (cellWord w x 2) (cellWord w x 3) 0
 cell-untried types table w x t room type-is room-is = rw (type-is, room-is) (sym (untried-all types table t room))
 
+-- the choice point of a case that waits after so many steps, with every constructor of the fork untried
+abbrev pub newChoice : Setting → Question → ℕ → Parts → Choice
+newChoice g q done e = record {
+  question = q;
+  left = g .limit - suc done;
+  done = suc done;
+  input = e;
+  untried = branches (g .program) (leastDepths (g .program .types)) e q;
+}
+
 -- Six words behind the other choice points are written.
 module _
     {g : Setting} (given : Given g) {w w′ : List ℕ} {cells done h : ℕ} {r : Registers} {e : Parts} {s : State} {q : Question} {x : ℕ}
@@ -199,21 +209,10 @@ module _
         ∙ cell-untried (g .program .types) (leastDepths (g .program .types)) w x t room (ap (λ y. cellWord w y 2) (sym cell-is) ∙ said .0)
         (ap (λ y. cellWord w y 3) (sym cell-is) ∙ said .1)
 
-    -- the choice point of the case that waits, with every constructor of the fork untried
-    pub newChoice : Choice
-    newChoice = record {
-      question = q;
-      left = g .limit - suc done;
-      done = suc done;
-      input = e;
-      untried = branches (g .program) (leastDepths (g .program .types)) e q;
-    }
-
     pub head-new : cellWord w′ x 0 ≡ 0
     head-new = above (5 * x + 0) (omega (arith, cells-low, base-low, below)) ∙ (let z : 5 * x + 0 ≡ 5 * x = omega arith in rw z head-open)
 
-    choice-at : ChoiceAt g w′ h newChoice
-    unfolding newChoice
+    choice-at : ChoiceAt g w′ h (newChoice g q done e)
     choice-at =
         let z₀ = pushes .word-0 in
         let z₂ = pushes .word-2 in
@@ -236,7 +235,7 @@ module _
           untried-are = rw (z₀, type, room, head-new) all-untried;
         }
 
-    pub choices-pushed : {cs : List Choice} → ChoicesAt g w h cells (r .records) cs → ChoicesAt g w′ (suc h) cells (r .records) (newChoice ∷ cs)
+    pub choices-pushed : {cs : List Choice} → ChoicesAt g w h cells (r .records) cs → ChoicesAt g w′ (suc h) cells (r .records) (newChoice g q done e ∷ cs)
     choices-pushed {cs} rest =
         let z₃ = pushes .word-3 in
         let z₄ = pushes .word-4 in

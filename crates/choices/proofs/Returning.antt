@@ -176,16 +176,18 @@ module _ (file types least w₀ : List ℕ) (stack height : ℕ) where
         let now = came functions p limit base cells records cs given at-first in
         let last = last-choice (now .choices-at) higher in
         let next = next-found given (last .choice-at) n i k found in
-        let one : suc (h - 1) ≡ h = omega arith in
-        (same-length, record {
-          lower = omega (arith, now .no-higher);
-          choice = last .choice;
-          before = last .before;
-          next-at = next;
-          before-at = last .before-at;
-          returns = λ es. now .returns es ∙ ap (λ ds. return p (leastDepths (p .types)) ds es) (last .choices-are) ∙ (return-here p (leastDepths (p .types)) (last .choice) (record { constructor = n; fields = k }) (next .rest) (last .before) es (next .untried-is));
-          no-heavier = omega (arith, ap (weight stack limit w) one, now .no-heavier);
-        })
+        let one : suc (h - 1) ≡ h = omega arith in (
+          same-length,
+          record {
+            lower = omega (arith, now .no-higher);
+            choice = last .choice;
+            before = last .before;
+            next-at = next;
+            before-at = last .before-at;
+            returns = λ es. now .returns es ∙ ap (λ ds. return p (leastDepths (p .types)) ds es) (last .choices-are) ∙ (return-here p (leastDepths (p .types)) (last .choice) (record { constructor = n; fields = k }) (next .rest) (last .before) es (next .untried-is));
+            no-heavier = omega (arith, ap (weight stack limit w) one, now .no-heavier);
+          },
+        )
 
     -- or there is none
     pub came-nowhere : h ≤ 0 → length w ≡ length w₀ → Returns file types least w₀ w stack height Return.Nowhere

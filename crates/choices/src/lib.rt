@@ -1,14 +1,12 @@
 // Choice points in the lent words, above the records: one is made where a case waits on an open part, its cell is bound to one
-// constructor after the other, and it is dropped, its cell open again, when none is left. Rests on crates cells, steps and forks.
+// constructor after the other, and it is dropped, its cell open again, when none is left. Rests on crates steps and forks.
 ghost use mathlib.Core.Path.{_≡_};
-ghost use Prim.Native.Nat.{_+_, _*_, _-_, _≤_, _<_};
+ghost use Prim.Native.Nat.{_+_, _*_, _≤_, _<_};
 ghost use lib.ListN.{length};
-ghost use Rattle.reach.specs.Places.{bytesAt};
-ghost use Rattle.machine.specs.Cells.{Binds, cellWord};
+ghost use Rattle.machine.specs.Cells.{cellWord};
 ghost use Rattle.forks.specs.Untried.{NextFork};
 ghost use Rattle.choices.specs.Choices.{choiceWord, reopened, Pushes};
 ghost use Rattle.choices.specs.Returning.{Returns, SomeChoices};
-use cells::bind_cell;
 use depths::Depths;
 use forks::Candidate;
 use forks::next_fork;
@@ -112,23 +110,4 @@ pub fn find_return<'a>(
         h -= 1;
     }
     Return::Nowhere
-}
-
-// Choice point h takes constructor c, whose k fields' types stand from a place of the file on: its cell is bound to it.
-pub fn take(
-    file: &[u8],
-    work: &mut [u32],
-    stack: usize,
-    h: usize,
-    c: usize,
-    fields: usize,
-    k: usize,
-)
-    requires { ⌜ (stack ≤ 1000000) × (h ≤ 1000000) × (choiceWord stack (now work) h 0 < choiceWord stack (now work) h 4) × (choiceWord stack (now work) h 4 ≤ 1000000) ⌝ }
-    requires { ⌜ (5 * (choiceWord stack (now work) h 4 + k) ≤ length (now work)) × (c ≤ 255) × (k ≤ 255) × (fields ≤ 1000000) × (cellWord (now work) (choiceWord stack (now work) h 0) 3 ≤ 255) ⌝ }
-    ensures { λ _. ⌜ Binds (now (work .entry)) (now (work .exit)) (choiceWord stack (now (work .entry)) h 0) c (choiceWord stack (now (work .entry)) h 4) k (bytesAt (now (file .entry)) fields k) (cellWord (now (work .entry)) (choiceWord stack (now (work .entry)) h 0) 3 - 1) ⌝ }
-{
-    let x = choice_word(work, stack, h, 0);
-    let top = choice_word(work, stack, h, 4);
-    bind_cell(file, work, x, c, fields, k, top);
 }

@@ -1,0 +1,237 @@
+-- A path arrives at its state: what `arrive` does is what the model does, by what the step found.
+-- Rests on specs/Moving and on choices' Keeping, Pushing, Taking and Weights.
+use Prim.Native.Nat.{ℕ, zero, suc, _+_, _*_, _-_, _≤_, _<_}
+use mathlib.Core.Path.{_≡_, refl, sym, _∙_, ap, subst}
+use mathlib.Core.List.{List, [], _∷_, _++_, append-nil}
+use native.Mathlib.Omega.{arith}
+use lib.ListN.{length}
+use Rattle.reach.specs.Syntax.{Program}
+use Rattle.reach.specs.Parts.{Parts, at}
+use Rattle.reach.specs.Types.{leastDepths}
+use Rattle.reach.specs.Eval as Eval
+use Rattle.reach.specs.Eval.{State, Question}
+use Rattle.reach.specs.Search.{Kind, RE, UN, Entry, branches}
+use Rattle.reach.specs.Moves as Model
+use Rattle.reach.specs.Moves.{Choice}
+use Rattle.reach.proofs.Order.{There}
+use Rattle.reach.proofs.Evaluation.{waits-free}
+use Rattle.machine.specs.Cells.{cellOf}
+use Rattle.machine.proofs.Cells.{kept-cells}
+use Rattle.steps.specs.declared.Registers.{Registers}
+use Rattle.steps.specs.declared.Next.{Next}
+use Rattle.steps.specs.declared.Next.the-variants as Next
+use Rattle.steps.specs.Stepping.{Standing, StepMeans, Stepped}
+use Rattle.choices.specs.Choices.{Setting, Given, Path, ChoicesAt, Pushes}
+use Rattle.choices.specs.Weights.{power, weight}
+use Rattle.choices.specs.Returning.{setting}
+use Rattle.choices.proofs.Keeping.{choices-kept, choices-more}
+use Rattle.choices.proofs.Pushing.{newChoice, choices-pushed}
+use Rattle.choices.proofs.Taking.{step-kept, path-stays, path-goes}
+use Rattle.choices.proofs.Weights.{power-positive, power-more, weight-kept, weight-pushed}
+use Rattle.choices.proofs.Returning.{limit-few}
+use Rattle.moves.specs.declared.Position.the-variants as Position
+use Rattle.moves.specs.declared.Walk.{Walk}
+use Rattle.moves.specs.declared.Listing.{Listing}
+use Rattle.moves.specs.declared.Listing.the-variants as Listing
+use Rattle.moves.specs.declared.Moved.{Moved}
+use Rattle.moves.specs.Moving.{UnderWay, EntryIn, Lists, Makes, SomeUnderWay}
+
+-- The model's arrival, by what comes next.
+module _ (p : Program) (table : List ℕ) (left n : ℕ) (e : Parts) (s : State) (cs : List Choice) (es : List Entry) where
+  demanded : Eval.next p e s ≡ Eval.demands → Model.arrive p table left n e s cs es ≡ Model.behind cs (es ++ (record { kind = RE; steps = n; input = e } ∷ []))
+  unfolding Model.arrive Model.settle
+  demanded next = by-left left
+    where
+      by-left : (l : ℕ) → Model.arrive p table l n e s cs es ≡ Model.behind cs (es ++ (record { kind = RE; steps = n; input = e } ∷ []))
+      by-left zero = rw next
+      by-left (suc l) = rw next
+
+  stopped : (why : Eval.Stop) → Eval.next p e s ≡ Eval.stops why → Model.arrive p table left n e s cs es ≡ Model.behind cs (es ++ [])
+  unfolding Model.arrive Model.settle
+  stopped why next = by-left left
+    where
+      by-left : (l : ℕ) → Model.arrive p table l n e s cs es ≡ Model.behind cs (es ++ [])
+      by-left zero = rw (next, append-nil es)
+      by-left (suc l) = rw (next, append-nil es)
+
+  gone-on :
+      (l : ℕ) (s′ : State) → left ≡ suc l → Eval.next p e s ≡ Eval.goes s′
+      → Model.arrive p table left n e s cs es
+      ≡ record { position = Model.on (record { state = s′; left = l; done = suc n; input = e }); choices = cs; listed = es ++ [] }
+  unfolding Model.arrive Model.settle
+  gone-on l s′ more next = rw (more, next, append-nil es)
+
+  forked :
+      (l : ℕ) (q : Question) → left ≡ suc l → Eval.next p e s ≡ Eval.waits q
+      → Model.arrive p table left n e s cs es
+      ≡ Model.behind (record { question = q; left = l; done = suc n; input = e; untried = branches p table e q } ∷ cs) (es ++ [])
+  unfolding Model.arrive Model.settle
+  forked l q more next = rw (more, next, append-nil es)
+
+  spent-going : (s′ : State) → left ≡ zero → Eval.next p e s ≡ Eval.goes s′ → Model.arrive p table left n e s cs es ≡ Model.behind cs (es ++ (record { kind = UN; steps = n; input = e } ∷ []))
+  unfolding Model.arrive Model.settle
+  spent-going s′ none next = rw (none, next)
+
+  spent-waiting : (q : Question) → left ≡ zero → Eval.next p e s ≡ Eval.waits q → Model.arrive p table left n e s cs es ≡ Model.behind cs (es ++ (record { kind = UN; steps = n; input = e } ∷ []))
+  unfolding Model.arrive Model.settle
+  spent-waiting q none next = rw (none, next)
+
+-- what `over` answers
+abbrev pub ended : ℕ → ℕ → ℕ → Listing → Moved
+ended cells done height listing = record { walk = record { position = Position.Over; cells = cells; done = done; height = height }; listing = listing }
+
+-- what stands for a path under way is what a step asks
+pub step-standing :
+    {g : Setting} {w : List ℕ} {cells done binds : ℕ} {r : Registers} {e : Parts} {s : State} → Given g → Path g w cells done binds r e s
+    → Standing (g .file) (g .types) (g .functions) w (g .base) r
+step-standing {g} {cells = cells} {e = e} {s} given path =
+    record { program = g .program; cells = cells; input = e; state = s; file-of = given .file-of; stands = path .stands }
+
+module _
+    {g : Setting} (given : Given g) {w : List ℕ} {cells done height : ℕ} {r : Registers} {e : Parts} {s : State} {cs : List Choice}
+    (now : UnderWay g w cells done height r e s cs) {label : ℕ} (sought : label ≡ g .program .label) {w′ : List ℕ} {n : Next}
+    (stepped : Stepped (g .file) (g .types) (g .functions) w w′ (g .base) label r n)
+  where
+    abbrev model : List Entry → Model.Walk
+    model = Model.arrive (g .program) (leastDepths (g .program .types)) (g .limit - done) done e s cs
+
+    abbrev bound : ℕ
+    bound = power (g .limit - done) + weight (g .stack) (g .limit) w height
+
+    means : (n′ : Next) → n ≡ n′ → StepMeans (g .file) (g .types) (g .functions) w w′ (g .base) r (g .program) e s n′
+    means n′ is =
+        subst (StepMeans (g .file) (g .types) (g .functions) w w′ (g .base) r (g .program) e s) is
+        (stepped .steps (g .program) sought cells e s (given .file-of) (now .path .stands))
+
+    choices-stay : ChoicesAt g w′ height cells (r .records) cs
+    choices-stay = choices-kept w′ (now .choices) (step-kept given (now .path) (now .in-time) (stepped .only-top) height)
+
+    weight-stays : weight (g .stack) (g .limit) w′ height ≡ weight (g .stack) (g .limit) w height
+    weight-stays = weight-kept w′ (now .choices) (step-kept given (now .path) (now .in-time) (stepped .only-top) height)
+
+    path-now : Path g w′ cells done done r e s
+    path-now = path-stays given (now .path) (now .in-time) (stepped .only-top)
+
+    -- behind the end of the path
+    behind :
+        (listing : Listing) (new : List Entry) → ((es : List Entry) → model es ≡ Model.behind cs (es ++ new))
+        → Lists g w′ (ended cells done height listing .walk) listing new → Makes g w w′ bound (ended cells done height listing) model
+    behind listing new model-is lists = record {
+      position = Model.over;
+      choices = cs;
+      new = new;
+      model-is = model-is;
+      stands = (cells, r .records, choices-stay);
+      lists = lists;
+      lighter = omega (arith, weight-stays, power-positive (g .limit - done));
+      same-length = stepped .only-top .same-length;
+    }
+
+    entry-in : (kind : Kind) → EntryIn g w′ (ended cells done height Listing.Nothing .walk) kind (record { kind = kind; steps = done; input = e } ∷ [])
+    entry-in kind = (e, refl, path-now .stands .input, path-now .typed)
+
+    pub arrive-demands : n ≡ Next.Demands → Makes g w w′ bound (ended cells done height Listing.Reached) model
+    arrive-demands is =
+        behind Listing.Reached _ (λ es. demanded (g .program) _ (g .limit - done) done e s cs es (means Next.Demands is)) (entry-in RE)
+
+    pub arrive-stops : n ≡ Next.Stops → Makes g w w′ bound (ended cells done height Listing.Nothing) model
+    arrive-stops is =
+        let (why, next) = means Next.Stops is in
+        behind Listing.Nothing [] (λ es. stopped (g .program) _ (g .limit - done) done e s cs es why next) refl
+
+    -- the steps are used up
+    module _ (late : g .limit ≤ done) where
+      none : g .limit - done ≡ zero
+      none = omega arith
+
+      pub arrive-spent-going : {to : Registers} → n ≡ Next.Goes to → Makes g w w′ bound (ended cells done height Listing.Unfinished) model
+      arrive-spent-going {to} is =
+          let (s′, next, follows) = means (Next.Goes to) is in
+          behind Listing.Unfinished _ (λ es. spent-going (g .program) _ (g .limit - done) done e s cs es s′ none next) (entry-in UN)
+
+      pub arrive-spent-waiting : {x : ℕ} → n ≡ Next.Waits x → Makes g w w′ bound (ended cells done height Listing.Unfinished) model
+      arrive-spent-waiting {x} is =
+          let (q, next, cell) = means (Next.Waits x) is in
+          behind Listing.Unfinished _ (λ es. spent-waiting (g .program) _ (g .limit - done) done e s cs es q none next) (entry-in UN)
+
+    -- or not
+    module _ (in-time : done < g .limit) where
+      more : g .limit - done ≡ suc (g .limit - suc done)
+      more = omega arith
+
+      -- one step more
+      pub arrive-goes :
+          {to : Registers} → n ≡ Next.Goes to
+          → Makes g w w′ bound (record { walk = record { position = Position.On to; cells = cells; done = done + 1; height = height }; listing = Listing.Nothing }) model
+      arrive-goes {to} is =
+          let (s′, next, follows) = means (Next.Goes to) is in
+          let one : done + 1 ≡ suc done = omega arith in
+          let path = path-goes given (now .path) (now .in-time) (stepped .only-top) follows next in
+          let under : UnderWay g w′ cells (done + 1) height to e s′ cs =
+          rw one (record {
+            path = record { stands = path .stands; typed = path .typed; steps = path .steps; few-cells = omega (arith, path .few-cells); few-records = path .few-records; long = path .long };
+            in-time = omega arith;
+            no-higher = omega (arith, now .no-higher);
+            choices = choices-more (omega arith) (follows .no-fewer) choices-stay;
+          }) in
+          record {
+            position = Model.on (record { state = s′; left = g .limit - suc done; done = suc done; input = e });
+            choices = cs;
+            new = [];
+            model-is = λ es. gone-on (g .program) _ (g .limit - done) done e s cs es (g .limit - suc done) s′ more next;
+            stands = (sym one, rw one refl, under);
+            lists = refl;
+            lighter = rw one (omega (arith, weight-stays, ap power more, power-more (g .limit - suc done), power-positive (g .limit - suc done)));
+            same-length = stepped .only-top .same-length;
+          }
+
+      -- a choice point
+      module _ {x : ℕ} (is : n ≡ Next.Waits x) where
+        asked : (q : Question) × (Eval.next (g .program) e s ≡ Eval.waits q) × (cellOf w (q .place) ≡ x)
+        asked = means (Next.Waits x) is
+
+        cell-now : cellOf w′ (asked .0 .place) ≡ x
+        cell-now =
+            let there : There (at e (asked .0 .place)) = subst There (sym (waits-free (g .program) e s (asked .0) (asked .1))) tt in
+            kept-cells w′ (now .path .stands .input) (path-now .stands .input .fits) (step-kept given (now .path) (now .in-time) (stepped .only-top) height .cells-kept) .0
+            (asked .0 .place) there
+            ∙ asked .2
+
+        below : x < cells
+        below =
+            let there : There (at e (asked .0 .place)) = subst There (sym (waits-free (g .program) e s (asked .0) (asked .1))) tt in
+            rw (← asked .2) (now .path .stands .input .in-use (asked .0 .place) there)
+
+        -- there is room for it, and the numbers that it keeps are small
+        pub push-bounds :
+            ((g .stack + 6 * (height + 1) ≤ length w′) × (x ≤ 1000000) × (5 * x + 1 < g .stack))
+            × ((r .frame < 4294967296) × (r .records < 4294967296) × (cells < 4294967296) × (done < 4294967296))
+        push-bounds =
+            let few = limit-few given in
+            let long = path-now .long in
+            let low = now .path .stands .apart in
+            let cells-few = now .path .few-cells in
+            let records-few = now .path .few-records in
+            let framed = now .path .stands .space .frame-below in
+            let lower = now .no-higher in
+            let used = below in
+            let base-is = given .base-is in
+            let stack-is = given .stack-is in
+            ((omega arith, omega arith, omega arith), (omega arith, omega arith, omega arith, omega arith))
+
+        pub arrive-waits :
+            {w″ : List ℕ} → Pushes (g .stack) w′ w″ height x (r .frame) (r .records) cells done
+            → Makes g w w″ bound (ended cells done (height + 1) Listing.Nothing) model
+        arrive-waits {w″} pushes =
+            let one : height + 1 ≡ suc height = omega arith in
+            let high = choices-pushed given path-now in-time (now .no-higher) (asked .1) cell-now pushes choices-stay in
+            record {
+              position = Model.over;
+              choices = newChoice g (asked .0) done e ∷ cs;
+              new = [];
+              model-is = λ es. forked (g .program) _ (g .limit - done) done e s cs es (g .limit - suc done) (asked .0) more (asked .1);
+              stands = (cells, r .records, rw one high);
+              lists = refl;
+              lighter = rw one (omega (arith, weight-stays, weight-pushed given path-now in-time (now .no-higher) (asked .1) cell-now pushes choices-stay));
+              same-length = pushes .same-length ∙ stepped .only-top .same-length;
+            }

@@ -1,0 +1,223 @@
+-- A choice point takes its next constructor: the cell is bound, one step leads behind the case, and the path arrives there.
+-- Rests on specs/Moving, Arriving, and choices' Keeping, Taking and Weights.
+use Prim.Native.Nat.{ℕ, zero, suc, _+_, _*_, _-_, _≤_, _<_}
+use mathlib.Core.Path.{_≡_, refl, sym, _∙_, ap, subst}
+use mathlib.Core.List.{List, [], _∷_, _++_}
+use mathlib.Core.Option.{some}
+use native.Mathlib.Omega.{arith}
+use lib.ListN.{length, getD}
+use Rattle.reach.specs.Syntax.{Program, sourceTypes}
+use Rattle.reach.specs.Parts.{Parts, bindAt}
+use Rattle.reach.specs.Types.{sourceSlots, leastDepths}
+use Rattle.reach.specs.Places.{bytesAt}
+use Rattle.reach.specs.Eval as Eval
+use Rattle.reach.specs.Eval.{State, answered}
+use Rattle.reach.specs.Search.{Entry}
+use Rattle.reach.specs.Moves as Model
+use Rattle.reach.specs.Moves.{Choice, takeFork}
+use Rattle.reach.proofs.Base.{clash}
+use Rattle.reach.proofs.Limits.{accepted-keeps}
+use Rattle.reach.proofs.NeverStuck.{never-stuck}
+use Rattle.machine.specs.Cells.{cellWord, cellOf, Binds}
+use Rattle.cells.proofs.Writing.{bytes-length}
+use Rattle.cells.proofs.Rooms.{cell-room}
+use Rattle.steps.specs.declared.Control.the-variants as Control
+use Rattle.steps.specs.declared.Registers.{Registers}
+use Rattle.steps.specs.declared.Next.{Next}
+use Rattle.steps.specs.declared.Next.the-variants as Next
+use Rattle.steps.specs.Stepping.{Standing, StepMeans, Stepped}
+use Rattle.choices.specs.Choices.{Setting, Given, choiceWord, reopened, waitingAt, Path, ChoicesAt}
+use Rattle.choices.specs.Weights.{power, weight}
+use Rattle.choices.proofs.Keeping.{reopened-other, there, cell-below, choices-kept, choices-more}
+use Rattle.choices.proofs.Taking.{path-taken, goes-taken, choices-taken, step-kept, path-goes}
+use Rattle.choices.proofs.Weights.{weight-kept, weight-taken}
+use Rattle.choices.proofs.Returning.{limit-few, stack-small, height-small, long, cells-small}
+use Rattle.moves.specs.declared.Moved.{Moved}
+use Rattle.moves.specs.Moving.{UnderWay, Makes, SomeUnderWay, Arrives, registersAfter, Forking, SomeForking, Takes}
+use Rattle.moves.proofs.Arriving.{step-standing}
+
+-- the model's fork, where the choice point's numbers are known
+take-is :
+    (p : Program) (table : List ℕ) (c : Choice) (n k left done : ℕ) (rest : List Rattle.reach.specs.Types.Fork) (before : List Choice) (es : List Entry)
+    → c .left ≡ left → c .done ≡ done
+    → takeFork p table c (record { constructor = n; fields = k }) rest before es
+    ≡ Model.arrive p table left done (bindAt (c .question .place) n k (c .input)) (answered (c .question) n k)
+    (record { question = c .question; left = c .left; done = c .done; input = c .input; untried = rest } ∷ before) es
+unfolding takeFork
+take-is p table c n k left done rest before es is-left is-done =
+    ap (λ (l : ℕ). Model.arrive p table l (c .done) (bindAt (c .question .place) n k (c .input)) (answered (c .question) n k) (record { question = c .question; left = c .left; done = c .done; input = c .input; untried = rest } ∷ before) es) is-left
+    ∙ ap (λ (d : ℕ). Model.arrive p table left d (bindAt (c .question .place) n k (c .input)) (answered (c .question) n k) (record { question = c .question; left = c .left; done = c .done; input = c .input; untried = rest } ∷ before) es) is-done
+
+module _ {g : Setting} (given : Given g) {w : List ℕ} {h n i k : ℕ} (f : Forking g w h n i k) where
+  abbrev x : ℕ
+  x = choiceWord (g .stack) w h 0
+
+  abbrev d : ℕ
+  d = choiceWord (g .stack) w h 5
+
+  abbrev c : Choice
+  c = f .choice
+
+  abbrev afterwards : Choice
+  afterwards = record { question = c .question; left = c .left; done = c .done; input = c .input; untried = f .next-at .rest }
+
+  abbrev bound : Parts
+  bound = bindAt (c .question .place) n k (c .input)
+
+  many : k ≡ length (bytesAt (g .file) i k)
+  many = sym (bytes-length (g .file) i k)
+
+  few : k ≤ 6
+  few = omega (arith, many, accepted-keeps (g .file) (g .program) (given .checked) .fields-limit _ n (bytesAt (g .file) i k) (f .next-at .known))
+
+  -- the cell may be no deeper than a parameter
+  shallow : cellWord w x 3 ≤ 255
+  unfolding sourceSlots
+  shallow =
+      let at-h = f .next-at .choice-at in
+      let found = never-stuck (g .file) (g .program) (given .checked) (c .input) (at-h .path .typed) (at-h .path .steps) .1 (c .question) (at-h .asks) in
+      let low = cell-room (sourceTypes (g .program)) (g .program .depth) (c .question .place) (at-h .path .stands .input) (there at-h) (found .1 .1) in
+      let same : cellWord (reopened (g .stack) w h) x 3 ≡ cellWord w x 3 = reopened-other g w h (5 * x + 3) (omega arith) (omega arith) in
+      let moved : cellWord (reopened (g .stack) w h) (cellOf (reopened (g .stack) w h) (c .question .place)) 3 ≡ cellWord (reopened (g .stack) w h) x 3 =
+      ap (λ y. cellWord (reopened (g .stack) w h) y 3) (at-h .cell-is) in
+      omega (arith, accepted-keeps (g .file) (g .program) (given .checked) .depth-limit .1)
+
+  pub height-few : h ≤ 4096
+  height-few = height-small given (f .next-at .choice-at)
+
+  pub stack-few : g .stack ≤ 1000000
+  stack-few = stack-small given
+
+  -- the cell can be bound
+  pub bindable :
+      (x < choiceWord (g .stack) w h 4) × (5 * (choiceWord (g .stack) w h 4 + k) ≤ length w) × (n ≤ 255) × (k ≤ 255) × (i ≤ 1000000) × (choiceWord (g .stack) w h 4 ≤ 1000000)
+      × (cellWord w x 3 ≤ 255)
+  bindable =
+      let at-h = f .next-at .choice-at in (
+        cell-below at-h,
+        omega (arith, at-h .path .few-cells, at-h .in-time, long given at-h, few),
+        f .next-at .small,
+        omega (arith, few),
+        f .next-at .near,
+        cells-small given at-h,
+        shallow,
+      )
+
+  -- bound it is
+  module _ {w₁ : List ℕ} (binds : Binds w w₁ x n (choiceWord (g .stack) w h 4) k (bytesAt (g .file) i k) (cellWord w x 3 - 1)) where
+    path₁ : Path g w₁ (choiceWord (g .stack) w h 4 + k) d (suc d) (waitingAt (g .stack) w h) bound (f .next-at .choice-at .state)
+    path₁ = path-taken given (f .next-at .choice-at) (f .next-at .known) many few (f .next-at .deep) binds
+
+    on : Eval.next (g .program) bound (f .next-at .choice-at .state) ≡ Eval.goes (answered (c .question) n k)
+    on = goes-taken given (f .next-at .choice-at) (f .next-at .known) many few (f .next-at .deep) binds
+
+    choices₁ : ChoicesAt g w₁ (suc h) (choiceWord (g .stack) w h 4 + k) (choiceWord (g .stack) w h 3) (afterwards ∷ f .before)
+    choices₁ =
+        choices-taken given (f .next-at .choice-at) (f .next-at .known) many few (f .next-at .deep) binds afterwards refl refl refl refl (f .next-at .rest-is) (f .before-at)
+
+    lighter₁ : weight (g .stack) (g .limit) w₁ (suc h) + power (g .limit - suc d) ≤ weight (g .stack) (g .limit) w (suc h)
+    lighter₁ =
+        weight-taken given (f .next-at .choice-at) (f .next-at .known) many few (f .next-at .deep) binds (f .before-at) (f .next-at .from) (f .next-at .small)
+
+    in-time₁ : d ≤ g .limit
+    in-time₁ = omega (arith, f .next-at .choice-at .in-time)
+
+    pub take-standing : Standing (g .file) (g .types) (g .functions) w₁ (g .base) (waitingAt (g .stack) w h)
+    take-standing = step-standing given path₁
+
+    module _ {label : ℕ} (sought : label ≡ g .program .label) {w₂ : List ℕ} {next : Next} (stepped : Stepped (g .file) (g .types) (g .functions) w₁ w₂ (g .base) label (waitingAt (g .stack) w h) next) where
+      means : (n′ : Next) → next ≡ n′ → StepMeans (g .file) (g .types) (g .functions) w₁ w₂ (g .base) (waitingAt (g .stack) w h) (g .program) bound (f .next-at .choice-at .state) n′
+      means n′ is =
+          subst (StepMeans (g .file) (g .types) (g .functions) w₁ w₂ (g .base) (waitingAt (g .stack) w h) (g .program) bound (f .next-at .choice-at .state)) is
+          (stepped .steps (g .program) sought (choiceWord (g .stack) w h 4 + k) bound (f .next-at .choice-at .state) (given .file-of) (path₁ .stands))
+
+      -- the step goes on
+      pub goes-on : (to : Registers) × (next ≡ Next.Goes to)
+      goes-on = by-next next refl
+        where
+          by-next : (n′ : Next) → next ≡ n′ → (to : Registers) × (next ≡ Next.Goes to)
+          by-next Next.Demands is = absurd (clash (cc (means Next.Demands is, on)))
+          by-next Next.Stops is = let (why, stop) = means Next.Stops is in absurd (clash (cc (stop, on)))
+          by-next (Next.Goes to) is = (to, is)
+          by-next (Next.Waits y) is = let (q, wait, cell) = means (Next.Waits y) is in absurd (clash (cc (wait, on)))
+
+      module _ {to : Registers} (is : next ≡ Next.Goes to) where
+        kept₂ : weight (g .stack) (g .limit) w₂ (suc h) ≡ weight (g .stack) (g .limit) w₁ (suc h)
+        kept₂ = weight-kept w₂ choices₁ (step-kept given path₁ in-time₁ (stepped .only-top) (suc h))
+
+        pub under : UnderWay g w₂ (choiceWord (g .stack) w h 4 + k) (d + 1) (h + 1) to bound (answered (c .question) n k) (afterwards ∷ f .before)
+        under =
+            let (s′, next-is, follows) = means (Next.Goes to) is in
+            let same : s′ ≡ answered (c .question) n k = cc (next-is, on) in
+            let one : d + 1 ≡ suc d = omega arith in
+            let high : h + 1 ≡ suc h = omega arith in
+            let path = path-goes given path₁ in-time₁ (stepped .only-top) follows next-is in
+            rw (one, high, ← same) (record {
+              path = path;
+              in-time = omega (arith, f .next-at .choice-at .in-time);
+              no-higher = omega (arith, f .next-at .choice-at .no-higher);
+              choices = choices-more (omega arith) (follows .no-fewer) (choices-kept w₂ choices₁ (step-kept given path₁ in-time₁ (stepped .only-top) (suc h)));
+            })
+
+        -- and the path arrives
+        pub taken :
+            {w₃ : List ℕ} {m : Moved}
+            → Makes g w₂ w₃ (power (g .limit - (d + 1)) + weight (g .stack) (g .limit) w₂ (h + 1)) m
+            (Model.arrive (g .program) (leastDepths (g .program .types)) (g .limit - (d + 1)) (d + 1) bound (answered (c .question) n k) (afterwards ∷ f .before))
+            → Makes g w w₃ (weight (g .stack) (g .limit) w (suc h)) m
+            (takeFork (g .program) (leastDepths (g .program .types)) c (record { constructor = n; fields = k }) (f .next-at .rest) (f .before))
+        taken makes =
+            let one : suc d ≡ d + 1 = omega arith in
+            let high : suc h ≡ h + 1 = omega arith in
+            let left : c .left ≡ g .limit - (d + 1) = f .next-at .choice-at .left-is ∙ ap (λ y. g .limit - y) one in
+            let done : c .done ≡ d + 1 = f .next-at .choice-at .done-is ∙ one in
+            let before = lighter₁ in
+            let heavy : weight (g .stack) (g .limit) w₂ (h + 1) ≡ weight (g .stack) (g .limit) w₁ (suc h) = ap (weight (g .stack) (g .limit) w₂) (sym high) ∙ kept₂ in
+            let same-power : power (g .limit - (d + 1)) ≡ power (g .limit - suc d) = ap (λ y. power (g .limit - y)) (sym one) in
+            record {
+              position = makes .position;
+              choices = makes .choices;
+              new = makes .new;
+              model-is = λ es. take-is (g .program) _ c n k (g .limit - (d + 1)) (d + 1) (f .next-at .rest) (f .before) es left done ∙ makes .model-is es;
+              stands = makes .stands;
+              lists = makes .lists;
+              lighter = omega (arith, makes .lighter);
+              same-length = makes .same-length ∙ stepped .only-top .same-length ∙ binds .same-length;
+            }
+
+-- What `take_fork` does, by what its callees ensure.
+module _
+    (file types functions : List ℕ) (label : ℕ) (w w₁ w₂ : List ℕ) (limit base stack h n i k : ℕ) {x frame records cells done : ℕ} (x-is : x ≡ choiceWord stack w h 0)
+    (frame-is : frame ≡ choiceWord stack w h 2) (records-is : records ≡ choiceWord stack w h 3) (cells-is : cells ≡ choiceWord stack w h 4)
+    (done-is : done ≡ choiceWord stack w h 5) (binds : Binds w w₁ x n cells k (bytesAt file i k) (cellWord w x 3 - 1))
+  where
+    abbrev from : Registers
+    from = record { control = Control.Part x; frame = frame; records = records }
+
+    bound-there : Binds w w₁ (choiceWord stack w h 0) n (choiceWord stack w h 4) k (bytesAt file i k) (cellWord w (choiceWord stack w h 0) 3 - 1)
+    bound-there = rw (x-is, cells-is) at binds
+
+    pub fork-standing : SomeForking file types functions label w limit base stack h n i k → Standing file types functions w₁ base from
+    fork-standing (least, p, given, sought, f) = rw (x-is, frame-is, records-is) (take-standing given f bound-there)
+
+    module _ {next : Next} {to : Registers} (stepped : Stepped file types functions w₁ w₂ base label from next) (to-is : to ≡ registersAfter next from) where
+      stepped-there : Stepped file types functions w₁ w₂ base label (waitingAt stack w h) next
+      stepped-there = rw (x-is, frame-is, records-is) at stepped
+
+      to-there : (y : Registers) → next ≡ Next.Goes y → to ≡ y
+      to-there y is = to-is ∙ ap (λ m. registersAfter m from) is
+
+      pub fork-under :
+          SomeForking file types functions label w limit base stack h n i k
+          → SomeUnderWay file types functions label w₂ limit base stack (cells + k) (done + 1) (h + 1) to
+      fork-under (least, p, given, sought, f) =
+          let (y, is) = goes-on given f bound-there sought stepped-there in
+          rw (cells-is, done-is, to-there y is) (least, p, _, _, _, given, sought, under given f bound-there sought stepped-there is)
+
+      pub fork-takes :
+          {w₃ : List ℕ} {m : Moved} → Arrives file types functions label w₂ w₃ limit base stack (cells + k) (done + 1) (h + 1) to m
+          → Takes file types functions label w w₃ limit base stack h n i k m
+      fork-takes arrives least p given sought f =
+          let (y, is) = goes-on given f bound-there sought stepped-there in
+          let there = rw (cells-is, done-is, to-there y is) at arrives in
+          taken given f bound-there sought stepped-there is (there least p _ _ _ given sought (under given f bound-there sought stepped-there is))

@@ -1,0 +1,137 @@
+-- Where the search stands between two moves, in the words and in numbers, and what a move promises: it is a move of reach's Moves.
+-- Rests on reach's Moves, on choices' Choices, Weights and Returning, and on the types of src/lib.rt.
+use Prim.Native.Nat.{ℕ, suc, _+_, _-_, _≤_, _<_}
+use mathlib.Core.Path.{_≡_}
+use mathlib.Core.List.{List, [], _∷_, _++_}
+use lib.ListN.{length}
+use Rattle.reach.specs.Syntax.{Program, sourceTypes}
+use Rattle.reach.specs.Parts.{Parts}
+use Rattle.reach.specs.Types.{Typed, sourceSlots, leastDepths}
+use Rattle.reach.specs.Eval.{State}
+use Rattle.reach.specs.Search.{Kind, RE, UN, Entry}
+use Rattle.reach.specs.Moves as Model
+use Rattle.reach.specs.Moves.{Choice, takeFork, moveFrom}
+use Rattle.machine.specs.Cells.{Cells}
+use Rattle.steps.specs.declared.Registers.{Registers}
+use Rattle.steps.specs.declared.Next.{Next}
+use Rattle.steps.specs.declared.Next.the-variants as Next
+use Rattle.choices.specs.Choices.{Setting, Given, choiceWord, reopened, Path, ChoicesAt}
+use Rattle.choices.specs.Weights.{power, weight}
+use Rattle.choices.specs.Returning.{setting, NextAt}
+use Rattle.moves.specs.declared.Position.{Position}
+use Rattle.moves.specs.declared.Position.the-variants as Position
+use Rattle.moves.specs.declared.Walk.{Walk}
+use Rattle.moves.specs.declared.Listing.{Listing}
+use Rattle.moves.specs.declared.Listing.the-variants as Listing
+use Rattle.moves.specs.declared.Moved.{Moved}
+
+-- A path under way: the steps done are no more than the limit, and there are no more choice points than steps.
+pub record UnderWay (g : Setting) (w : List ℕ) (cells done height : ℕ) (r : Registers) (e : Parts) (s : State) (cs : List Choice) : Type 0 where
+  pub path : Path g w cells done done r e s
+  pub in-time : done ≤ g .limit
+  pub no-higher : height ≤ done
+  pub choices : ChoicesAt g w height cells (r .records) cs
+
+-- The words and numbers stand for a position of the model, with its choice points.
+abbrev pub PositionAt : Setting → List ℕ → ℕ → ℕ → ℕ → Position → Model.Position → List Choice → Type 0
+PositionAt g w cells done height (Position.On r) (Model.on x) cs =
+    (x .done ≡ done) × (x .left ≡ g .limit - done) × UnderWay g w cells done height r (x .input) (x .state) cs
+PositionAt g w cells done height (Position.On r) Model.over cs = ⊥
+PositionAt g w cells done height Position.Over (Model.on x) cs = ⊥
+PositionAt g w cells done height Position.Over Model.over cs = (some : ℕ) × (records : ℕ) × ChoicesAt g w height some records cs
+
+abbrev pub StandsAs : Setting → List ℕ → Walk → Model.Position → List Choice → Type 0
+StandsAs g w x position cs = PositionAt g w (x .cells) (x .done) (x .height) (x .position) position cs
+
+-- the entry of the input that the cells stand for
+abbrev pub EntryIn : Setting → List ℕ → Walk → Kind → List Entry → Type 0
+EntryIn g w x kind new =
+    (e : Parts) × (new ≡ record { kind = kind; steps = x .done; input = e } ∷ [])
+    × Cells (g .program .types) (sourceSlots (g .program)) w (x .cells) e × Typed (g .program .types) (sourceTypes (g .program)) e
+
+-- the entries that a move lists: none, or one
+abbrev pub Lists : Setting → List ℕ → Walk → Listing → List Entry → Type 0
+Lists g w x Listing.Nothing new = new ≡ []
+Lists g w x Listing.Reached new = EntryIn g w x RE new
+Lists g w x Listing.Unfinished new = EntryIn g w x UN new
+
+-- the weight of where the search stands
+abbrev pub positionWeight : ℕ → ℕ → Position → ℕ
+positionWeight limit done (Position.On r) = power (limit - done)
+positionWeight limit done Position.Over = 0
+
+abbrev pub walkWeight : ℕ → ℕ → List ℕ → Walk → ℕ
+walkWeight stack limit w x = positionWeight limit (x .done) (x .position) + weight stack limit w (x .height)
+
+-- What is done is what the model does, whatever is listed already; it lists these entries more, and is lighter than so much.
+pub record Makes (g : Setting) (w w′ : List ℕ) (bound : ℕ) (m : Moved) (model : List Entry → Model.Walk) : Type 0 where
+  pub position : Model.Position
+  pub choices : List Choice
+  pub new : List Entry
+  pub model-is : (es : List Entry) → model es ≡ record { position = position; choices = choices; listed = es ++ new }
+  pub stands : StandsAs g w′ (m .walk) position choices
+  pub lists : Lists g w′ (m .walk) (m .listing) new
+  pub lighter : walkWeight (g .stack) (g .limit) w′ (m .walk) < bound
+  pub same-length : length w′ ≡ length w
+
+-- some path is under way
+abbrev pub SomeUnderWay : List ℕ → List ℕ → List ℕ → ℕ → List ℕ → ℕ → ℕ → ℕ → ℕ → ℕ → ℕ → Registers → Type 0
+SomeUnderWay file types functions label w limit base stack cells done height r =
+    (least : List ℕ) × (p : Program) × (e : Parts) × (s : State) × (cs : List Choice) × Given (setting file types functions least p limit base stack)
+    × (label ≡ p .label) × UnderWay (setting file types functions least p limit base stack) w cells done height r e s cs
+
+-- a path arrives at its state
+abbrev pub Arrives : List ℕ → List ℕ → List ℕ → ℕ → List ℕ → List ℕ → ℕ → ℕ → ℕ → ℕ → ℕ → ℕ → Registers → Moved → Type 0
+Arrives file types functions label w w′ limit base stack cells done height r m =
+    (least : List ℕ) (p : Program) (e : Parts) (s : State) (cs : List Choice) → Given (setting file types functions least p limit base stack)
+    → label ≡ p .label → UnderWay (setting file types functions least p limit base stack) w cells done height r e s cs
+    → Makes (setting file types functions least p limit base stack) w w′ (power (limit - done) + weight stack limit w height) m
+    (Model.arrive p (leastDepths (p .types)) (limit - done) done e s cs)
+
+-- the registers to which a step goes on, or else those from which it began
+abbrev pub registersAfter : Next → Registers → Registers
+registersAfter Next.Demands from = from
+registersAfter Next.Stops from = from
+registersAfter (Next.Goes to) from = to
+registersAfter (Next.Waits x) from = from
+
+-- A choice point that takes its next constructor, with those before it.
+pub record Forking (g : Setting) (w : List ℕ) (h n i k : ℕ) : Type 0 where
+  pub choice : Choice
+  pub before : List Choice
+  pub next-at : NextAt g w choice h n i k
+  pub before-at : ChoicesAt g (reopened (g .stack) w h) h (choiceWord (g .stack) w h 4) (choiceWord (g .stack) w h 3) before
+
+abbrev pub SomeForking : List ℕ → List ℕ → List ℕ → ℕ → List ℕ → ℕ → ℕ → ℕ → ℕ → ℕ → ℕ → ℕ → Type 0
+SomeForking file types functions label w limit base stack h n i k =
+    (least : List ℕ) × (p : Program) × Given (setting file types functions least p limit base stack) × (label ≡ p .label)
+    × Forking (setting file types functions least p limit base stack) w h n i k
+
+-- the constructor is taken
+abbrev pub Takes : List ℕ → List ℕ → List ℕ → ℕ → List ℕ → List ℕ → ℕ → ℕ → ℕ → ℕ → ℕ → ℕ → ℕ → Moved → Type 0
+Takes file types functions label w w′ limit base stack h n i k m =
+    (least : List ℕ) (p : Program) → Given (setting file types functions least p limit base stack) → label ≡ p .label
+    → (f : Forking (setting file types functions least p limit base stack) w h n i k)
+    → Makes (setting file types functions least p limit base stack) w w′ (weight stack limit w (suc h)) m
+    (takeFork p (leastDepths (p .types)) (f .choice) (record { constructor = n; fields = k }) (f .next-at .rest) (f .before))
+
+-- The search is not over: a path is under way, or there is a choice point.
+abbrev pub ActiveAt : Position → ℕ → Type 0
+ActiveAt (Position.On r) h = Unit {0}
+ActiveAt Position.Over h = 0 < h
+
+abbrev pub Active : Walk → Type 0
+Active x = ActiveAt (x .position) (x .height)
+
+-- it stands somewhere
+abbrev pub Standing : List ℕ → List ℕ → List ℕ → List ℕ → ℕ → List ℕ → ℕ → ℕ → ℕ → Walk → Type 0
+Standing file types functions least label w limit base stack x =
+    (p : Program) × (position : Model.Position) × (cs : List Choice) × Given (setting file types functions least p limit base stack) × (label ≡ p .label)
+    × StandsAs (setting file types functions least p limit base stack) w x position cs
+
+-- one move
+abbrev pub Moves : List ℕ → List ℕ → List ℕ → List ℕ → ℕ → List ℕ → List ℕ → ℕ → ℕ → ℕ → Walk → Moved → Type 0
+Moves file types functions least label w w′ limit base stack x m =
+    (p : Program) (position : Model.Position) (cs : List Choice) → Given (setting file types functions least p limit base stack) → label ≡ p .label
+    → StandsAs (setting file types functions least p limit base stack) w x position cs
+    → Makes (setting file types functions least p limit base stack) w w′ (walkWeight stack limit w x) m (moveFrom p (leastDepths (p .types)) position cs)

@@ -1,0 +1,246 @@
+// The moves of the search: a step of the path under way, a fork to its first constructor, or a return to the last choice point with
+// a constructor left, taking it. Rests on crates cells, steps and choices.
+ghost use mathlib.Core.Path.{_≡_};
+ghost use Prim.Native.Nat.{_≤_};
+ghost use Rattle.moves.specs.Moving.{registersAfter, SomeUnderWay, Arrives, SomeForking, Takes, Active, Standing, Moves};
+use cells::bind_cell;
+use choices::Return;
+use choices::choice_word;
+use choices::find_return;
+use choices::push_choice;
+use depths::Depths;
+use steps::Control;
+use steps::Next;
+use steps::Registers;
+use steps::step;
+
+// Where the search stands: on a path, whose registers these are, or behind the end of one.
+pub enum Position {
+    On(Registers),
+    Over,
+}
+
+// The search between two moves: where it stands, the cells in use, the steps done, and how many choice points there are.
+pub struct Walk {
+    pub position: Position,
+    pub cells: usize,
+    pub done: usize,
+    pub height: usize,
+}
+
+// What a move lists of the input in the cells: nothing, or that it reaches the target, or that its steps are used up.
+pub enum Listing {
+    Nothing,
+    Reached,
+    Unfinished,
+}
+
+// The search after a move, and what the move lists.
+pub struct Moved {
+    pub walk: Walk,
+    pub listing: Listing,
+}
+
+// Behind the end of a path.
+pub fn over(cells: usize, done: usize, height: usize, listing: Listing) -> Moved
+    ensures { λ m. ⌜ m ≡ record { walk = record { position = Position.Over; cells = cells; done = done; height = height }; listing = listing } ⌝ }
+{
+    Moved {
+        walk: Walk {
+            position: Position::Over,
+            cells,
+            done,
+            height,
+        },
+        listing,
+    }
+}
+
+// The path arrives at its state: one step more, or the end of the path, or a choice point where a case waits.
+pub fn arrive<'a>(
+    file: &'a [u8],
+    types: &'a [u16],
+    functions: &'a [u16],
+    label: usize,
+    work: &mut [u32],
+    limit: usize,
+    base: usize,
+    stack: usize,
+    cells: usize,
+    done: usize,
+    height: usize,
+    r: Registers,
+) -> Moved
+    requires { ⌜ SomeUnderWay (now file) (now types) (now functions) label (now work) limit base stack cells done height r ⌝ }
+    ensures { λ m. ⌜ Arrives (now (file .entry)) (now (types .entry)) (now (functions .entry)) label (now (work .entry)) (now (work .exit)) limit base stack cells done height r m ⌝ }
+{
+    let next = step(file, types, functions, label, work, base, r);
+    match next {
+        Next::Demands => return over(cells, done, height, Listing::Reached),
+        Next::Stops => return over(cells, done, height, Listing::Nothing),
+        Next::Goes(to) => {
+            if limit <= done {
+                return over(cells, done, height, Listing::Unfinished);
+            }
+            return Moved {
+                walk: Walk {
+                    position: Position::On(to),
+                    cells,
+                    done: done + 1,
+                    height,
+                },
+                listing: Listing::Nothing,
+            };
+        }
+        Next::Waits(x) => {
+            if limit <= done {
+                return over(cells, done, height, Listing::Unfinished);
+            }
+            push_choice(work, stack, height, x, r.frame, r.records, cells, done);
+            return over(cells, done, height + 1, Listing::Nothing);
+        }
+    }
+}
+
+// The registers to which a step goes on, or else those from which it began.
+pub fn registers_after(next: Next, from: Registers) -> Registers
+    ensures { λ r. ⌜ r ≡ registersAfter next from ⌝ }
+{
+    match next {
+        Next::Demands => from,
+        Next::Stops => from,
+        Next::Goes(to) => to,
+        Next::Waits(_) => from,
+    }
+}
+
+// Choice point h takes constructor c, whose k fields' types stand from a place of the file on: its cell is bound to it, and the
+// path goes on behind the case.
+pub fn take_fork<'a>(
+    file: &'a [u8],
+    types: &'a [u16],
+    functions: &'a [u16],
+    label: usize,
+    work: &mut [u32],
+    limit: usize,
+    base: usize,
+    stack: usize,
+    h: usize,
+    c: usize,
+    fields: usize,
+    k: usize,
+) -> Moved
+    requires { ⌜ SomeForking (now file) (now types) (now functions) label (now work) limit base stack h c fields k ⌝ }
+    ensures { λ m. ⌜ Takes (now (file .entry)) (now (types .entry)) (now (functions .entry)) label (now (work .entry)) (now (work .exit)) limit base stack h c fields k m ⌝ }
+{
+    let x = choice_word(work, stack, h, 0);
+    let frame = choice_word(work, stack, h, 2);
+    let records = choice_word(work, stack, h, 3);
+    let cells = choice_word(work, stack, h, 4);
+    let done = choice_word(work, stack, h, 5);
+    bind_cell(file, work, x, c, fields, k, cells);
+    let from = Registers {
+        control: Control::Part(x),
+        frame,
+        records,
+    };
+    let next = step(file, types, functions, label, work, base, from);
+    let to = registers_after(next, from);
+    arrive(
+        file,
+        types,
+        functions,
+        label,
+        work,
+        limit,
+        base,
+        stack,
+        cells + k,
+        done + 1,
+        h + 1,
+        to,
+    )
+}
+
+// Behind the end of a path: the return to the last choice point with a constructor left, or the end of the search.
+pub fn go_back<'a>(
+    file: &'a [u8],
+    types: &'a [u16],
+    functions: &'a [u16],
+    least: Depths,
+    label: usize,
+    work: &mut [u32],
+    limit: usize,
+    base: usize,
+    stack: usize,
+    walk: Walk,
+) -> Moved
+    requires { ⌜ Standing (now file) (now types) (now functions) (least .of) label (now work) limit base stack walk × (walk .position ≡ Position.Over) × Active walk ⌝ }
+    ensures { λ m. ⌜ Moves (now (file .entry)) (now (types .entry)) (now (functions .entry)) (least .of) label (now (work .entry)) (now (work .exit)) limit base stack walk m ⌝ }
+{
+    let found = find_return(file, types, least, work, stack, walk.height);
+    let Return::To(h, c, fields, k) = found else {
+        return over(walk.cells, walk.done, 0, Listing::Nothing);
+    };
+    take_fork(
+        file,
+        types,
+        functions,
+        label,
+        work,
+        limit,
+        base,
+        stack,
+        h,
+        c,
+        fields,
+        k,
+    )
+}
+
+// One move.
+pub fn make_move<'a>(
+    file: &'a [u8],
+    types: &'a [u16],
+    functions: &'a [u16],
+    least: Depths,
+    label: usize,
+    work: &mut [u32],
+    limit: usize,
+    base: usize,
+    stack: usize,
+    walk: Walk,
+) -> Moved
+    requires { ⌜ Standing (now file) (now types) (now functions) (least .of) label (now work) limit base stack walk × Active walk ⌝ }
+    ensures { λ m. ⌜ Moves (now (file .entry)) (now (types .entry)) (now (functions .entry)) (least .of) label (now (work .entry)) (now (work .exit)) limit base stack walk m ⌝ }
+{
+    let position = walk.position;
+    let Position::On(r) = position else {
+        return go_back(
+            file,
+            types,
+            functions,
+            least,
+            label,
+            work,
+            limit,
+            base,
+            stack,
+            walk,
+        );
+    };
+    arrive(
+        file,
+        types,
+        functions,
+        label,
+        work,
+        limit,
+        base,
+        stack,
+        walk.cells,
+        walk.done,
+        walk.height,
+        r,
+    )
+}
