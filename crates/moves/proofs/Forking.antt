@@ -187,7 +187,7 @@ module _ {g : Setting} (given : Given g) {w : List ℕ} {h n i k : ℕ} (f : For
 
 -- What `take_fork` does, by what its callees ensure.
 module _
-    (file types functions : List ℕ) (label : ℕ) (w w₁ w₂ : List ℕ) (limit base stack h n i k : ℕ) {x frame records cells done : ℕ} (x-is : x ≡ choiceWord stack w h 0)
+    (file types functions : List ℕ) (label : ℕ) (w w₁ : List ℕ) (limit base stack h n i k : ℕ) {x frame records cells done : ℕ} (x-is : x ≡ choiceWord stack w h 0)
     (frame-is : frame ≡ choiceWord stack w h 2) (records-is : records ≡ choiceWord stack w h 3) (cells-is : cells ≡ choiceWord stack w h 4)
     (done-is : done ≡ choiceWord stack w h 5) (binds : Binds w w₁ x n cells k (bytesAt file i k) (cellWord w x 3 - 1))
   where
@@ -200,7 +200,7 @@ module _
     pub fork-standing : SomeForking file types functions label w limit base stack h n i k → Standing file types functions w₁ base from
     fork-standing (least, p, given, sought, f) = rw (x-is, frame-is, records-is) (take-standing given f bound-there)
 
-    module _ {next : Next} {to : Registers} (stepped : Stepped file types functions w₁ w₂ base label from next) (to-is : to ≡ registersAfter next from) where
+    module _ {w₂ : List ℕ} {next : Next} {to : Registers} (stepped : Stepped file types functions w₁ w₂ base label from next) (to-is : to ≡ registersAfter next from) where
       stepped-there : Stepped file types functions w₁ w₂ base label (waitingAt stack w h) next
       stepped-there = rw (x-is, frame-is, records-is) at stepped
 

@@ -1,2 +1,3 @@
 pub mod Arriving
 pub mod Forking
+pub mod Returning

@@ -1,47 +1,35 @@
+use Rattle.moves.proofs.Returning.{back-some, back-nowhere, back-forking, back-taken}
+use native.Mathlib.Omega.{arith}
 use borrow.Author.Needs.{needs}
 use Rattle.moves.proofs.go_back.Statement.{statement}
 use Rattle.moves.proofs.go_back.Tie as tie
-use Rattle.moves.proofs.go_back.Reads as reads
-use Rattle.moves.proofs.go_back.Lts as lts
-use Rattle.choices.proofs.find_return.Reads as find-return-reads
-use Rattle.moves.proofs.over.Reads as over-reads
-use Rattle.moves.proofs.take_fork.Reads as take-fork-reads
 
--- src/lib.rt:181:9
 find-return-requires : tie.Need-find-return-requires
-find-return-requires c κs = ?
+find-return-requires c κs = back-some (c .before .before .before .before .before .args .file .now) (c .before .before .before .before .before .args .types .now) (c .before .before .before .before .before .args .functions .now) (c .before .before .before .before .before .args .least .of) (c .before .before .before .before .before .args .label) (c .before .before .before .before .before .args .work .now) (c .before .before .before .before .before .args .limit) (c .before .before .before .before .before .args .base) (c .before .before .before .before .before .args .stack) (c .before .before .before .before .before .args .walk) (c .before .before .before .before .before .pre .1) (c .before .before .before .before .before .pre .0)
 
--- src/lib.rt:182:20
 enum-known-found : tie.Need-enum-known-found
 enum-known-found c = search needs
 
--- src/lib.rt:183:47
 enum-told : tie.Need-enum-told
 enum-told c = search needs
 
--- src/lib.rt:183:9
 over-requires : tie.Need-over-requires
 over-requires c κs = search needs
 
--- src/lib.rt:183:9
 same-length : tie.Need-same-length
 same-length c = search needs
 
--- src/lib.rt:183:9
 returns : tie.Need-returns
-returns c = ?
+returns c = rw (c .over .ensures) (back-nowhere (c .before .before .before .before .before .before .before .before .before .before .before .args .file .now) (c .before .before .before .before .before .before .before .before .before .before .before .args .types .now) (c .before .before .before .before .before .before .before .before .before .before .before .args .functions .now) (c .before .before .before .before .before .before .before .before .before .before .before .args .least .of) (c .before .before .before .before .before .before .before .before .before .before .before .args .label) (c .before .before .before .before .before .before .before .before .before .before .before .args .work .now) (c .before .before .before .before .before .before .before .before .before .before .before .args .limit) (c .before .before .before .before .before .before .before .before .before .before .before .args .base) (c .before .before .before .before .before .before .before .before .before .before .before .args .stack) (c .before .before .before .before .before .before .before .before .before .before .before .args .walk) (c .before .before .before .before .before .before .before .before .before .before .before .pre .1) _ _ (c .before .before .before .before .before .find-return .ensures) (c .before .enum-told .given .1) (c .before .before .before .before .before .before .before .before .before .before .before .pre .2))
 
--- src/lib.rt:185:5
 take-fork-requires : tie.Need-take-fork-requires
-take-fork-requires c κs = ?
+take-fork-requires c κs = back-forking (c .before .before .before .before .before .before .before .before .before .before .before .before .args .file .now) (c .before .before .before .before .before .before .before .before .before .before .before .before .args .types .now) (c .before .before .before .before .before .before .before .before .before .before .before .before .args .functions .now) (c .before .before .before .before .before .before .before .before .before .before .before .before .args .least .of) (c .before .before .before .before .before .before .before .before .before .before .before .before .args .label) (c .before .before .before .before .before .before .before .before .before .before .before .before .args .work .now) (c .before .before .before .before .before .before .before .before .before .before .before .before .args .limit) (c .before .before .before .before .before .before .before .before .before .before .before .before .args .base) (c .before .before .before .before .before .before .before .before .before .before .before .before .args .stack) (c .before .before .before .before .before .before .before .before .before .before .before .before .args .walk) (c .before .before .before .before .before .before .before .before .before .before .before .before .pre .1) _ _ (c .before .before .before .before .before .before .find-return .ensures) (c .before .before .found .given .1) (c .before .before .before .before .before .before .before .before .before .before .before .before .pre .0)
 
--- src/lib.rt:166:1
 same-length-2 : tie.Need-same-length-2
 same-length-2 c = search needs
 
--- src/lib.rt:166:1
 returns-2 : tie.Need-returns-2
-returns-2 c = ?
+returns-2 c = back-taken (c .before .before .before .before .before .before .before .before .before .before .before .before .before .before .before .args .file .now) (c .before .before .before .before .before .before .before .before .before .before .before .before .before .before .before .args .types .now) (c .before .before .before .before .before .before .before .before .before .before .before .before .before .before .before .args .functions .now) (c .before .before .before .before .before .before .before .before .before .before .before .before .before .before .before .args .least .of) (c .before .before .before .before .before .before .before .before .before .before .before .before .before .before .before .args .label) (c .before .before .before .before .before .before .before .before .before .before .before .before .before .before .before .args .work .now) (c .before .before .before .before .before .before .before .before .before .before .before .before .before .before .before .args .limit) (c .before .before .before .before .before .before .before .before .before .before .before .before .before .before .before .args .base) (c .before .before .before .before .before .before .before .before .before .before .before .before .before .before .before .args .stack) (c .before .before .before .before .before .before .before .before .before .before .before .before .before .before .before .args .walk) (c .before .before .before .before .before .before .before .before .before .before .before .before .before .before .before .pre .1) _ _ (c .before .before .before .before .before .before .before .before .before .find-return .ensures) (c .before .before .before .before .before .found .given .1) (c .before .before .take-fork .ensures)
 
 pub go-back-spec : {M : Type 1} → statement M
 go-back-spec =

@@ -1,42 +1,32 @@
+use Rattle.moves.proofs.Returning.{on-some, on-moves}
+use native.Mathlib.Omega.{arith}
 use borrow.Author.Needs.{needs}
 use Rattle.moves.proofs.make_move.Statement.{statement}
 use Rattle.moves.proofs.make_move.Tie as tie
-use Rattle.moves.proofs.make_move.Reads as reads
-use Rattle.moves.proofs.make_move.Lts as lts
-use Rattle.moves.proofs.arrive.Reads as arrive-reads
-use Rattle.moves.proofs.go_back.Reads as go-back-reads
 
--- src/lib.rt:218:22
 enum-known-position : tie.Need-enum-known-position
 enum-known-position c = search needs
 
--- src/lib.rt:225:13
 enum-told : tie.Need-enum-told
 enum-told c = search needs
 
--- src/lib.rt:219:9
 go-back-requires : tie.Need-go-back-requires
-go-back-requires c κs = search needs
+go-back-requires c κs = (c .before .before .before .before .before .before .before .pre .0, c .before .enum-told .given .1, c .before .before .before .before .before .before .before .pre .1)
 
--- src/lib.rt:219:9
 same-length : tie.Need-same-length
 same-length c = search needs
 
--- src/lib.rt:219:9
 returns : tie.Need-returns
-returns c = search needs
+returns c = c .before .before .go-back .ensures
 
--- src/lib.rt:232:5
 arrive-requires : tie.Need-arrive-requires
-arrive-requires c κs = ?
+arrive-requires c κs = on-some (c .before .before .before .before .before .before .before .before .args .file .now) (c .before .before .before .before .before .before .before .before .args .types .now) (c .before .before .before .before .before .before .before .before .args .functions .now) (c .before .before .before .before .before .before .before .before .args .least .of) (c .before .before .before .before .before .before .before .before .args .label) (c .before .before .before .before .before .before .before .before .args .work .now) (c .before .before .before .before .before .before .before .before .args .limit) (c .before .before .before .before .before .before .before .before .args .base) (c .before .before .before .before .before .before .before .before .args .stack) (c .before .before .before .before .before .before .before .before .args .walk) (c .before .before .position .given .1) (c .before .before .before .before .before .before .before .before .pre .0)
 
--- src/lib.rt:202:1
 same-length-2 : tie.Need-same-length-2
 same-length-2 c = search needs
 
--- src/lib.rt:202:1
 returns-2 : tie.Need-returns-2
-returns-2 c = ?
+returns-2 c = on-moves (c .before .before .before .before .before .before .before .before .before .before .before .args .file .now) (c .before .before .before .before .before .before .before .before .before .before .before .args .types .now) (c .before .before .before .before .before .before .before .before .before .before .before .args .functions .now) (c .before .before .before .before .before .before .before .before .before .before .before .args .least .of) (c .before .before .before .before .before .before .before .before .before .before .before .args .label) (c .before .before .before .before .before .before .before .before .before .before .before .args .work .now) (c .before .before .before .before .before .before .before .before .before .before .before .args .limit) (c .before .before .before .before .before .before .before .before .before .before .before .args .base) (c .before .before .before .before .before .before .before .before .before .before .before .args .stack) (c .before .before .before .before .before .before .before .before .before .before .before .args .walk) (c .before .before .before .before .before .position .given .1) (c .before .before .arrive .ensures)
 
 pub make-move-spec : {M : Type 1} → statement M
 make-move-spec =

@@ -1,69 +1,51 @@
+use Prim.Native.Nat.{_≤_}
+use Rattle.moves.proofs.Forking.{height-few, stack-few, bindable, fork-standing, fork-under, fork-takes}
+use native.Mathlib.Omega.{arith}
 use borrow.Author.Needs.{needs}
 use Rattle.moves.proofs.take_fork.Statement.{statement}
 use Rattle.moves.proofs.take_fork.Tie as tie
-use Rattle.moves.proofs.take_fork.Reads as reads
-use Rattle.moves.proofs.take_fork.Lts as lts
-use Rattle.cells.proofs.bind_cell.Reads as bind-cell-reads
-use Rattle.choices.proofs.choice_word.Reads as choice-word-reads
-use Rattle.moves.proofs.arrive.Reads as arrive-reads
-use Rattle.moves.proofs.registers_after.Reads as registers-after-reads
-use Rattle.steps.proofs.step.Reads as step-reads
 
--- src/lib.rt:136:9
 choice-word-requires : tie.Need-choice-word-requires
-choice-word-requires c κs = search needs
+choice-word-requires c κs = let (least, p, given, sought, f) = c .before .before .before .before .before .pre in (stack-few given f, omega (arith, height-few given f), omega arith)
 
--- src/lib.rt:137:9
 choice-word-requires-2 : tie.Need-choice-word-requires-2
-choice-word-requires-2 c κs = search needs
+choice-word-requires-2 c κs = let (least, p, given, sought, f) = c .before .before .before .before .before .before .before .pre in (stack-few given f, omega (arith, height-few given f), omega arith)
 
--- src/lib.rt:138:9
 choice-word-requires-3 : tie.Need-choice-word-requires-3
-choice-word-requires-3 c κs = search needs
+choice-word-requires-3 c κs = let (least, p, given, sought, f) = c .before .before .before .before .before .before .before .before .before .pre in (stack-few given f, omega (arith, height-few given f), omega arith)
 
--- src/lib.rt:139:9
 choice-word-requires-4 : tie.Need-choice-word-requires-4
-choice-word-requires-4 c κs = search needs
+choice-word-requires-4 c κs = let (least, p, given, sought, f) = c .before .before .before .before .before .before .before .before .before .before .before .pre in (stack-few given f, omega (arith, height-few given f), omega arith)
 
--- src/lib.rt:140:9
 choice-word-requires-5 : tie.Need-choice-word-requires-5
-choice-word-requires-5 c κs = search needs
+choice-word-requires-5 c κs = let (least, p, given, sought, f) = c .before .before .before .before .before .before .before .before .before .before .before .before .before .pre in (stack-few given f, omega (arith, height-few given f), omega arith)
 
--- src/lib.rt:141:5
 bind-cell-requires : tie.Need-bind-cell-requires
-bind-cell-requires c κs = ?
+bind-cell-requires c κs = let (least, p, given, sought, f) = c .before .before .before .before .before .before .before .before .before .before .before .before .before .before .before .pre in rw (c .before .before .before .before .before .before .before .before .before .choice-word .ensures .0, c .before .before .before .choice-word4 .ensures .0) (bindable given f)
 
--- src/lib.rt:147:9
 step-requires : tie.Need-step-requires
-step-requires c κs = ?
+step-requires c κs = fork-standing (c .before .before .before .before .before .before .before .before .before .before .before .before .before .before .before .before .before .before .before .args .file .now) (c .before .before .before .before .before .before .before .before .before .before .before .before .before .before .before .before .before .before .before .args .types .now) (c .before .before .before .before .before .before .before .before .before .before .before .before .before .before .before .before .before .before .before .args .functions .now) (c .before .before .before .before .before .before .before .before .before .before .before .before .before .before .before .before .before .before .before .args .label) (c .before .before .before .before .before .before .before .before .before .before .before .before .before .before .before .before .before .before .before .args .work .now) _ (c .before .before .before .before .before .before .before .before .before .before .before .before .before .before .before .before .before .before .before .args .limit) (c .before .before .before .before .before .before .before .before .before .before .before .before .before .before .before .before .before .before .before .args .base) (c .before .before .before .before .before .before .before .before .before .before .before .before .before .before .before .before .before .before .before .args .stack) (c .before .before .before .before .before .before .before .before .before .before .before .before .before .before .before .before .before .before .before .args .h) (c .before .before .before .before .before .before .before .before .before .before .before .before .before .before .before .before .before .before .before .args .c) (c .before .before .before .before .before .before .before .before .before .before .before .before .before .before .before .before .before .before .before .args .fields) (c .before .before .before .before .before .before .before .before .before .before .before .before .before .before .before .before .before .before .before .args .k) (c .before .before .before .before .before .before .before .before .before .before .before .before .before .choice-word .ensures .0) (c .before .before .before .before .before .before .before .before .before .before .before .choice-word2 .ensures .0) (c .before .before .before .before .before .before .before .before .before .choice-word3 .ensures .0) (c .before .before .before .before .before .before .before .choice-word4 .ensures .0) (c .before .before .before .before .before .choice-word5 .ensures .0) (c .before .before .before .bind-cell .ensures) (c .before .before .before .before .before .before .before .before .before .before .before .before .before .before .before .before .before .before .before .pre)
 
--- src/lib.rt:148:9
 registers-after-requires : tie.Need-registers-after-requires
 registers-after-requires c κs = search needs
 
--- src/lib.rt:158:9
 add-arrive : tie.Need-add-arrive
-add-arrive c = ?
+add-arrive c = let (least, p, given, sought, f) = c .before .before .before .before .before .before .before .before .before .before .before .before .before .before .before .before .before .before .before .before .before .before .before .before .pre in let b = bindable given f in omega (arith, c .before .before .before .before .before .before .before .before .before .before .before .before .choice-word4 .ensures .0, b .3, b .5)
 
--- src/lib.rt:159:9
 add-arrive-2 : tie.Need-add-arrive-2
 add-arrive-2 c = search needs
 
--- src/lib.rt:160:9
 add-arrive-3 : tie.Need-add-arrive-3
-add-arrive-3 c = ?
+add-arrive-3 c = let (least, p, given, sought, f) = c .before .before .before .before .before .before .before .before .before .before .before .before .before .before .before .before .before .before .before .before .before .before .before .before .pre in omega (arith, height-few given f)
 
--- src/lib.rt:149:5
 arrive-requires : tie.Need-arrive-requires
-arrive-requires c κs = ?
+arrive-requires c κs = fork-under (c .before .before .before .before .before .before .before .before .before .before .before .before .before .before .before .before .before .before .before .before .before .before .before .before .args .file .now) (c .before .before .before .before .before .before .before .before .before .before .before .before .before .before .before .before .before .before .before .before .before .before .before .before .args .types .now) (c .before .before .before .before .before .before .before .before .before .before .before .before .before .before .before .before .before .before .before .before .before .before .before .before .args .functions .now) (c .before .before .before .before .before .before .before .before .before .before .before .before .before .before .before .before .before .before .before .before .before .before .before .before .args .label) (c .before .before .before .before .before .before .before .before .before .before .before .before .before .before .before .before .before .before .before .before .before .before .before .before .args .work .now) _ (c .before .before .before .before .before .before .before .before .before .before .before .before .before .before .before .before .before .before .before .before .before .before .before .before .args .limit) (c .before .before .before .before .before .before .before .before .before .before .before .before .before .before .before .before .before .before .before .before .before .before .before .before .args .base) (c .before .before .before .before .before .before .before .before .before .before .before .before .before .before .before .before .before .before .before .before .before .before .before .before .args .stack) (c .before .before .before .before .before .before .before .before .before .before .before .before .before .before .before .before .before .before .before .before .before .before .before .before .args .h) (c .before .before .before .before .before .before .before .before .before .before .before .before .before .before .before .before .before .before .before .before .before .before .before .before .args .c) (c .before .before .before .before .before .before .before .before .before .before .before .before .before .before .before .before .before .before .before .before .before .before .before .before .args .fields) (c .before .before .before .before .before .before .before .before .before .before .before .before .before .before .before .before .before .before .before .before .before .before .before .before .args .k) (c .before .before .before .before .before .before .before .before .before .before .before .before .before .before .before .before .before .before .choice-word .ensures .0) (c .before .before .before .before .before .before .before .before .before .before .before .before .before .before .before .before .choice-word2 .ensures .0) (c .before .before .before .before .before .before .before .before .before .before .before .before .before .before .choice-word3 .ensures .0) (c .before .before .before .before .before .before .before .before .before .before .before .before .choice-word4 .ensures .0) (c .before .before .before .before .before .before .before .before .before .before .choice-word5 .ensures .0) (c .before .before .before .before .before .before .before .before .bind-cell .ensures) (c .before .before .before .before .step .ensures) (c .before .registers-after .ensures) (c .before .before .before .before .before .before .before .before .before .before .before .before .before .before .before .before .before .before .before .before .before .before .before .before .pre)
 
--- src/lib.rt:119:1
 same-length : tie.Need-same-length
 same-length c = search needs
 
--- src/lib.rt:119:1
 returns : tie.Need-returns
-returns c = ?
+returns c = fork-takes (c .before .before .before .before .before .before .before .before .before .before .before .before .before .before .before .before .before .before .before .before .before .before .before .before .before .before .before .args .file .now) (c .before .before .before .before .before .before .before .before .before .before .before .before .before .before .before .before .before .before .before .before .before .before .before .before .before .before .before .args .types .now) (c .before .before .before .before .before .before .before .before .before .before .before .before .before .before .before .before .before .before .before .before .before .before .before .before .before .before .before .args .functions .now) (c .before .before .before .before .before .before .before .before .before .before .before .before .before .before .before .before .before .before .before .before .before .before .before .before .before .before .before .args .label) (c .before .before .before .before .before .before .before .before .before .before .before .before .before .before .before .before .before .before .before .before .before .before .before .before .before .before .before .args .work .now) _ (c .before .before .before .before .before .before .before .before .before .before .before .before .before .before .before .before .before .before .before .before .before .before .before .before .before .before .before .args .limit) (c .before .before .before .before .before .before .before .before .before .before .before .before .before .before .before .before .before .before .before .before .before .before .before .before .before .before .before .args .base) (c .before .before .before .before .before .before .before .before .before .before .before .before .before .before .before .before .before .before .before .before .before .before .before .before .before .before .before .args .stack) (c .before .before .before .before .before .before .before .before .before .before .before .before .before .before .before .before .before .before .before .before .before .before .before .before .before .before .before .args .h) (c .before .before .before .before .before .before .before .before .before .before .before .before .before .before .before .before .before .before .before .before .before .before .before .before .before .before .before .args .c) (c .before .before .before .before .before .before .before .before .before .before .before .before .before .before .before .before .before .before .before .before .before .before .before .before .before .before .before .args .fields) (c .before .before .before .before .before .before .before .before .before .before .before .before .before .before .before .before .before .before .before .before .before .before .before .before .before .before .before .args .k) (c .before .before .before .before .before .before .before .before .before .before .before .before .before .before .before .before .before .before .before .before .before .choice-word .ensures .0) (c .before .before .before .before .before .before .before .before .before .before .before .before .before .before .before .before .before .before .before .choice-word2 .ensures .0) (c .before .before .before .before .before .before .before .before .before .before .before .before .before .before .before .before .before .choice-word3 .ensures .0) (c .before .before .before .before .before .before .before .before .before .before .before .before .before .before .before .choice-word4 .ensures .0) (c .before .before .before .before .before .before .before .before .before .before .before .before .before .choice-word5 .ensures .0) (c .before .before .before .before .before .before .before .before .before .before .before .bind-cell .ensures) (c .before .before .before .before .before .before .before .step .ensures) (c .before .before .before .before .registers-after .ensures) (c .before .before .arrive .ensures)
 
 pub take-fork-spec : {M : Type 1} → statement M
 take-fork-spec =
