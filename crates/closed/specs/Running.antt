@@ -130,14 +130,14 @@ endedAs Next.Stops done = Outcome.Ended done
 endedAs (Next.Goes r) done = Outcome.Unfinished done
 endedAs (Next.Waits x) done = Outcome.Unfinished done
 
--- The words at the beginning: the source's n parameters, whose types stand behind its record's first byte, have open cells with their values' places
--- noted, and records 0 and 1 are the empty environment and the parameters' group.
-pub record Begun (file types input w w′ : List ℕ) (base head n depth : ℕ) : Type 0 where
+-- The words at the beginning: the source's n parameters, whose types stand from place `first` of the file on, have open cells with their values'
+-- places noted, and records 0 and 1 are the empty environment and the parameters' group.
+pub record Begun (file types input w w′ : List ℕ) (base first n depth : ℕ) : Type 0 where
   pub w₁ : List ℕ
   pub w₂ : List ℕ
   pub w₃ : List ℕ
-  pub starts : Starts w w₁ n (bytesAt file (head + 1) n) depth
-  pub noted : Noted file types input w₁ w₂ 0 (bytesAt file (head + 1) n) 0 depth
+  pub starts : Starts w w₁ n (bytesAt file first n) depth
+  pub noted : Noted file types input w₁ w₂ 0 (bytesAt file first n) 0 depth
   pub zeros : Wrote w₂ w₃ base 0 0 0 0 0
   pub group : Wrote w₃ w′ base 1 0 n 0 0
 
