@@ -82,15 +82,7 @@ pub fn input_fits<'a>(
 {
     let head = head_of(file, functions, byte_or_zero(file, goal));
     let depth = byte_or_zero(file, goal + 2);
-    let Behind::At(end) = values(
-        file,
-        types,
-        input,
-        0,
-        head.parameters,
-        head.count,
-        depth,
-    ) else {
+    let Behind::At(end) = values(file, types, input, 0, head.parameters, head.count, depth) else {
         return false;
     };
     input.len() <= end
