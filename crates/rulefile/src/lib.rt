@@ -78,12 +78,10 @@ pub fn turned_back(why: Refusal) -> Loaded
 
 // Each parameter of the source has a closed value that is at most D deep.
 pub fn source_shallow<'a>(file: &'a [u8], functions: &'a [u16], goal: usize, least: Depths) -> bool
-    requires { ⌜ goal ≤ 16384 ⌝ }
     ensures { λ r. ⌜ r ≡ sourceShallow (now (file .entry)) (now (functions .entry)) goal (least .of) ⌝ }
 {
-    let head = head_of(file, functions, byte_or_zero(file, goal));
-    let depth = byte_or_zero(file, goal + 2);
-    all_shallow(file, head.parameters, head.count, depth, least)
+    let head = head_of(file, functions, source(file, goal));
+    all_shallow(file, head.parameters, head.count, depth(file, goal), least)
 }
 
 // The tests of depth, of a file whose passes found nothing.
