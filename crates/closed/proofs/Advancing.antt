@@ -29,7 +29,7 @@ use Rattle.steps.specs.declared.Next.{Next}
 use Rattle.steps.specs.declared.Next.the-variants as Next
 use Rattle.steps.specs.Stepping.{Standing, OnlyTop, Follows, StepMeans, Stepped}
 use Rattle.steps.proofs.Words.{records-same}
-use Rattle.closed.specs.Running.{Given, Running, Underway, notedNumber, Bindable, BoundAs, Advances}
+use Rattle.closed.specs.Running.{Given, Running, Underway, notedNumber, Bindable, BoundAs, Advances, PartialInput}
 use Rattle.closed.proofs.Reached.{steps-more, below-width, reached-in, reached-sound, run-goes, run-demands, run-stops, run-spent}
 use Rattle.closed.proofs.Standing.{stands-after, stands-below}
 
@@ -109,6 +109,15 @@ module _ {file types functions input : List ℕ} {goal : ℕ} {p : Program} {j :
       base-is = now .base-is;
       long = rw (only .same-length) (now .long);
     }
+
+    -- then the words still stand for a partial input below the closed one
+    pub partial-kept : {w′ : List ℕ} → OnlyTop w w′ base (r .records) → PartialInput p j w′
+    partial-kept {w′} only = (
+      cells,
+      now .input,
+      kept-cells w′ (now .stands .input) (rw (only .same-length) (now .stands .input .fits)) (λ i below. only .elsewhere i (λ h. absurd (omega (arith, now .stands .apart)))) .1,
+      now .follows .below,
+    )
 
     -- where a case waits on an open part, its cell can be bound to what the closed input has there
     module _ (in-time : done ≤ limit) (few-binds : binds ≤ done) (q : Question) (on : next p (now .input) s ≡ waits q) where
@@ -221,9 +230,12 @@ module _ {file types functions input : List ℕ} {goal : ℕ} {p : Program} {j :
 pub went :
     {file types functions input : List ℕ} {label limit : ℕ} {w : List ℕ} {base cells done : ℕ} {r : Registers} {p : Program} {j : Parts} {s : State}
     → Underway file types functions input label limit w base cells done r p j s → {w′ : List ℕ} {n : Next} → Stepped file types functions w w′ base label r n
-    → (n′ : Next) → n ≡ n′ → ((x : ℕ) → n′ ≡ Next.Waits x → ⊥) → Advances file types functions input label limit w′ base done p j s cells n′
-went {file} {types} {functions} {label = label} {w = w} {base = base} {r = r} h {w′} stepped n′ is never =
-    advances (h .given) (h .running) (h .sought) (h .in-time) n′ (omega arith) (subst (Stepped file types functions w w′ base label r) is stepped) never
+    → (n′ : Next) → n ≡ n′ → ((x : ℕ) → n′ ≡ Next.Waits x → ⊥)
+    → Advances file types functions input label limit w′ base done p j s cells n′ × PartialInput p j w′
+went {file} {types} {functions} {label = label} {w = w} {base = base} {r = r} h {w′} stepped n′ is never = (
+  advances (h .given) (h .running) (h .sought) (h .in-time) n′ (omega arith) (subst (Stepped file types functions w w′ base label r) is stepped) never,
+  partial-kept (h .given) (h .running) (stepped .only-top),
+)
 
 -- After one that waits on the part in cell x, which is then bound, and a second step:
 module _
@@ -257,6 +269,10 @@ module _
       pub standing : Standing file types functions w₂ base r
       standing = record { program = p; cells = more; input = now₂ .0 .input; state = s; file-of = h .given .file-of; stands = now₂ .0 .stands }
 
-      pub went-bound : {w₃ : List ℕ} {n₂ : Next} → Stepped file types functions w₂ w₃ base label r n₂ → Advances file types functions input label limit w₃ base done p j s more n₂
-      went-bound {n₂ = n₂} again =
-          advances (h .given) (now₂ .0) (h .sought) (h .in-time) n₂ (omega arith) again (no-wait (h .given) (now₂ .0) (h .sought) (h .in-time) again (now₂ .2))
+      pub went-bound :
+          {w₃ : List ℕ} {n₂ : Next} → Stepped file types functions w₂ w₃ base label r n₂
+          → Advances file types functions input label limit w₃ base done p j s more n₂ × PartialInput p j w₃
+      went-bound {n₂ = n₂} again = (
+        advances (h .given) (now₂ .0) (h .sought) (h .in-time) n₂ (omega arith) again (no-wait (h .given) (now₂ .0) (h .sought) (h .in-time) again (now₂ .2)),
+        partial-kept (h .given) (now₂ .0) (again .only-top),
+      )

@@ -13,7 +13,7 @@ use Rattle.reach.specs.Answers.{outcomeOf}
 use Rattle.steps.specs.declared.Registers.{Registers}
 use Rattle.steps.specs.declared.Next.{Next}
 use Rattle.steps.specs.declared.Next.the-variants as Next
-use Rattle.closed.specs.Running.{Underway, SomeUnderway, Advances, AdvancesAll, EndsAs, Begins, CameTo, endedAs}
+use Rattle.closed.specs.Running.{Underway, SomeUnderway, Advances, PartialInput, AdvancesAll, EndsAs, Begins, CameTo, endedAs}
 
 module _ (file types functions input : List ℕ) (label limit : ℕ) (w₀ : List ℕ) (base first : ℕ) (from : Registers) where
   pub came-first : CameTo file types functions input label limit w₀ base first from w₀ first 0 from
@@ -27,7 +27,11 @@ module _ (file types functions input : List ℕ) (label limit : ℕ) (w₀ : Lis
       step : (n′ : Next) → n ≡ n′ → (p : Program) (j : Parts) (s : State) (h : Underway file types functions input label limit w₀ base first 0 from p j s)
           → Advances file types functions input label limit w′ base done p j (came p j s h .0) cells′ n′
       step n′ is p j s h =
-          subst (Advances file types functions input label limit w′ base done p j (came p j s h .0) cells′) is (advances limit done p j (came p j s h .0) (came p j s h .1))
+          subst (Advances file types functions input label limit w′ base done p j (came p j s h .0) cells′) is (advances limit done p j (came p j s h .0) (came p j s h .1) .0)
+
+      -- what the words stand for then
+      partial : (p : Program) (j : Parts) (s : State) → Underway file types functions input label limit w₀ base first 0 from p j s → PartialInput p j w′
+      partial p j s h = advances limit done p j (came p j s h .0) (came p j s h .1) .1
 
       -- one step further
       pub came-on : (r′ : Registers) → n ≡ Next.Goes r′ → done < limit → CameTo file types functions input label limit w₀ base first from w′ cells′ (done + 1) r′
@@ -39,19 +43,19 @@ module _ (file types functions input : List ℕ) (label limit : ℕ) (w₀ : Lis
           rw one (s′, under before, here .2 ∙ ap (λ l. eval p j l done (here .0)) left ∙ on (limit - suc done))
 
       -- the end, where the target is demanded, or where the evaluation stops
-      pub came-demands : n ≡ Next.Demands → EndsAs file types functions input label limit w₀ base first from (Outcome.Reached done)
+      pub came-demands : n ≡ Next.Demands → EndsAs file types functions input label limit w₀ w′ base first from (Outcome.Reached done)
       unfolding outcomeOf
-      came-demands is p j s h = sym (ap outcomeOf (came p j s h .2 ∙ step Next.Demands is p j s h (limit - done)))
+      came-demands is p j s h = (sym (ap outcomeOf (came p j s h .2 ∙ step Next.Demands is p j s h (limit - done))), partial p j s h)
 
-      pub came-stops : n ≡ Next.Stops → EndsAs file types functions input label limit w₀ base first from (Outcome.Ended done)
+      pub came-stops : n ≡ Next.Stops → EndsAs file types functions input label limit w₀ w′ base first from (Outcome.Ended done)
       unfolding outcomeOf
-      came-stops is p j s h = let (why, over) = step Next.Stops is p j s h in sym (ap outcomeOf (came p j s h .2 ∙ over (limit - done)))
+      came-stops is p j s h = let (why, over) = step Next.Stops is p j s h in (sym (ap outcomeOf (came p j s h .2 ∙ over (limit - done))), partial p j s h)
 
-      pub came-waits : {o : Outcome} (x : ℕ) → n ≡ Next.Waits x → EndsAs file types functions input label limit w₀ base first from o
+      pub came-waits : {o : Outcome} (x : ℕ) → n ≡ Next.Waits x → EndsAs file types functions input label limit w₀ w′ base first from o
       came-waits x is p j s h = absurd (step (Next.Waits x) is p j s h)
 
       -- or where no step is left
-      pub came-last : (n′ : Next) → n ≡ n′ → limit ≤ done → EndsAs file types functions input label limit w₀ base first from (endedAs n′ done)
+      pub came-last : (n′ : Next) → n ≡ n′ → limit ≤ done → EndsAs file types functions input label limit w₀ w′ base first from (endedAs n′ done)
       unfolding outcomeOf
       came-last Next.Demands is over = came-demands is
       came-last Next.Stops is over = came-stops is
@@ -59,5 +63,5 @@ module _ (file types functions input : List ℕ) (label limit : ℕ) (w₀ : Lis
           λ p j s h.
           let none : limit - done ≡ zero = omega arith in
           let here = came p j s h in
-          sym (ap outcomeOf (here .2 ∙ ap (λ l. eval p j l done (here .0)) none ∙ step (Next.Goes r′) is p j s h .1))
+          (sym (ap outcomeOf (here .2 ∙ ap (λ l. eval p j l done (here .0)) none ∙ step (Next.Goes r′) is p j s h .1)), partial p j s h)
       came-last (Next.Waits x) is over = came-waits x is

@@ -8,7 +8,7 @@ use lib.ListN.{length, getD, drop}
 use Rattle.reach.specs.declared.Outcome.{Outcome}
 use Rattle.reach.specs.declared.Outcome.the-variants as Outcome
 use Rattle.reach.specs.Syntax.{Program}
-use Rattle.reach.specs.Parts.{Parts}
+use Rattle.reach.specs.Parts.{Parts, _⊑_}
 use Rattle.reach.specs.Types.{sourceSlots}
 use Rattle.reach.specs.Eval as Eval
 use Rattle.reach.specs.Eval.{State, eval, reached, ended, unfinished, run}
@@ -17,7 +17,7 @@ use Rattle.reach.specs.Places.{bytesAt, typeAt, goalAt}
 use Rattle.reach.specs.Answers.{check, accepted, outcomeOf, RunAnswer, noRun, ran}
 use Rattle.reach.proofs.NeverStuck.{Steps}
 use Rattle.lookups.specs.Fields.{fieldsIn}
-use Rattle.machine.specs.Cells.{cellWord, Binds}
+use Rattle.machine.specs.Cells.{cellWord, Binds, Cells}
 use Rattle.cells.specs.Writes.{Starts}
 use Rattle.inputs.proofs.Closed.{Placed}
 use Rattle.values.specs.Notes.{notedPlace, Noted}
@@ -102,15 +102,21 @@ Advances file types functions input label limit w′ base done p j s cells (Next
     × (done < limit → Underway file types functions input label limit w′ base cells (suc done) r p j s′)
 Advances file types functions input label limit w′ base done p j s cells (Next.Waits x) = ⊥
 
+-- What the words stand for after a run, or a part of one: some partial input below the closed one, so that each part that was bound has the
+-- constructor that the closed input has there.
+abbrev pub PartialInput : Program → Parts → List ℕ → Type 0
+PartialInput p j w = (cells : ℕ) × (e : Parts) × Cells (p .types) (sourceSlots p) w cells e × (e ⊑ j)
+
 abbrev pub AdvancesAll : List ℕ → List ℕ → List ℕ → List ℕ → ℕ → List ℕ → List ℕ → ℕ → ℕ → Registers → ℕ → Next → Type 0
 AdvancesAll file types functions input label w w′ base cells r cells′ n =
     (limit done : ℕ) (p : Program) (j : Parts) (s : State) → Underway file types functions input label limit w base cells done r p j s
-    → Advances file types functions input label limit w′ base done p j s cells′ n
+    → Advances file types functions input label limit w′ base done p j s cells′ n × PartialInput p j w′
 
--- the run of at most `limit` steps from where it is under way ends so
-abbrev pub EndsAs : List ℕ → List ℕ → List ℕ → List ℕ → ℕ → ℕ → List ℕ → ℕ → ℕ → Registers → Outcome → Type 0
-EndsAs file types functions input label limit w base cells r o =
-    (p : Program) (j : Parts) (s : State) → Underway file types functions input label limit w base cells 0 r p j s → o ≡ outcomeOf (eval p j limit 0 s)
+-- the run of at most `limit` steps from where it is under way ends so, in words w′
+abbrev pub EndsAs : List ℕ → List ℕ → List ℕ → List ℕ → ℕ → ℕ → List ℕ → List ℕ → ℕ → ℕ → Registers → Outcome → Type 0
+EndsAs file types functions input label limit w w′ base cells r o =
+    (p : Program) (j : Parts) (s : State) → Underway file types functions input label limit w base cells 0 r p j s
+    → (o ≡ outcomeOf (eval p j limit 0 s)) × PartialInput p j w′
 
 -- some run begins here
 abbrev pub Begins : List ℕ → List ℕ → List ℕ → List ℕ → ℕ → ℕ → List ℕ → ℕ → ℕ → Registers → Type 0
@@ -141,9 +147,10 @@ pub record Begun (file types input w w′ : List ℕ) (base first n depth : ℕ)
   pub zeros : Wrote w₂ w₃ base 0 0 0 0 0
   pub group : Wrote w₃ w′ base 1 0 n 0 0
 
--- the closed run of a program on an input
-abbrev pub RunsAs : List ℕ → List ℕ → List ℕ → List ℕ → ℕ → Outcome → Type 0
-RunsAs file types functions input goal o = (p : Program) (j : Parts) → Given file types functions input goal p j → o ≡ outcomeOf (run p j)
+-- the closed run of a program on an input, which ends in words w′
+abbrev pub RunsAs : List ℕ → List ℕ → List ℕ → List ℕ → ℕ → List ℕ → Outcome → Type 0
+RunsAs file types functions input goal w′ o =
+    (p : Program) (j : Parts) → Given file types functions input goal p j → (o ≡ outcomeOf (run p j)) × PartialInput p j w′
 
 -- there is such a program and input, the tables' places are small, and the words are as many as the run needs
 abbrev pub Runnable : List ℕ → List ℕ → List ℕ → List ℕ → ℕ → List ℕ → Type 0
@@ -154,8 +161,13 @@ abbrev pub answerOf : RunAnswer → Answer
 answerOf (noRun why) = Answer.Refused why
 answerOf (ran o) = Answer.Ran o
 
--- A refusal changes no word, and a run none behind its first 64 S + 1,024 words. Those first words are the evaluation's own: what its cells and
--- records left in them is not said.
+-- A refusal changes no word, and a run none behind its first 64 S + 1,024 words.
 abbrev pub Unchanged : Answer → List ℕ → List ℕ → List ℕ → Type 0
 Unchanged (Answer.Refused why) file w w′ = w′ ≡ w
 Unchanged (Answer.Ran o) file w w′ = (p : Program) → check file ≡ accepted p → drop (64 * p .steps + 1024) w′ ≡ drop (64 * p .steps + 1024) w
+
+-- After a run the words stand for a partial input below the closed one. Which of its parts are bound is not said, nor what the evaluation's
+-- records left behind the cells.
+abbrev pub Leaves : Answer → List ℕ → List ℕ → List ℕ → Type 0
+Leaves (Answer.Refused why) file input w′ = Unit {0}
+Leaves (Answer.Ran o) file input w′ = (p : Program) (j : Parts) → check file ≡ accepted p → inputOf p input ≡ some j → PartialInput p j w′

@@ -4,7 +4,7 @@ ghost use mathlib.Core.Path.{_≡_};
 ghost use Prim.Native.Nat.{ℕ, _+_, _*_, _≤_, _<_};
 ghost use lib.ListN.{length, getD};
 ghost use Rattle.reach.specs.Answers.{runAnswer};
-ghost use Rattle.closed.specs.Running.{SomeUnderway, Bindable, BoundAs, AdvancesAll, Begins, EndsAs, endedAs, Begun, Runnable, RunsAs, answerOf, Unchanged};
+ghost use Rattle.closed.specs.Running.{SomeUnderway, Bindable, BoundAs, AdvancesAll, Begins, EndsAs, endedAs, Begun, Runnable, RunsAs, answerOf, Unchanged, Leaves};
 use cells::bind_cell;
 use cells::start_cells;
 use inputs::input_fits;
@@ -140,7 +140,7 @@ pub fn go_on<'a>(
     limit: usize,
 ) -> Outcome
     requires { ⌜ (limit ≤ 4096) × Begins (now file) (now types) (now functions) (now input) label limit (now work) base first from ⌝ }
-    ensures { λ o. ⌜ EndsAs (now (file .entry)) (now (types .entry)) (now (functions .entry)) (now (input .entry)) label limit (now (work .entry)) base first from o ⌝ }
+    ensures { λ o. ⌜ EndsAs (now (file .entry)) (now (types .entry)) (now (functions .entry)) (now (input .entry)) label limit (now (work .entry)) (now (work .exit)) base first from o ⌝ }
 {
     let mut r = from;
     let mut cells = first;
@@ -193,7 +193,7 @@ pub fn evaluate<'a>(
     work: &mut [u32],
 ) -> Outcome
     requires { ⌜ Runnable (now file) (now types) (now functions) (now input) goal (now work) ⌝ }
-    ensures { λ o. ⌜ RunsAs (now (file .entry)) (now (types .entry)) (now (functions .entry)) (now (input .entry)) goal o ⌝ }
+    ensures { λ o. ⌜ RunsAs (now (file .entry)) (now (types .entry)) (now (functions .entry)) (now (input .entry)) goal (now (work .exit)) o ⌝ }
 {
     let limit = steps(file, goal);
     let base = 30 * limit + 80;
@@ -224,6 +224,7 @@ pub fn evaluate<'a>(
 pub fn run<'a>(file: &'a [u8], input: &'a [u8], work: &mut [u32]) -> Answer
     ensures { λ r. ⌜ r ≡ answerOf (runAnswer (now (file .entry)) (now (input .entry)) (length (now (work .entry)))) ⌝ }
     ensures words { λ r. ⌜ Unchanged r (now (file .entry)) (now (work .entry)) (now (work .exit)) ⌝ }
+    ensures bound { λ r. ⌜ Leaves r (now (file .entry)) (now (input .entry)) (now (work .exit)) ⌝ }
 {
     let loaded = load(file);
     let answer = loaded.answer;

@@ -50,9 +50,10 @@ returns c =
     let read = found .before .before in
     let pre = read .before .before .before .before .before .before .pre in
     λ p j given.
-    whole-run given (read .steps .ensures)
-    (c .before .before .go-on .ensures p j (start p)
-    (evaluation-begins given (read .steps .ensures) (found .before .source .ensures) (found .head-of .result) (found .head-of .ensures .0) (begun .before .depth .ensures) (c .before .before .before .before .label .ensures) (omega (arith, pre .3, read .steps .ensures, steps-is (pre .2))) (begun .begin .ensures)))
+    let ends =
+    c .before .before .go-on .ensures p j (start p)
+    (evaluation-begins given (read .steps .ensures) (found .before .source .ensures) (found .head-of .result) (found .head-of .ensures .0) (begun .before .depth .ensures) (c .before .before .before .before .label .ensures) (omega (arith, pre .3, read .steps .ensures, steps-is (pre .2))) (begun .begin .ensures)) in
+    (whole-run given (read .steps .ensures) (ends .0), ends .1)
 
 pub evaluate-spec : {M : Type 1} → statement M
 evaluate-spec =
