@@ -29,7 +29,7 @@ use Rattle.steps.specs.declared.Next.{Next}
 use Rattle.steps.specs.declared.Next.the-variants as Next
 use Rattle.steps.specs.Stepping.{Standing, OnlyTop, Follows, StepMeans, Stepped}
 use Rattle.steps.proofs.Words.{records-same}
-use Rattle.closed.specs.Running.{Given, Running, Underway, notedNumber, Bindable, BoundAs, Advances, PartialInput}
+use Rattle.closed.specs.Running.{Given, Running, Underway, notedNumber, Bindable, BoundAs, Advances, ComesTo, BoundSoFar}
 use Rattle.closed.proofs.Reached.{steps-more, below-width, reached-in, reached-sound, run-goes, run-demands, run-stops, run-spent}
 use Rattle.closed.proofs.Standing.{stands-after, stands-below}
 
@@ -110,14 +110,16 @@ module _ {file types functions input : List ℕ} {goal : ℕ} {p : Program} {j :
       long = rw (only .same-length) (now .long);
     }
 
-    -- then the words still stand for a partial input below the closed one
-    pub partial-kept : {w′ : List ℕ} → OnlyTop w w′ base (r .records) → PartialInput p j w′
-    partial-kept {w′} only = (
-      cells,
-      now .input,
-      kept-cells w′ (now .stands .input) (rw (only .same-length) (now .stands .input .fits)) (λ i below. only .elsewhere i (λ h. absurd (omega (arith, now .stands .apart)))) .1,
-      now .follows .below,
-    )
+    -- then the words still stand for the input that is bound so far
+    pub bound-kept : {w′ : List ℕ} → OnlyTop w w′ base (r .records) → (n : Next) → ComesTo p (now .input) s n → BoundSoFar p j done s n w′
+    bound-kept {w′} only n comes = record {
+      cells = cells;
+      input = now .input;
+      stands = kept-cells w′ (now .stands .input) (rw (only .same-length) (now .stands .input .fits)) (λ i below. only .elsewhere i (λ h. absurd (omega (arith, now .stands .apart)))) .1;
+      below = now .follows .below;
+      steps = now .steps;
+      comes = comes;
+    }
 
     -- where a case waits on an open part, its cell can be bound to what the closed input has there
     module _ (in-time : done ≤ limit) (few-binds : binds ≤ done) (q : Question) (on : next p (now .input) s ≡ waits q) where
@@ -203,6 +205,14 @@ module _ {file types functions input : List ℕ} {goal : ℕ} {p : Program} {j :
           let (q, waiting, cell) = subst (StepMeans file types functions w w′ base r p (now .input) s) is (means stepped) in
           absurd (clash (cc))
 
+      -- what comes next on the input that is bound so far
+      pub bound-so-far :
+          {w′ : List ℕ} (n : Next) → Stepped file types functions w w′ base label r n → ((x : ℕ) → n ≡ Next.Waits x → ⊥) → BoundSoFar p j done s n w′
+      bound-so-far Next.Demands stepped no-wait = bound-kept (stepped .only-top) Next.Demands (means stepped)
+      bound-so-far Next.Stops stepped no-wait = bound-kept (stepped .only-top) Next.Stops (means stepped)
+      bound-so-far (Next.Goes r′) stepped no-wait = let (s′, on, follows) = means stepped in bound-kept (stepped .only-top) (Next.Goes r′) (s′, on)
+      bound-so-far (Next.Waits x) stepped no-wait = absurd (no-wait x refl)
+
       pub advances :
           {w′ : List ℕ} (n : Next) → binds ≤ done + 1 → Stepped file types functions w w′ base label r n → ((x : ℕ) → n ≡ Next.Waits x → ⊥)
           → Advances file types functions input label limit w′ base done p j s cells n
@@ -231,11 +241,12 @@ pub went :
     {file types functions input : List ℕ} {label limit : ℕ} {w : List ℕ} {base cells done : ℕ} {r : Registers} {p : Program} {j : Parts} {s : State}
     → Underway file types functions input label limit w base cells done r p j s → {w′ : List ℕ} {n : Next} → Stepped file types functions w w′ base label r n
     → (n′ : Next) → n ≡ n′ → ((x : ℕ) → n′ ≡ Next.Waits x → ⊥)
-    → Advances file types functions input label limit w′ base done p j s cells n′ × PartialInput p j w′
-went {file} {types} {functions} {label = label} {w = w} {base = base} {r = r} h {w′} stepped n′ is never = (
-  advances (h .given) (h .running) (h .sought) (h .in-time) n′ (omega arith) (subst (Stepped file types functions w w′ base label r) is stepped) never,
-  partial-kept (h .given) (h .running) (stepped .only-top),
-)
+    → Advances file types functions input label limit w′ base done p j s cells n′ × BoundSoFar p j done s n′ w′
+went {file} {types} {functions} {label = label} {w = w} {base = base} {r = r} h {w′} stepped n′ is never =
+    let told = subst (Stepped file types functions w w′ base label r) is stepped in (
+      advances (h .given) (h .running) (h .sought) (h .in-time) n′ (omega arith) told never,
+      bound-so-far (h .given) (h .running) (h .sought) (h .in-time) n′ told never,
+    )
 
 -- After one that waits on the part in cell x, which is then bound, and a second step:
 module _
@@ -271,8 +282,9 @@ module _
 
       pub went-bound :
           {w₃ : List ℕ} {n₂ : Next} → Stepped file types functions w₂ w₃ base label r n₂
-          → Advances file types functions input label limit w₃ base done p j s more n₂ × PartialInput p j w₃
-      went-bound {n₂ = n₂} again = (
-        advances (h .given) (now₂ .0) (h .sought) (h .in-time) n₂ (omega arith) again (no-wait (h .given) (now₂ .0) (h .sought) (h .in-time) again (now₂ .2)),
-        partial-kept (h .given) (now₂ .0) (again .only-top),
-      )
+          → Advances file types functions input label limit w₃ base done p j s more n₂ × BoundSoFar p j done s n₂ w₃
+      went-bound {n₂ = n₂} again =
+          let never = no-wait (h .given) (now₂ .0) (h .sought) (h .in-time) again (now₂ .2) in (
+            advances (h .given) (now₂ .0) (h .sought) (h .in-time) n₂ (omega arith) again never,
+            bound-so-far (h .given) (now₂ .0) (h .sought) (h .in-time) n₂ again never,
+          )

@@ -13,7 +13,7 @@ use Rattle.reach.specs.declared.Refusal.{Refusal}
 use Rattle.reach.specs.declared.Refusal.the-variants.{BadInput, WorkTooShort}
 use Rattle.reach.specs.declared.Outcome.{Outcome}
 use Rattle.reach.specs.Syntax.{Program}
-use Rattle.reach.specs.Parts.{Parts, _⊑_}
+use Rattle.reach.specs.Parts.{Parts}
 use Rattle.reach.specs.Eval as Eval
 use Rattle.reach.specs.Input.{inputOf}
 use Rattle.reach.specs.RuleFile.{Goal}
@@ -28,7 +28,7 @@ use Rattle.rulefile.specs.declared.Loaded.{Loaded}
 use Rattle.rulefile.specs.Loading.{typePlaces, functionPlaces, Tabled, LoadsAs, Loads}
 use Rattle.rulefile.proofs.Tabled.{program-types, program-source, program-label, program-depth, program-steps, program-source-there, program-source-types}
 use Rattle.machine.proofs.Cells.{kept-cells}
-use Rattle.closed.specs.Running.{Given, Runnable, PartialInput, RunsAs, Leaves, answerOf}
+use Rattle.closed.specs.Running.{Given, Runnable, LookedAt, RunsAs, Leaves, answerOf}
 use Rattle.closed.specs.declared.Answer.{Answer}
 use Rattle.closed.specs.declared.Answer.the-variants as Answer
 use Rattle.closed.proofs.Files.{file-of}
@@ -150,15 +150,18 @@ module _ (file : List ℕ) (r : Loaded) (loads : Loads file r) (is : r .answer �
             answer-ran (here .1) (here .2) input fits work limit o read-limit enough
             (runs (here .0) (whole (here .1) (here .2) input fits) (given-of (here .1) (here .2) input fits) .0)
 
-        -- the words that were lent on stand for a partial input, and so do they with those behind them
+        -- what the words that were lent on stand for, they stand for with those behind them
         pub run-leaves : (behind : List ℕ) → Leaves (Answer.Ran o) file input (v ++ behind)
         run-leaves behind p j checked reads =
             let given = given-of (here .1) (here .2) input fits in
             let one : here .0 ≡ p = cc (here .1) in
-            let (cells, e, stand, below) = runs (here .0) (whole (here .1) (here .2) input fits) given .1 in
+            let looked = runs (here .0) (whole (here .1) (here .2) input fits) given .1 in
+            let stand = looked .stands in
             let two : whole (here .1) (here .2) input fits ≡ j = cc (given .reads) in
             let longer = kept-cells (v ++ behind) stand (omega (arith, stand .fits, length-append v behind)) (λ i l. List·getD-append v behind 0 i (omega (arith, stand .fits))) .1 in
-            subst (λ q. PartialInput q j (v ++ behind)) one (cells, e, longer, subst (λ k. e ⊑ k) two below)
+            subst (λ q. LookedAt q j (q .steps) (v ++ behind)) one
+            (subst (λ k. LookedAt (here .0) k (here .0 .steps) (v ++ behind)) two
+            (record { cells = looked .cells; input = looked .input; stands = longer; below = looked .below; enough = looked .enough }))
 
   -- the words behind those that were lent on are as before
   pub behind-kept :

@@ -24,7 +24,7 @@ use Rattle.values.proofs.Binding as Values
 use Rattle.values.proofs.Binding.{start-follows}
 use Rattle.machine.specs.Records.{Code}
 use Rattle.steps.specs.Stepping.{outlineOf}
-use Rattle.closed.specs.Running.{Given, Underway, Begun}
+use Rattle.closed.specs.Running.{Given, Underway, Begun, LookedAt}
 use Rattle.closed.proofs.Reached.{reached-in, reached-sound}
 use Rattle.closed.proofs.Standing.{startRegisters, stands-start}
 use Rattle.closed.proofs.Advancing.{within, follows-kept}
@@ -124,3 +124,6 @@ module _ {file types functions input : List ℕ} {goal : ℕ} {p : Program} {j :
   pub whole-run : {limit : ℕ} {o : Outcome} → limit ≡ (goalAt file goal) .steps → o ≡ outcomeOf (eval p j limit 0 (start p)) → o ≡ outcomeOf (run p j)
   unfolding run
   whole-run same ends = ends ∙ ap (λ n. outcomeOf (eval p j n 0 (start p))) (same ∙ steps-is)
+
+  pub whole-looked : {limit : ℕ} {w : List ℕ} → limit ≡ (goalAt file goal) .steps → LookedAt p j limit w → LookedAt p j (p .steps) w
+  whole-looked {w = w} same looked = subst (λ n. LookedAt p j n w) (same ∙ steps-is) looked

@@ -1,14 +1,15 @@
 -- The evaluation on a part of a closed input: what the loop over the steps knows. It evaluates on an input e of which only the parts that a case
 -- looked at are bound; e is below the closed input j, every state it reaches is reached on j too, and what comes next is what comes next on j.
 -- Rests on reach's Evaluation, Order, Depths and NeverStuck.
-use Prim.Native.Nat.{ℕ, zero, suc}
-use mathlib.Core.Path.{_≡_, _∙_}
+use Prim.Native.Nat.{ℕ, zero, suc, _-_, _≤_}
+use mathlib.Core.Path.{_≡_, sym, _∙_, ap}
 use mathlib.Core.List.{List, [], _∷_}
+use native.Mathlib.Omega.{arith}
 use lib.ListN.{length}
 use Rattle.reach.specs.Syntax.{Types, Program, sourceTypes}
 use Rattle.reach.specs.Parts.{Parts, width, _⊑_, ⊑-end, ⊑-open, ⊑-bind, ⊑-same}
 use Rattle.reach.specs.Types.{Typed, WithinDepth}
-use Rattle.reach.specs.Eval.{State, Stop, demands, stops, goes, next, reached, ended, unfinished, eval}
+use Rattle.reach.specs.Eval.{State, Stop, demands, stops, goes, next, reached, ended, unfinished, start, eval}
 use Rattle.reach.specs.Answers.{accepted, check}
 use Rattle.reach.proofs.Order.{⊑-width}
 use Rattle.reach.proofs.Evaluation.{StateIn, start-in, next-in, next-more, eval-step, eval-demands, eval-stops, eval-spent}
@@ -40,6 +41,14 @@ steps-more p below wide no-step = no-step
 steps-more p {e} below wide (one-more {s = s} {s′ = s′} before on) =
     one-more (steps-more p below wide before) (next-more p below s (steps-in p e wide before) (goes s′) tt on)
 
+-- the steps taken lead from the start to where the rest of the evaluation goes on
+pub steps-eval :
+    (p : Program) (e : Parts) (limit : ℕ) {n : ℕ} {s : State} → Steps p e n s → n ≤ limit → eval p e limit 0 (start p) ≡ eval p e (limit - n) n s
+steps-eval p e limit no-step h = let z : limit - 0 ≡ limit = omega arith in rw z
+steps-eval p e limit (one-more {n = n} {s = s} {s′ = s′} before on) h =
+    let z : limit - n ≡ suc (limit - suc n) = omega arith in
+    steps-eval p e limit before (omega arith) ∙ (ap (λ l. eval p e l n s) z ∙ eval-step p e (limit - suc n) n s s′ on)
+
 -- A checked program on a closed input that fits, and on the inputs below it.
 module _ (file : List ℕ) (p : Program) (checked : check file ≡ accepted p) (j : Parts) (fits : WithinDepth p j) where
   pub below-width : {e : Parts} → e ⊑ j → width e ≡ length (sourceTypes p)
@@ -65,3 +74,19 @@ module _ (file : List ℕ) (p : Program) (checked : check file ≡ accepted p) (
 
     pub run-spent : (m : ℕ) (s′ : State) → next p e s ≡ goes s′ → eval p j zero m s ≡ unfinished m
     run-spent m s′ on = eval-spent p j m s s′ (next-more p below s (reached-in below steps) (goes s′) tt on)
+
+    -- the evaluation on the input below comes to the same end, by what comes next there
+    module _ (limit : ℕ) (in-time : n ≤ limit) where
+      same-left : eval p e (limit - n) n s ≡ eval p j (limit - n) n s → eval p e limit 0 (start p) ≡ eval p j limit 0 (start p)
+      same-left same = steps-eval p e limit steps in-time ∙ (same ∙ sym (steps-eval p j limit (steps-more p below (below-width below) steps) in-time))
+
+      pub same-demands : next p e s ≡ demands → eval p e limit 0 (start p) ≡ eval p j limit 0 (start p)
+      same-demands on = same-left (eval-demands p e (limit - n) n s on ∙ sym (run-demands (limit - n) n on))
+
+      pub same-stops : (why : Stop) → next p e s ≡ stops why → eval p e limit 0 (start p) ≡ eval p j limit 0 (start p)
+      same-stops why on = same-left (eval-stops p e (limit - n) n s why on ∙ sym (run-stops (limit - n) n why on))
+
+      pub same-spent : limit ≤ n → (s′ : State) → next p e s ≡ goes s′ → eval p e limit 0 (start p) ≡ eval p j limit 0 (start p)
+      same-spent over s′ on =
+          let z : limit - n ≡ zero = omega arith in
+          same-left (rw z (eval-spent p e n s s′ on ∙ sym (run-spent n s′ on)))

@@ -11,7 +11,7 @@ use Rattle.reach.specs.Syntax.{Program}
 use Rattle.reach.specs.Parts.{Parts, _⊑_}
 use Rattle.reach.specs.Types.{sourceSlots}
 use Rattle.reach.specs.Eval as Eval
-use Rattle.reach.specs.Eval.{State, eval, reached, ended, unfinished, run}
+use Rattle.reach.specs.Eval.{State, start, eval, reached, ended, unfinished, run}
 use Rattle.reach.specs.Input.{inputOf}
 use Rattle.reach.specs.Places.{bytesAt, typeAt, goalAt}
 use Rattle.reach.specs.Answers.{check, accepted, outcomeOf, RunAnswer, noRun, ran}
@@ -102,21 +102,41 @@ Advances file types functions input label limit w′ base done p j s cells (Next
     × (done < limit → Underway file types functions input label limit w′ base cells (suc done) r p j s′)
 Advances file types functions input label limit w′ base done p j s cells (Next.Waits x) = ⊥
 
--- What the words stand for after a run, or a part of one: some partial input below the closed one, so that each part that was bound has the
--- constructor that the closed input has there.
-abbrev pub PartialInput : Program → Parts → List ℕ → Type 0
-PartialInput p j w = (cells : ℕ) × (e : Parts) × Cells (p .types) (sourceSlots p) w cells e × (e ⊑ j)
+-- what comes next on an input, where no case waits
+abbrev pub ComesTo : Program → Parts → State → Next → Type 0
+ComesTo p e s Next.Demands = Eval.next p e s ≡ Eval.demands
+ComesTo p e s Next.Stops = (why : Eval.Stop) × (Eval.next p e s ≡ Eval.stops why)
+ComesTo p e s (Next.Goes r) = (s′ : State) × (Eval.next p e s ≡ Eval.goes s′)
+ComesTo p e s (Next.Waits x) = ⊥
+
+-- What words w stand for then: a partial input below the closed one, on which the same steps lead to state s, and what comes next does not wait.
+pub record BoundSoFar (p : Program) (j : Parts) (done : ℕ) (s : State) (n : Next) (w : List ℕ) : Type 0 where
+  pub cells : ℕ
+  pub input : Parts
+  pub stands : Cells (p .types) (sourceSlots p) w cells input
+  pub below : input ⊑ j
+  pub steps : Steps p input done s
+  pub comes : ComesTo p input s n
 
 abbrev pub AdvancesAll : List ℕ → List ℕ → List ℕ → List ℕ → ℕ → List ℕ → List ℕ → ℕ → ℕ → Registers → ℕ → Next → Type 0
 AdvancesAll file types functions input label w w′ base cells r cells′ n =
     (limit done : ℕ) (p : Program) (j : Parts) (s : State) → Underway file types functions input label limit w base cells done r p j s
-    → Advances file types functions input label limit w′ base done p j s cells′ n × PartialInput p j w′
+    → Advances file types functions input label limit w′ base done p j s cells′ n × BoundSoFar p j done s n w′
+
+-- What words w stand for after a run of at most `limit` steps: a partial input below the closed one, on which the evaluation comes to the same end. So
+-- each part that is bound has the constructor that the closed input has there, and the run looked at no part that is open.
+pub record LookedAt (p : Program) (j : Parts) (limit : ℕ) (w : List ℕ) : Type 0 where
+  pub cells : ℕ
+  pub input : Parts
+  pub stands : Cells (p .types) (sourceSlots p) w cells input
+  pub below : input ⊑ j
+  pub enough : eval p input limit 0 (start p) ≡ eval p j limit 0 (start p)
 
 -- the run of at most `limit` steps from where it is under way ends so, in words w′
 abbrev pub EndsAs : List ℕ → List ℕ → List ℕ → List ℕ → ℕ → ℕ → List ℕ → List ℕ → ℕ → ℕ → Registers → Outcome → Type 0
 EndsAs file types functions input label limit w w′ base cells r o =
     (p : Program) (j : Parts) (s : State) → Underway file types functions input label limit w base cells 0 r p j s
-    → (o ≡ outcomeOf (eval p j limit 0 s)) × PartialInput p j w′
+    → (o ≡ outcomeOf (eval p j limit 0 s)) × LookedAt p j limit w′
 
 -- some run begins here
 abbrev pub Begins : List ℕ → List ℕ → List ℕ → List ℕ → ℕ → ℕ → List ℕ → ℕ → ℕ → Registers → Type 0
@@ -150,7 +170,7 @@ pub record Begun (file types input w w′ : List ℕ) (base first n depth : ℕ)
 -- the closed run of a program on an input, which ends in words w′
 abbrev pub RunsAs : List ℕ → List ℕ → List ℕ → List ℕ → ℕ → List ℕ → Outcome → Type 0
 RunsAs file types functions input goal w′ o =
-    (p : Program) (j : Parts) → Given file types functions input goal p j → (o ≡ outcomeOf (run p j)) × PartialInput p j w′
+    (p : Program) (j : Parts) → Given file types functions input goal p j → (o ≡ outcomeOf (run p j)) × LookedAt p j (p .steps) w′
 
 -- there is such a program and input, the tables' places are small, and the words are as many as the run needs
 abbrev pub Runnable : List ℕ → List ℕ → List ℕ → List ℕ → ℕ → List ℕ → Type 0
@@ -166,8 +186,8 @@ abbrev pub Unchanged : Answer → List ℕ → List ℕ → List ℕ → Type 0
 Unchanged (Answer.Refused why) file w w′ = w′ ≡ w
 Unchanged (Answer.Ran o) file w w′ = (p : Program) → check file ≡ accepted p → drop (64 * p .steps + 1024) w′ ≡ drop (64 * p .steps + 1024) w
 
--- After a run the words stand for a partial input below the closed one. Which of its parts are bound is not said, nor what the evaluation's
--- records left behind the cells.
+-- After a run the words stand for a part of the closed input that has all that the run looked at. What the evaluation's records left behind the
+-- cells is not said.
 abbrev pub Leaves : Answer → List ℕ → List ℕ → List ℕ → Type 0
 Leaves (Answer.Refused why) file input w′ = Unit {0}
-Leaves (Answer.Ran o) file input w′ = (p : Program) (j : Parts) → check file ≡ accepted p → inputOf p input ≡ some j → PartialInput p j w′
+Leaves (Answer.Ran o) file input w′ = (p : Program) (j : Parts) → check file ≡ accepted p → inputOf p input ≡ some j → LookedAt p j (p .steps) w′

@@ -2,7 +2,7 @@
 use native.Mathlib.Omega.{arith}
 use borrow.Author.Needs.{needs}
 use Rattle.reach.specs.Eval.{start}
-use Rattle.closed.proofs.Beginning.{depth-is, steps-is, steps-few, depth-small, n-few, evaluation-begins, whole-run}
+use Rattle.closed.proofs.Beginning.{depth-is, steps-is, steps-few, depth-small, n-few, evaluation-begins, whole-run, whole-looked}
 use Rattle.closed.proofs.evaluate.Statement.{statement}
 use Rattle.closed.proofs.evaluate.Tie as tie
 
@@ -53,7 +53,7 @@ returns c =
     let ends =
     c .before .before .go-on .ensures p j (start p)
     (evaluation-begins given (read .steps .ensures) (found .before .source .ensures) (found .head-of .result) (found .head-of .ensures .0) (begun .before .depth .ensures) (c .before .before .before .before .label .ensures) (omega (arith, pre .3, read .steps .ensures, steps-is (pre .2))) (begun .begin .ensures)) in
-    (whole-run given (read .steps .ensures) (ends .0), ends .1)
+    (whole-run given (read .steps .ensures) (ends .0), whole-looked given (read .steps .ensures) (ends .1))
 
 pub evaluate-spec : {M : Type 1} → statement M
 evaluate-spec =
