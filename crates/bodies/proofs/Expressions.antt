@@ -2,7 +2,7 @@
 -- values stand beside the definition's, with the equations that the code's calls ensure.
 -- Rests on Tables, Views and Steps.
 use Prim.Native.Nat.{ℕ, _+_, _-_, _≤_, _<_}
-use mathlib.Core.Path.{_≡_, sym, _∙_}
+use mathlib.Core.Path.{_≡_, sym, _∙_, ap}
 use mathlib.Core.Bool.{Bool, true, false, not}
 use mathlib.Core.List.{List, [], _∷_, _++_, map}
 use lib.ListN.{length, getD, length-map, length-take}
@@ -14,6 +14,7 @@ use Rattle.reach.specs.declared.Refusal.{Refusal}
 use Rattle.reach.specs.declared.Refusal.the-variants.{Truncated, OutOfRange, UnknownNumber, UnknownCode, TypeMismatch}
 use Rattle.reach.specs.Syntax.{call, construct, case, bind, target}
 use Rattle.reach.specs.Reader.{got, refused, _>>=_, give, byte}
+use Rattle.reach.specs.RuleFile as RuleFile
 use Rattle.reach.specs.RuleFile.{Below, operandsOf, alternatives, variableExpr, callOf, callExpr, constructOf, constructExpr, caseOf, caseExpr, letExpr, targetExpr, expressionBy}
 use Rattle.reach.specs.Places.{bytesAt, constructorsAt, typeAt, headAt, outlineAt}
 use Rattle.records.specs.declared.Step.{Step}
@@ -23,9 +24,12 @@ use Rattle.records.proofs.Answers.{step-mapped}
 use Rattle.bodies.specs.declared.View.{View}
 use Rattle.lookups.specs.declared.Fields.{Fields}
 use Rattle.lookups.specs.declared.Fields.the-variants as Fields
+use Rattle.lookups.specs.declared.Head.{Head}
+use Rattle.lookups.specs.declared.Constructors.{Constructors}
 use Rattle.lookups.specs.Fields.{fieldsOf, fieldsIn}
+use Rattle.lookups.specs.Heads.{headOf}
 use Rattle.bodies.specs.Check.{viewOf, Limits, outlineOf, expressionAt, variableAt, callAt, constructAt, caseAt, letAt, targetAt}
-use Rattle.lookups.proofs.Tables.{found, missing}
+use Rattle.lookups.proofs.Tables.{found, missing, parameters-are}
 use Rattle.bodies.proofs.Views.{limits-over, limits-kept, limits-nested}
 use Rattle.bodies.proofs.Steps.{both-next, first-refused, below-is, expression-is}
 
@@ -100,23 +104,23 @@ module _ (file types functions : List ℕ) (left : ℕ) (view : View) (expected 
       unfolding callExpr callOf outlineAt
       call-over e = rw (read, found (headAt file) functions 0 b (omega arith), limits-over l e)
 
-      module _ (kept : not r ≡ false) {place n result : ℕ}
-          (p : place ≡ getD functions f 0) (q : n ≡ getD file place 0) (t : result ≡ getD file (place + 1 + n) 0) where
-        call-result : result ≡ (headAt file (getD functions b 0)) .result
-        unfolding headAt
-        call-result = cc
+      module _ (kept : not r ≡ false) (h : Head) (is : headOf file h ≡ headAt file (getD functions f 0)) where
+        called : headOf file h ≡ headAt file (getD functions b 0)
+        called = rw (← same) is
 
-        call-parameters : bytesAt file (place + 1) n ≡ (headAt file (getD functions b 0)) .parameters
-        unfolding headAt
-        call-parameters = cc
+        call-result : h .result ≡ (headAt file (getD functions b 0)) .result
+        call-result = ap (λ (g : RuleFile.Head). g .result) called
 
-        pub call-mismatch : (result ≡ expected → ⊥) → Refused TypeMismatch ≡ callStep
+        call-parameters : bytesAt file (h .parameters) (h .count) ≡ (headAt file (getD functions b 0)) .parameters
+        call-parameters = parameters-are file h called
+
+        pub call-mismatch : (h .result ≡ expected → ⊥) → Refused TypeMismatch ≡ callStep
         unfolding callExpr callOf outlineAt
         call-mismatch e =
             rw (read, found (headAt file) functions 0 b (omega arith), limits-kept l kept, ne-eqb _ _ (λ x. e (call-result ∙ x)))
 
-        pub call-goes : result ≡ expected
-            → {end : Step} → end ≡ stepOf (operandsOf inner (viewOf view) (bytesAt file (place + 1) n) s next) → end ≡ callStep
+        pub call-goes : h .result ≡ expected
+            → {end : Step} → end ≡ stepOf (operandsOf inner (viewOf view) (bytesAt file (h .parameters) (h .count)) s next) → end ≡ callStep
         unfolding callExpr callOf outlineAt
         call-goes e ends =
             ends
@@ -192,12 +196,12 @@ module _ (file types functions : List ℕ) (left : ℕ) (view : View) (expected 
             (λ x. alternatives inner (viewOf view) expected (typeAt file (getD types b 0)) >>= λ y. give (case b x y))
             s next (sym subject ∙ e)))
 
-        pub case-goes : {first place n : ℕ} → step ≡ Next first → place ≡ getD types t 0 → n ≡ getD file place 0
-            → {end : Step} → end ≡ stepOf (alternatives inner (viewOf view) expected (constructorsAt file (place + 1) n) s first) → end ≡ caseStep
-        unfolding caseExpr caseOf outlineAt typeAt
-        case-goes e p q ends =
+        pub case-goes : {first : ℕ} → step ≡ Next first → (all : Constructors) → constructorsAt file (all .at) (all .count) ≡ typeAt file (getD types t 0)
+            → {end : Step} → end ≡ stepOf (alternatives inner (viewOf view) expected (constructorsAt file (all .at) (all .count)) s first) → end ≡ caseStep
+        unfolding caseExpr caseOf outlineAt
+        case-goes e all is ends =
             ends
-            ∙ rw (read, found (typeAt file) types 0 b (omega arith), limits-kept l kept, below-is _ left (limits-nested l kept), q, p, same)
+            ∙ rw (read, found (typeAt file) types 0 b (omega arith), limits-kept l kept, below-is _ left (limits-nested l kept), is, same)
             (sym
             (both-next (inner (viewOf view) b) (alternatives inner (viewOf view) expected (typeAt file (getD types b 0))) (case b)
             s next (sym subject ∙ e)))

@@ -5,6 +5,7 @@ use mathlib.Core.Path.{_≡_}
 use mathlib.Core.List.{List}
 use lib.ListN.{length, getD}
 use Rattle.reach.specs.Places.{bytesAt, constructorsAt, typeAt}
+use Rattle.lookups.specs.declared.Constructors.{Constructors}
 use Rattle.lookups.proofs.Tables.{bytes-length, constructors-more, constructor-first}
 use Rattle.bodies.specs.Check.{Narrow, Small}
 
@@ -18,7 +19,7 @@ module _ (s : List ℕ) (i n : ℕ) (more : 0 < n) (narrow : Narrow (constructor
   narrow-rest c us e = narrow (suc c) us (rw (constructors-more s i n more, ← same) e)
 
 -- the constructors of a type that the table has are narrow
-pub narrow-type : {file types functions : List ℕ} {t place n : ℕ}
-    → Small file types functions → t < length types → place ≡ getD types t 0 → n ≡ getD file place 0 → Narrow (constructorsAt file (place + 1) n)
-unfolding typeAt
-narrow-type {t} small h p q = rw (q, p) (small .fields-limit t h)
+pub narrow-type : {file types functions : List ℕ} {t : ℕ} (all : Constructors)
+    → Small file types functions → t < length types → constructorsAt file (all .at) (all .count) ≡ typeAt file (getD types t 0)
+    → Narrow (constructorsAt file (all .at) (all .count))
+narrow-type {t} all small h is = rw is (small .fields-limit t h)

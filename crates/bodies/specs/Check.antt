@@ -34,7 +34,7 @@ Narrow cs = (c : ℕ) (us : List ℕ) → getElem? cs c ≡ some us → length u
 -- The tables keep to the limits of the first pass.
 pub record Small (file types functions : List ℕ) : Type 0 where
   pub fields-limit : (t : ℕ) → t < length types → Narrow (typeAt file (getD types t 0))
-  pub parameters-limit : (f : ℕ) → f < length functions → getD file (getD functions f 0) 0 ≤ parameterLimit
+  pub parameters-limit : (f : ℕ) → f < length functions → length ((headAt file (getD functions f 0)) .parameters) ≤ parameterLimit
 
 -- the body of the record at a place ends inside the file
 abbrev pub BodyThere : List ℕ → ℕ → Type 0

@@ -3,14 +3,15 @@
 // Rests on crates records and lookups.
 ghost use mathlib.Core.Path.{_≡_};
 ghost use mathlib.Core.List.{[], _∷_, _++_};
-ghost use Prim.Native.Nat.{_+_, _≤_};
-ghost use lib.ListN.{getD, getElem?};
+ghost use Prim.Native.Nat.{_+_, _≤_, _<_};
+ghost use lib.ListN.{length, getD, getElem?};
 ghost use Rattle.reach.specs.Places.{bytesAt, constructorsAt};
 ghost use Rattle.records.specs.Steps.{stepOf};
 ghost use Rattle.bodies.specs.Check.{viewOf, Limits, Small, Narrow, variableAt, callAt, constructAt, caseAt, letAt, targetAt, expressionAt, operandsAt, alternativeAt, alternativesAt, BodyThere, bodyAt, BodiesThere, functionsAt, bodiesStep};
 use lookups::Fields;
+use lookups::constructors_of;
 use lookups::fields_of;
-use lookups::place_or_zero;
+use lookups::head_of;
 use reach::Refusal;
 use records::Step;
 use records::Taken;
@@ -142,9 +143,8 @@ pub fn call<'a>(
     if !in_limits(left, view) {
         return Step::Refused(Refusal::OutOfRange);
     }
-    let place = place_or_zero(functions, f);
-    let parameters = byte_or_zero(file, place);
-    if byte_or_zero(file, place + 1 + parameters) != expected {
+    let head = head_of(file, functions, f);
+    if head.result != expected {
         return Step::Refused(Refusal::TypeMismatch);
     }
     operands(
@@ -155,8 +155,8 @@ pub fn call<'a>(
         next,
         left - 1,
         view,
-        place + 1,
-        parameters,
+        head.parameters,
+        head.count,
     )
 }
 
@@ -231,7 +231,7 @@ pub fn case<'a>(
     let Step::Next(first) = step else {
         return step;
     };
-    let place = place_or_zero(types, t);
+    let all = constructors_of(file, types, t);
     alternatives(
         file,
         body,
@@ -240,8 +240,8 @@ pub fn case<'a>(
         first,
         left - 1,
         view,
-        place + 1,
-        byte_or_zero(file, place),
+        all.at,
+        all.count,
         expected,
     )
 }
@@ -428,31 +428,28 @@ pub fn alternative<'a>(
     )
 }
 
-// The body of the function whose record stands at a place, and nothing behind its expression.
-pub fn body_of<'a>(file: &'a [u8], types: &'a [u16], functions: &'a [u16], place: usize) -> Step
-    requires { ⌜ Small (now file) (now types) (now functions) × (place ≤ 65535) × (getD (now file) place 0 ≤ 8) × BodyThere (now file) place ⌝ }
-    ensures { λ r. ⌜ r ≡ stepOf (bodyAt (now (file .entry)) (now (types .entry)) (now (functions .entry)) place) ⌝ }
+// The body of function f, and nothing behind its expression.
+pub fn body_of<'a>(file: &'a [u8], types: &'a [u16], functions: &'a [u16], f: usize) -> Step
+    requires { ⌜ Small (now file) (now types) (now functions) × (f < length (now functions)) × BodyThere (now file) (getD (now functions) f 0) ⌝ }
+    ensures { λ r. ⌜ r ≡ stepOf (bodyAt (now (file .entry)) (now (types .entry)) (now (functions .entry)) (getD (now (functions .entry)) f 0)) ⌝ }
 {
-    let n = byte_or_zero(file, place);
-    let result = byte_or_zero(file, place + 1 + n);
-    let size = byte_or_zero(file, place + 2 + n) + 256 * byte_or_zero(file, place + 3 + n);
-    let start = place + 4 + n;
-    let end = start + size;
+    let head = head_of(file, functions, f);
+    let end = head.body + head.size;
     let none = View {
         types: [0; 40],
         count: 0,
     };
-    let parameters = extended(none, file, place + 1, n);
+    let parameters = extended(none, file, head.parameters, head.count);
     let body = &file[..end];
     let step = expression(
         file,
         body,
         types,
         functions,
-        start,
+        head.body,
         NESTING_LIMIT,
         parameters,
-        result,
+        head.result,
     );
     let Step::Next(behind) = step else {
         return step;
@@ -470,7 +467,7 @@ pub fn bodies<'a>(file: &'a [u8], types: &'a [u16], functions: &'a [u16]) -> Ste
 {
     let mut f: usize = 0;
     while f < functions.len() {
-        let step = body_of(file, types, functions, place_or_zero(functions, f));
+        let step = body_of(file, types, functions, f);
         let Step::Next(_) = step else {
             return step;
         };

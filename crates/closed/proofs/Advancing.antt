@@ -30,9 +30,9 @@ use Rattle.steps.specs.declared.Next.{Next}
 use Rattle.steps.specs.declared.Next.the-variants as Next
 use Rattle.steps.specs.Stepping.{Standing, OnlyTop, Follows, StepMeans, Stepped}
 use Rattle.steps.proofs.Words.{records-same}
-use Rattle.closed.specs.Running.{Given, Running, Underway, notedNumber, Bindable, BoundAs, Advances}
-use Rattle.closed.proofs.Reached.{below-width, reached-in, reached-sound, run-goes, run-demands, run-stops, run-spent}
 use Rattle.steps.proofs.Standing.{stands-after, stands-below}
+use Rattle.closed.specs.Running.{Given, Running, Underway, notedNumber, Bindable, BoundAs, Advances, ComesTo, BoundSoFar}
+use Rattle.closed.proofs.Reached.{below-width, reached-in, reached-sound, run-goes, run-demands, run-stops, run-spent}
 
 -- what is noted in the cells stays while the record at the top is written
 module _
@@ -109,6 +109,17 @@ module _ {file types functions input : List ℕ} {goal : ℕ} {p : Program} {j :
       few-records = now .few-records;
       base-is = now .base-is;
       long = rw (only .same-length) (now .long);
+    }
+
+    -- then the words still stand for the input that is bound so far
+    pub bound-kept : {w′ : List ℕ} → OnlyTop w w′ base (r .records) → (n : Next) → ComesTo p (now .input) s n → BoundSoFar p j done s n w′
+    bound-kept {w′} only n comes = record {
+      cells = cells;
+      input = now .input;
+      stands = kept-cells w′ (now .stands .input) (rw (only .same-length) (now .stands .input .fits)) (λ i below. only .elsewhere i (λ h. absurd (omega (arith, now .stands .apart)))) .1;
+      below = now .follows .below;
+      steps = now .steps;
+      comes = comes;
     }
 
     -- where a case waits on an open part, its cell can be bound to what the closed input has there
@@ -195,6 +206,14 @@ module _ {file types functions input : List ℕ} {goal : ℕ} {p : Program} {j :
           let (q, waiting, cell) = subst (StepMeans file types functions w w′ base r p (now .input) s) is (means stepped) in
           absurd (clash (cc))
 
+      -- what comes next on the input that is bound so far
+      pub bound-so-far :
+          {w′ : List ℕ} (n : Next) → Stepped file types functions w w′ base label r n → ((x : ℕ) → n ≡ Next.Waits x → ⊥) → BoundSoFar p j done s n w′
+      bound-so-far Next.Demands stepped no-wait = bound-kept (stepped .only-top) Next.Demands (means stepped)
+      bound-so-far Next.Stops stepped no-wait = bound-kept (stepped .only-top) Next.Stops (means stepped)
+      bound-so-far (Next.Goes r′) stepped no-wait = let (s′, on, follows) = means stepped in bound-kept (stepped .only-top) (Next.Goes r′) (s′, on)
+      bound-so-far (Next.Waits x) stepped no-wait = absurd (no-wait x refl)
+
       pub advances :
           {w′ : List ℕ} (n : Next) → binds ≤ done + 1 → Stepped file types functions w w′ base label r n → ((x : ℕ) → n ≡ Next.Waits x → ⊥)
           → Advances file types functions input label limit w′ base done p j s cells n
@@ -222,9 +241,13 @@ module _ {file types functions input : List ℕ} {goal : ℕ} {p : Program} {j :
 pub went :
     {file types functions input : List ℕ} {label limit : ℕ} {w : List ℕ} {base cells done : ℕ} {r : Registers} {p : Program} {j : Parts} {s : State}
     → Underway file types functions input label limit w base cells done r p j s → {w′ : List ℕ} {n : Next} → Stepped file types functions w w′ base label r n
-    → (n′ : Next) → n ≡ n′ → ((x : ℕ) → n′ ≡ Next.Waits x → ⊥) → Advances file types functions input label limit w′ base done p j s cells n′
+    → (n′ : Next) → n ≡ n′ → ((x : ℕ) → n′ ≡ Next.Waits x → ⊥)
+    → Advances file types functions input label limit w′ base done p j s cells n′ × BoundSoFar p j done s n′ w′
 went {file} {types} {functions} {label = label} {w = w} {base = base} {r = r} h {w′} stepped n′ is never =
-    advances (h .given) (h .running) (h .sought) (h .in-time) n′ (omega arith) (subst (Stepped file types functions w w′ base label r) is stepped) never
+    let told = subst (Stepped file types functions w w′ base label r) is stepped in (
+      advances (h .given) (h .running) (h .sought) (h .in-time) n′ (omega arith) told never,
+      bound-so-far (h .given) (h .running) (h .sought) (h .in-time) n′ told never,
+    )
 
 -- After one that waits on the part in cell x, which is then bound, and a second step:
 module _
@@ -258,6 +281,11 @@ module _
       pub standing : Standing file types functions w₂ base r
       standing = record { program = p; cells = more; input = now₂ .0 .input; state = s; file-of = h .given .file-of; stands = now₂ .0 .stands }
 
-      pub went-bound : {w₃ : List ℕ} {n₂ : Next} → Stepped file types functions w₂ w₃ base label r n₂ → Advances file types functions input label limit w₃ base done p j s more n₂
+      pub went-bound :
+          {w₃ : List ℕ} {n₂ : Next} → Stepped file types functions w₂ w₃ base label r n₂
+          → Advances file types functions input label limit w₃ base done p j s more n₂ × BoundSoFar p j done s n₂ w₃
       went-bound {n₂ = n₂} again =
-          advances (h .given) (now₂ .0) (h .sought) (h .in-time) n₂ (omega arith) again (no-wait (h .given) (now₂ .0) (h .sought) (h .in-time) again (now₂ .2))
+          let never = no-wait (h .given) (now₂ .0) (h .sought) (h .in-time) again (now₂ .2) in (
+            advances (h .given) (now₂ .0) (h .sought) (h .in-time) n₂ (omega arith) again never,
+            bound-so-far (h .given) (now₂ .0) (h .sought) (h .in-time) n₂ again never,
+          )

@@ -6,7 +6,7 @@ use mathlib.Core.Bool.{Bool, true, false, not}
 use mathlib.Core.List.{List, _++_}
 use mathlib.Core.Option.{some}
 use native.Mathlib.Omega.{arith}
-use lib.ListN.{length, getD, take, drop, length-take}
+use lib.ListN.{length, getD, take, drop, length-take, length-append, List·getD-append}
 use lib.Seq.{drop-at}
 use borrow.Author.Tests.{le-leb, lt-leb, not-true, not-false}
 use Rattle.reach.specs.declared.Refusal.{Refusal}
@@ -27,7 +27,8 @@ use Rattle.rulefile.specs.declared.Checked.the-variants as Checked
 use Rattle.rulefile.specs.declared.Loaded.{Loaded}
 use Rattle.rulefile.specs.Loading.{typePlaces, functionPlaces, Tabled, LoadsAs, Loads}
 use Rattle.rulefile.proofs.Tabled.{program-types, program-source, program-label, program-depth, program-steps, program-source-there, program-source-types}
-use Rattle.closed.specs.Running.{Given, Runnable, RunsAs, answerOf}
+use Rattle.machine.proofs.Cells.{kept-cells}
+use Rattle.closed.specs.Running.{Given, Runnable, LookedAt, RunsAs, Leaves, answerOf}
 use Rattle.closed.specs.declared.Answer.{Answer}
 use Rattle.closed.specs.declared.Answer.the-variants as Answer
 use Rattle.closed.proofs.Files.{file-of}
@@ -143,11 +144,24 @@ module _ (file : List ℕ) (r : Loaded) (loads : Loads file r) (is : r .answer �
         goal-small,
       )
 
-      pub run-ran :
-          (work : ℕ) (o : Outcome) → 64 * limit + 1024 ≤ work → RunsAs file (typePlaces r) (functionPlaces r) input (r .«goal_at») o
-          → Answer.Ran o ≡ answerOf (runAnswer file input work)
-      run-ran work o enough runs =
-          answer-ran (here .1) (here .2) input fits work limit o read-limit enough (runs (here .0) (whole (here .1) (here .2) input fits) (given-of (here .1) (here .2) input fits))
+      module _ {v : List ℕ} {o : Outcome} (runs : RunsAs file (typePlaces r) (functionPlaces r) input (r .«goal_at») v o) where
+        pub run-ran : (work : ℕ) → 64 * limit + 1024 ≤ work → Answer.Ran o ≡ answerOf (runAnswer file input work)
+        run-ran work enough =
+            answer-ran (here .1) (here .2) input fits work limit o read-limit enough
+            (runs (here .0) (whole (here .1) (here .2) input fits) (given-of (here .1) (here .2) input fits) .0)
+
+        -- what the words that were lent on stand for, they stand for with those behind them
+        pub run-leaves : (behind : List ℕ) → Leaves (Answer.Ran o) file input (v ++ behind)
+        run-leaves behind p j checked reads =
+            let given = given-of (here .1) (here .2) input fits in
+            let one : here .0 ≡ p = cc (here .1) in
+            let looked = runs (here .0) (whole (here .1) (here .2) input fits) given .1 in
+            let stand = looked .stands in
+            let two : whole (here .1) (here .2) input fits ≡ j = cc (given .reads) in
+            let longer = kept-cells (v ++ behind) stand (omega (arith, stand .fits, length-append v behind)) (λ i l. List·getD-append v behind 0 i (omega (arith, stand .fits))) .1 in
+            subst (λ q. LookedAt q j (q .steps) (v ++ behind)) one
+            (subst (λ k. LookedAt (here .0) k (here .0 .steps) (v ++ behind)) two
+            (record { cells = looked .cells; input = looked .input; stands = longer; below = looked .below; enough = looked .enough }))
 
   -- the words behind those that were lent on are as before
   pub behind-kept :

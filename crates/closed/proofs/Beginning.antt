@@ -1,7 +1,7 @@
 -- The run begins: in the words that `begin` leaves, the run of the program on the closed input is under way with no step taken.
 -- Rests on specs/Running, on Reached, Standing and Advancing, and on values' start.
 use Prim.Native.Nat.{ℕ, _+_, _*_, _≤_}
-use mathlib.Core.Path.{_≡_, refl, sym, _∙_, ap}
+use mathlib.Core.Path.{_≡_, refl, sym, _∙_, ap, subst}
 use mathlib.Core.List.{List, map}
 use mathlib.Core.Option.{some}
 use native.Mathlib.Omega.{arith}
@@ -11,16 +11,20 @@ use Rattle.reach.specs.Syntax.{Function, Program, functionAt, sourceTypes}
 use Rattle.reach.specs.Parts.{Parts, allOpen}
 use Rattle.reach.specs.Types.{sourceSlots}
 use Rattle.reach.specs.Eval.{eval, start, run}
+use Rattle.reach.specs.RuleFile as RuleFile
 use Rattle.reach.specs.Places.{bytesAt, typeAt, headAt, goalAt}
 use Rattle.reach.specs.Answers.{outcomeOf}
 use Rattle.reach.proofs.Limits.{accepted-keeps}
 use Rattle.reach.proofs.NeverStuck.{no-step}
+use Rattle.lookups.specs.declared.Head.{Head}
+use Rattle.lookups.specs.Heads.{headOf}
+use Rattle.lookups.proofs.Tables.{parameters-are}
 use Rattle.cells.proofs.Writing.{bytes-length}
 use Rattle.values.proofs.Binding as Values
 use Rattle.values.proofs.Binding.{start-follows}
 use Rattle.machine.specs.Records.{Code}
 use Rattle.steps.specs.Stepping.{outlineOf}
-use Rattle.closed.specs.Running.{Given, Underway, Begun}
+use Rattle.closed.specs.Running.{Given, Underway, Begun, LookedAt}
 use Rattle.closed.proofs.Reached.{reached-in, reached-sound}
 use Rattle.steps.proofs.Standing.{startRegisters, stands-start}
 use Rattle.closed.proofs.Advancing.{within, follows-kept}
@@ -45,32 +49,34 @@ module _ {file types functions input : List ℕ} {goal : ℕ} {p : Program} {j :
   pub depth-small : p .depth ≤ 64
   depth-small = accepted-keeps file p (given .checked) .depth-limit .1
 
-  module _ (head n : ℕ) (head-is : head ≡ getD functions (p .source) 0) (n-is : n ≡ getD file head 0) where
+  module _ (head : Head) (is : headOf file head ≡ headAt file (getD functions (p .source) 0)) where
     -- the types of the source's parameters
-    parameters-are : bytesAt file (head + 1) n ≡ sourceTypes p
-    unfolding headAt goalAt
-    parameters-are =
+    source-parameters : bytesAt file (head .parameters) (head .count) ≡ sourceTypes p
+    unfolding goalAt
+    source-parameters =
         let source : getD file goal 0 ≡ p .source = source-is in
         let there = given .placed .source-there in
-        rw (n-is, head-is) (sym (rw source at there))
+        parameters-are file head is ∙ sym (rw source at there)
 
-    many : n ≡ length (sourceTypes p)
-    many = sym (bytes-length file (head + 1) n) ∙ ap length parameters-are
+    many : head .count ≡ length (sourceTypes p)
+    many = sym (bytes-length file (head .parameters) (head .count)) ∙ ap length source-parameters
 
-    pub parameters-few : n ≤ 8
+    pub parameters-few : head .count ≤ 8
     parameters-few = omega (arith, many, accepted-keeps file p (given .checked) .parameters-limit)
 
     -- the source's body
-    body : (g : Function) × (functionAt p (p .source) ≡ some g) × Code file (outlineOf file types functions) (head + 4 + n) (g .body)
-    unfolding headAt
-    body = let found = given .file-of .function-there (p .source) (given .source-there) in (found .0, found .1, rw (n-is, head-is) (found .2))
+    body : (g : Function) × (functionAt p (p .source) ≡ some g) × Code file (outlineOf file types functions) (head .body) (g .body)
+    body =
+        let found = given .file-of .function-there (p .source) (given .source-there) in
+        (found .0, found .1, subst (λ i. Code file (outlineOf file types functions) i (found .0 .body)) (sym (ap (λ (g : RuleFile.Head). g .body) is)) (found .2))
 
     pub begins :
         {w w′ : List ℕ} {label limit base deep : ℕ} → label ≡ p .label → deep ≡ p .depth → base ≡ 30 * limit + 80 → limit ≤ 4096 → length w ≡ 64 * limit + 1024
-        → Begun file types input w w′ base head n deep → Underway file types functions input label limit w′ base n 0 (startRegisters (head + 4 + n)) p j (start p)
+        → Begun file types input w w′ base (head .parameters) (head .count) deep
+        → Underway file types functions input label limit w′ base (head .count) 0 (startRegisters (head .body)) p j (start p)
     begins {w} {w′} {limit = limit} {base} sought depth base-is few long begun =
-        let follows : Values.Follows (map (typeAt file) types) (sourceSlots p) (begun .w₂) n (allOpen n) j =
-        start-follows (given .placed) input (given .reads) parameters-are depth (bytes-length file (head + 1) n) (begun .starts) (begun .noted) in
+        let follows : Values.Follows (map (typeAt file) types) (sourceSlots p) (begun .w₂) (head .count) (allOpen (head .count)) j =
+        start-follows (given .placed) input (given .reads) source-parameters depth (bytes-length file (head .parameters) (head .count)) (begun .starts) (begun .noted) in
         let same : length (begun .w₂) ≡ length w = begun .noted .same-length ∙ begun .starts .same-length in
         let whole : length w′ ≡ length w = begun .group .only-top .same-length ∙ begun .zeros .only-top .same-length ∙ same in
         let small = parameters-few in
@@ -80,9 +86,9 @@ module _ {file types functions input : List ℕ} {goal : ℕ} {p : Program} {j :
           sought = sought;
           in-time = omega arith;
           running = record {
-            input = allOpen n;
+            input = allOpen (head .count);
             stands =
-                stands-start p base (head + 4 + n) n (body .0) (body .1) (body .2) many (omega arith) (omega arith) (omega arith) (omega arith)
+                stands-start p base (head .body) (head .count) (body .0) (body .1) (body .2) many (omega arith) (omega arith) (omega arith) (omega arith)
                 (rw (← given .file-of .types-there) at (follows .cells)) (begun .zeros) (begun .group)
                 (reached-in file p (given .checked) j (within given) (follows .below) no-step) (reached-sound file p (given .checked) j (within given) (follows .below) no-step);
             follows = follows-kept (follows-kept follows (omega arith) (begun .zeros .only-top)) (omega arith) (begun .group .only-top);
@@ -96,24 +102,28 @@ module _ {file types functions input : List ℕ} {goal : ℕ} {p : Program} {j :
 
   -- the same from what `evaluate` reads of the goal's record
   module _
-      {limit which head n deep : ℕ} (limit-read : limit ≡ (goalAt file goal) .steps) (which-read : which ≡ (goalAt file goal) .source)
-      (head-read : head ≡ getD functions which 0) (n-read : n ≡ getD file head 0) (deep-read : deep ≡ (goalAt file goal) .depth)
+      {limit which deep : ℕ} (limit-read : limit ≡ (goalAt file goal) .steps) (which-read : which ≡ (goalAt file goal) .source)
+      (head : Head) (head-read : headOf file head ≡ headAt file (getD functions which 0)) (deep-read : deep ≡ (goalAt file goal) .depth)
     where
-      head-is : head ≡ getD functions (p .source) 0
-      head-is = head-read ∙ ap (λ i. getD functions i 0) (which-read ∙ source-is)
+      head-is : headOf file head ≡ headAt file (getD functions (p .source) 0)
+      head-is = head-read ∙ ap (λ i. headAt file (getD functions i 0)) (which-read ∙ source-is)
 
-      pub n-few : n ≤ 8
-      n-few = parameters-few head n head-is n-read
+      pub n-few : head .count ≤ 8
+      n-few = parameters-few head head-is
 
       pub limit-few : limit ≤ 4096
       limit-few = omega (arith, steps-is, steps-few)
 
       pub evaluation-begins :
-          {w w′ : List ℕ} {label : ℕ} → label ≡ (goalAt file goal) .label → length w ≡ 64 * limit + 1024 → Begun file types input w w′ (30 * limit + 80) head n deep
-          → Underway file types functions input label limit w′ (30 * limit + 80) n 0 (startRegisters (head + 4 + n)) p j (start p)
-      evaluation-begins sought long begun = begins head n head-is n-read (sought ∙ label-is) (deep-read ∙ depth-is) refl limit-few long begun
+          {w w′ : List ℕ} {label : ℕ} → label ≡ (goalAt file goal) .label → length w ≡ 64 * limit + 1024
+          → Begun file types input w w′ (30 * limit + 80) (head .parameters) (head .count) deep
+          → Underway file types functions input label limit w′ (30 * limit + 80) (head .count) 0 (startRegisters (head .body)) p j (start p)
+      evaluation-begins sought long begun = begins head head-is (sought ∙ label-is) (deep-read ∙ depth-is) refl limit-few long begun
 
   -- the whole run is the one from there
   pub whole-run : {limit : ℕ} {o : Outcome} → limit ≡ (goalAt file goal) .steps → o ≡ outcomeOf (eval p j limit 0 (start p)) → o ≡ outcomeOf (run p j)
   unfolding run
   whole-run same ends = ends ∙ ap (λ n. outcomeOf (eval p j n 0 (start p))) (same ∙ steps-is)
+
+  pub whole-looked : {limit : ℕ} {w : List ℕ} → limit ≡ (goalAt file goal) .steps → LookedAt p j limit w → LookedAt p j (p .steps) w
+  whole-looked {w = w} same looked = subst (λ n. LookedAt p j n w) (same ∙ steps-is) looked

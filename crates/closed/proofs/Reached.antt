@@ -1,19 +1,20 @@
 -- The evaluation on a part of a closed input: what the loop over the steps knows. It evaluates on an input e of which only the parts that a case
 -- looked at are bound; e is below the closed input j, every state it reaches is reached on j too, and what comes next is what comes next on j.
 -- Rests on reach's Evaluation, Order, Depths, NeverStuck and Reached.
-use Prim.Native.Nat.{ℕ, zero, suc}
-use mathlib.Core.Path.{_≡_, _∙_}
+use Prim.Native.Nat.{ℕ, zero, suc, _-_, _≤_}
+use mathlib.Core.Path.{_≡_, sym, _∙_, ap}
 use mathlib.Core.List.{List, [], _∷_}
+use native.Mathlib.Omega.{arith}
 use lib.ListN.{length}
 use Rattle.reach.specs.Syntax.{Types, Program, sourceTypes}
 use Rattle.reach.specs.Parts.{Parts, width, _⊑_, ⊑-end, ⊑-open, ⊑-bind, ⊑-same}
 use Rattle.reach.specs.Types.{Typed, WithinDepth}
-use Rattle.reach.specs.Eval.{State, Stop, demands, stops, goes, next, reached, ended, unfinished, eval}
+use Rattle.reach.specs.Eval.{State, Stop, demands, stops, goes, next, reached, ended, unfinished, start, eval}
 use Rattle.reach.specs.Answers.{accepted, check}
 use Rattle.reach.proofs.Order.{⊑-width}
 use Rattle.reach.proofs.Evaluation.{StateIn, next-more, eval-step, eval-demands, eval-stops, eval-spent}
 use Rattle.reach.proofs.Depths.{typed-width}
-use Rattle.reach.proofs.NeverStuck.{Steps, Sound, steps-sound}
+use Rattle.reach.proofs.NeverStuck.{Steps, no-step, one-more, Sound, steps-sound}
 use Rattle.reach.proofs.Reached.{steps-in}
 
 -- an input below one of these types is of these types
@@ -26,6 +27,14 @@ below-typed types (t ∷ ts) ⊑-end h = absurd h
 below-typed types (t ∷ ts) (⊑-open a) h = below-typed types ts a h
 below-typed types (t ∷ ts) (⊑-bind a) h = below-typed types ts a (h .3)
 below-typed types (t ∷ ts) (⊑-same f a) h = (h .0, h .1, below-typed types (h .0) f (h .2), below-typed types ts a (h .3))
+
+-- the steps taken lead from the start to where the rest of the evaluation goes on
+pub steps-eval :
+    (p : Program) (e : Parts) (limit : ℕ) {n : ℕ} {s : State} → Steps p e n s → n ≤ limit → eval p e limit 0 (start p) ≡ eval p e (limit - n) n s
+steps-eval p e limit no-step h = let z : limit - 0 ≡ limit = omega arith in rw z
+steps-eval p e limit (one-more {n = n} {s = s} {s′ = s′} before on) h =
+    let z : limit - n ≡ suc (limit - suc n) = omega arith in
+    steps-eval p e limit before (omega arith) ∙ (ap (λ l. eval p e l n s) z ∙ eval-step p e (limit - suc n) n s s′ on)
 
 -- A checked program on a closed input that fits, and on the inputs below it.
 module _ (file : List ℕ) (p : Program) (checked : check file ≡ accepted p) (j : Parts) (fits : WithinDepth p j) where
@@ -52,3 +61,19 @@ module _ (file : List ℕ) (p : Program) (checked : check file ≡ accepted p) (
 
     pub run-spent : (m : ℕ) (s′ : State) → next p e s ≡ goes s′ → eval p j zero m s ≡ unfinished m
     run-spent m s′ on = eval-spent p j m s s′ (next-more p below s (reached-in below steps) (goes s′) tt on)
+
+    -- the evaluation on the input below comes to the same end, by what comes next there
+    module _ (limit : ℕ) (in-time : n ≤ limit) where
+      same-left : eval p e (limit - n) n s ≡ eval p j (limit - n) n s → eval p e limit 0 (start p) ≡ eval p j limit 0 (start p)
+      same-left same = steps-eval p e limit steps in-time ∙ (same ∙ sym (steps-eval p j limit (steps-more p below (below-width below) steps) in-time))
+
+      pub same-demands : next p e s ≡ demands → eval p e limit 0 (start p) ≡ eval p j limit 0 (start p)
+      same-demands on = same-left (eval-demands p e (limit - n) n s on ∙ sym (run-demands (limit - n) n on))
+
+      pub same-stops : (why : Stop) → next p e s ≡ stops why → eval p e limit 0 (start p) ≡ eval p j limit 0 (start p)
+      same-stops why on = same-left (eval-stops p e (limit - n) n s why on ∙ sym (run-stops (limit - n) n why on))
+
+      pub same-spent : limit ≤ n → (s′ : State) → next p e s ≡ goes s′ → eval p e limit 0 (start p) ≡ eval p j limit 0 (start p)
+      same-spent over s′ on =
+          let z : limit - n ≡ zero = omega arith in
+          same-left (rw z (eval-spent p e n s s′ on ∙ sym (run-spent n s′ on)))

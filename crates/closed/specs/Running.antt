@@ -8,16 +8,16 @@ use lib.ListN.{length, getD, drop}
 use Rattle.reach.specs.declared.Outcome.{Outcome}
 use Rattle.reach.specs.declared.Outcome.the-variants as Outcome
 use Rattle.reach.specs.Syntax.{Program}
-use Rattle.reach.specs.Parts.{Parts}
+use Rattle.reach.specs.Parts.{Parts, _⊑_}
 use Rattle.reach.specs.Types.{sourceSlots}
 use Rattle.reach.specs.Eval as Eval
-use Rattle.reach.specs.Eval.{State, eval, reached, ended, unfinished, run}
+use Rattle.reach.specs.Eval.{State, start, eval, reached, ended, unfinished, run}
 use Rattle.reach.specs.Input.{inputOf}
 use Rattle.reach.specs.Places.{bytesAt, typeAt, goalAt}
 use Rattle.reach.specs.Answers.{check, accepted, outcomeOf, RunAnswer, noRun, ran}
 use Rattle.reach.proofs.NeverStuck.{Steps}
 use Rattle.lookups.specs.Fields.{fieldsIn}
-use Rattle.machine.specs.Cells.{cellWord, Binds}
+use Rattle.machine.specs.Cells.{cellWord, Binds, Cells}
 use Rattle.cells.specs.Writes.{Starts}
 use Rattle.inputs.proofs.Closed.{Placed}
 use Rattle.values.specs.Notes.{notedPlace, Noted}
@@ -102,15 +102,41 @@ Advances file types functions input label limit w′ base done p j s cells (Next
     × (done < limit → Underway file types functions input label limit w′ base cells (suc done) r p j s′)
 Advances file types functions input label limit w′ base done p j s cells (Next.Waits x) = ⊥
 
+-- what comes next on an input, where no case waits
+abbrev pub ComesTo : Program → Parts → State → Next → Type 0
+ComesTo p e s Next.Demands = Eval.next p e s ≡ Eval.demands
+ComesTo p e s Next.Stops = (why : Eval.Stop) × (Eval.next p e s ≡ Eval.stops why)
+ComesTo p e s (Next.Goes r) = (s′ : State) × (Eval.next p e s ≡ Eval.goes s′)
+ComesTo p e s (Next.Waits x) = ⊥
+
+-- What words w stand for then: a partial input below the closed one, on which the same steps lead to state s, and what comes next does not wait.
+pub record BoundSoFar (p : Program) (j : Parts) (done : ℕ) (s : State) (n : Next) (w : List ℕ) : Type 0 where
+  pub cells : ℕ
+  pub input : Parts
+  pub stands : Cells (p .types) (sourceSlots p) w cells input
+  pub below : input ⊑ j
+  pub steps : Steps p input done s
+  pub comes : ComesTo p input s n
+
 abbrev pub AdvancesAll : List ℕ → List ℕ → List ℕ → List ℕ → ℕ → List ℕ → List ℕ → ℕ → ℕ → Registers → ℕ → Next → Type 0
 AdvancesAll file types functions input label w w′ base cells r cells′ n =
     (limit done : ℕ) (p : Program) (j : Parts) (s : State) → Underway file types functions input label limit w base cells done r p j s
-    → Advances file types functions input label limit w′ base done p j s cells′ n
+    → Advances file types functions input label limit w′ base done p j s cells′ n × BoundSoFar p j done s n w′
 
--- the run of at most `limit` steps from where it is under way ends so
-abbrev pub EndsAs : List ℕ → List ℕ → List ℕ → List ℕ → ℕ → ℕ → List ℕ → ℕ → ℕ → Registers → Outcome → Type 0
-EndsAs file types functions input label limit w base cells r o =
-    (p : Program) (j : Parts) (s : State) → Underway file types functions input label limit w base cells 0 r p j s → o ≡ outcomeOf (eval p j limit 0 s)
+-- What words w stand for after a run of at most `limit` steps: a partial input below the closed one, on which the evaluation comes to the same end. So
+-- each part that is bound has the constructor that the closed input has there, and the run looked at no part that is open.
+pub record LookedAt (p : Program) (j : Parts) (limit : ℕ) (w : List ℕ) : Type 0 where
+  pub cells : ℕ
+  pub input : Parts
+  pub stands : Cells (p .types) (sourceSlots p) w cells input
+  pub below : input ⊑ j
+  pub enough : eval p input limit 0 (start p) ≡ eval p j limit 0 (start p)
+
+-- the run of at most `limit` steps from where it is under way ends so, in words w′
+abbrev pub EndsAs : List ℕ → List ℕ → List ℕ → List ℕ → ℕ → ℕ → List ℕ → List ℕ → ℕ → ℕ → Registers → Outcome → Type 0
+EndsAs file types functions input label limit w w′ base cells r o =
+    (p : Program) (j : Parts) (s : State) → Underway file types functions input label limit w base cells 0 r p j s
+    → (o ≡ outcomeOf (eval p j limit 0 s)) × LookedAt p j limit w′
 
 -- some run begins here
 abbrev pub Begins : List ℕ → List ℕ → List ℕ → List ℕ → ℕ → ℕ → List ℕ → ℕ → ℕ → Registers → Type 0
@@ -130,20 +156,21 @@ endedAs Next.Stops done = Outcome.Ended done
 endedAs (Next.Goes r) done = Outcome.Unfinished done
 endedAs (Next.Waits x) done = Outcome.Unfinished done
 
--- The words at the beginning: the source's n parameters, whose types stand behind its record's first byte, have open cells with their values' places
--- noted, and records 0 and 1 are the empty environment and the parameters' group.
-pub record Begun (file types input w w′ : List ℕ) (base head n depth : ℕ) : Type 0 where
+-- The words at the beginning: the source's n parameters, whose types stand from place `first` of the file on, have open cells with their values'
+-- places noted, and records 0 and 1 are the empty environment and the parameters' group.
+pub record Begun (file types input w w′ : List ℕ) (base first n depth : ℕ) : Type 0 where
   pub w₁ : List ℕ
   pub w₂ : List ℕ
   pub w₃ : List ℕ
-  pub starts : Starts w w₁ n (bytesAt file (head + 1) n) depth
-  pub noted : Noted file types input w₁ w₂ 0 (bytesAt file (head + 1) n) 0 depth
+  pub starts : Starts w w₁ n (bytesAt file first n) depth
+  pub noted : Noted file types input w₁ w₂ 0 (bytesAt file first n) 0 depth
   pub zeros : Wrote w₂ w₃ base 0 0 0 0 0
   pub group : Wrote w₃ w′ base 1 0 n 0 0
 
--- the closed run of a program on an input
-abbrev pub RunsAs : List ℕ → List ℕ → List ℕ → List ℕ → ℕ → Outcome → Type 0
-RunsAs file types functions input goal o = (p : Program) (j : Parts) → Given file types functions input goal p j → o ≡ outcomeOf (run p j)
+-- the closed run of a program on an input, which ends in words w′
+abbrev pub RunsAs : List ℕ → List ℕ → List ℕ → List ℕ → ℕ → List ℕ → Outcome → Type 0
+RunsAs file types functions input goal w′ o =
+    (p : Program) (j : Parts) → Given file types functions input goal p j → (o ≡ outcomeOf (run p j)) × LookedAt p j (p .steps) w′
 
 -- there is such a program and input, the tables' places are small, and the words are as many as the run needs
 abbrev pub Runnable : List ℕ → List ℕ → List ℕ → List ℕ → ℕ → List ℕ → Type 0
@@ -154,8 +181,13 @@ abbrev pub answerOf : RunAnswer → Answer
 answerOf (noRun why) = Answer.Refused why
 answerOf (ran o) = Answer.Ran o
 
--- A refusal changes no word, and a run none behind its first 64 S + 1,024 words. Those first words are the evaluation's own: what its cells and
--- records left in them is not said.
+-- A refusal changes no word, and a run none behind its first 64 S + 1,024 words.
 abbrev pub Unchanged : Answer → List ℕ → List ℕ → List ℕ → Type 0
 Unchanged (Answer.Refused why) file w w′ = w′ ≡ w
 Unchanged (Answer.Ran o) file w w′ = (p : Program) → check file ≡ accepted p → drop (64 * p .steps + 1024) w′ ≡ drop (64 * p .steps + 1024) w
+
+-- After a run the words stand for a part of the closed input that has all that the run looked at. What the evaluation's records left behind the
+-- cells is not said.
+abbrev pub Leaves : Answer → List ℕ → List ℕ → List ℕ → Type 0
+Leaves (Answer.Refused why) file input w′ = Unit {0}
+Leaves (Answer.Ran o) file input w′ = (p : Program) (j : Parts) → check file ≡ accepted p → inputOf p input ≡ some j → LookedAt p j (p .steps) w′

@@ -4,13 +4,13 @@ ghost use mathlib.Core.Path.{_≡_};
 ghost use Prim.Native.Nat.{ℕ, _+_, _*_, _≤_, _<_};
 ghost use lib.ListN.{length, getD};
 ghost use Rattle.reach.specs.Answers.{runAnswer};
-ghost use Rattle.closed.specs.Running.{SomeUnderway, Bindable, BoundAs, AdvancesAll, Begins, EndsAs, endedAs, Begun, Runnable, RunsAs, answerOf, Unchanged};
+ghost use Rattle.closed.specs.Running.{SomeUnderway, Bindable, BoundAs, AdvancesAll, Begins, EndsAs, endedAs, Begun, Runnable, RunsAs, answerOf, Unchanged, Leaves};
 use cells::bind_cell;
 use cells::start_cells;
 use inputs::input_fits;
 use lookups::Fields;
 use lookups::fields_of;
-use lookups::place_or_zero;
+use lookups::head_of;
 use reach::Outcome;
 use reach::Refusal;
 use records::byte_or_zero;
@@ -140,7 +140,7 @@ pub fn go_on<'a>(
     limit: usize,
 ) -> Outcome
     requires { ⌜ (limit ≤ 4096) × Begins (now file) (now types) (now functions) (now input) label limit (now work) base first from ⌝ }
-    ensures { λ o. ⌜ EndsAs (now (file .entry)) (now (types .entry)) (now (functions .entry)) (now (input .entry)) label limit (now (work .entry)) base first from o ⌝ }
+    ensures { λ o. ⌜ EndsAs (now (file .entry)) (now (types .entry)) (now (functions .entry)) (now (input .entry)) label limit (now (work .entry)) (now (work .exit)) base first from o ⌝ }
 {
     let mut r = from;
     let mut cells = first;
@@ -162,23 +162,23 @@ pub fn go_on<'a>(
     last(next, done)
 }
 
-// The words at the beginning: open cells for the n parameters of the source, whose record stands at a place of the file, with their
-// values' places noted, and the records of the empty environment and of the parameters' group.
+// The words at the beginning: open cells for the n parameters of the source, whose types stand from place `first` of the file on, with
+// their values' places noted, and the records of the empty environment and of the parameters' group.
 pub fn begin<'a>(
     file: &'a [u8],
     types: &'a [u16],
     input: &'a [u8],
     work: &mut [u32],
     base: usize,
-    head: usize,
+    first: usize,
     n: usize,
     deep: usize,
 )
-    requires { ⌜ (5 * n ≤ base) × (base + 12 ≤ length (now work)) × (n ≤ 255) × (head ≤ 65536) × (deep ≤ 255) ⌝ }
-    ensures { λ _. ⌜ Begun (now (file .entry)) (now (types .entry)) (now (input .entry)) (now (work .entry)) (now (work .exit)) base head n deep ⌝ }
+    requires { ⌜ (5 * n ≤ base) × (base + 12 ≤ length (now work)) × (n ≤ 255) × (first ≤ 65536) × (deep ≤ 255) ⌝ }
+    ensures { λ _. ⌜ Begun (now (file .entry)) (now (types .entry)) (now (input .entry)) (now (work .entry)) (now (work .exit)) base first n deep ⌝ }
 {
-    start_cells(file, work, head + 1, n, deep);
-    note_values(file, types, input, work, 0, head + 1, n, 0, deep);
+    start_cells(file, work, first, n, deep);
+    note_values(file, types, input, work, 0, first, n, 0, deep);
     put_record(work, base, 0, 0, 0, 0, 0);
     put_record(work, base, 1, 0, n, 0, 0);
 }
@@ -193,15 +193,16 @@ pub fn evaluate<'a>(
     work: &mut [u32],
 ) -> Outcome
     requires { ⌜ Runnable (now file) (now types) (now functions) (now input) goal (now work) ⌝ }
-    ensures { λ o. ⌜ RunsAs (now (file .entry)) (now (types .entry)) (now (functions .entry)) (now (input .entry)) goal o ⌝ }
+    ensures { λ o. ⌜ RunsAs (now (file .entry)) (now (types .entry)) (now (functions .entry)) (now (input .entry)) goal (now (work .exit)) o ⌝ }
 {
     let limit = steps(file, goal);
     let base = 30 * limit + 80;
-    let head = place_or_zero(functions, source(file, goal));
-    let n = byte_or_zero(file, head);
-    begin(file, types, input, work, base, head, n, depth(file, goal));
+    let head = head_of(file, functions, source(file, goal));
+    let first = head.parameters;
+    let n = head.count;
+    begin(file, types, input, work, base, first, n, depth(file, goal));
     let from = Registers {
-        control: Control::Expression(head + 4 + n, 1),
+        control: Control::Expression(head.body, 1),
         frame: 0,
         records: 2,
     };
@@ -223,6 +224,7 @@ pub fn evaluate<'a>(
 pub fn run<'a>(file: &'a [u8], input: &'a [u8], work: &mut [u32]) -> Answer
     ensures { λ r. ⌜ r ≡ answerOf (runAnswer (now (file .entry)) (now (input .entry)) (length (now (work .entry)))) ⌝ }
     ensures words { λ r. ⌜ Unchanged r (now (file .entry)) (now (work .entry)) (now (work .exit)) ⌝ }
+    ensures bound { λ r. ⌜ Leaves r (now (file .entry)) (now (input .entry)) (now (work .exit)) ⌝ }
 {
     let loaded = load(file);
     let answer = loaded.answer;

@@ -1,6 +1,6 @@
 // The least depth of each type, that of its shallowest closed value, in an array of 32 numbers by value: filled round by round
 // until a round changes nothing. 0 stands for a type without a closed value. `types` holds the places of the types' records. Rests on
-// crate records, its proofs on the tables of crate lookups too.
+// crates records and lookups.
 ghost use mathlib.Core.Path.{_≡_};
 ghost use mathlib.Core.List.{map};
 ghost use Prim.Native.Nat.{_≤_};
@@ -11,6 +11,7 @@ ghost use Rattle.reach.specs.Types.{known, inhabited, leastDepths, shallow};
 ghost use Rattle.reach.specs.RuleFile.{noEmptyType};
 ghost use Rattle.reach.specs.Places.{bytesAt, constructorsAt, typeAt};
 ghost use Rattle.depths.specs.Table.{padded, RoundsMade, RoundMade};
+use lookups::constructors_of;
 use records::byte_or_zero;
 
 // The least depths, by type number.
@@ -60,15 +61,15 @@ pub fn is_inhabited(s: &[u8], at: usize, n: usize, table: Depths) -> bool
     false
 }
 
-// The number of the type at a place after round d: the number that it had, or else d if the type is inhabited by the table.
-fn renewed(s: &[u8], place: usize, number: u8, d: u8, table: Depths) -> u8
-    requires { ⌜ place ≤ 65535 ⌝ }
-    ensures { λ r. ⌜ r ≡ pick (ltb 0 number) number (pick (inhabited (table .of) (typeAt (now (s .entry)) place)) d 0) ⌝ }
+// The number of type t after round d: the number that it had, or else d if the type is inhabited by the table.
+fn renewed<'a>(s: &'a [u8], types: &'a [u16], t: usize, number: u8, d: u8, table: Depths) -> u8
+    ensures { λ r. ⌜ r ≡ pick (ltb 0 number) number (pick (inhabited (table .of) (typeAt (now (s .entry)) (getD (now (types .entry)) t 0))) d 0) ⌝ }
 {
     if 0 < number {
         return number;
     }
-    if is_inhabited(s, place + 1, byte_or_zero(s, place), table) {
+    let all = constructors_of(s, types, t);
+    if is_inhabited(s, all.at, all.count, table) {
         return d;
     }
     0
@@ -90,7 +91,7 @@ pub fn next_round<'a>(s: &'a [u8], types: &'a [u16], made: u8, old: Depths) -> R
     let mut t: usize = 0;
     while t < types.len() {
         let number = old.of[t];
-        let after = renewed(s, types[t] as usize, number, made + 1, old);
+        let after = renewed(s, types, t, number, made + 1, old);
         table.of[t] = after;
         t += 1;
         if number != after {

@@ -6,7 +6,7 @@ ghost use Rattle.reach.specs.Places.{bytesAt};
 ghost use Rattle.inputs.specs.Values.{rowAt, behindOf, fitsAt};
 use lookups::Fields;
 use lookups::fields_of;
-use lookups::place_or_zero;
+use lookups::head_of;
 use records::Taken;
 use records::byte_or_zero;
 use records::take_byte;
@@ -80,17 +80,9 @@ pub fn input_fits<'a>(
     requires { ⌜ goal ≤ 16384 ⌝ }
     ensures { λ r. ⌜ r ≡ fitsAt (now (file .entry)) (now (types .entry)) (now (functions .entry)) goal (now (input .entry)) ⌝ }
 {
-    let head = place_or_zero(functions, byte_or_zero(file, goal));
+    let head = head_of(file, functions, byte_or_zero(file, goal));
     let depth = byte_or_zero(file, goal + 2);
-    let Behind::At(end) = values(
-        file,
-        types,
-        input,
-        0,
-        head + 1,
-        byte_or_zero(file, head),
-        depth,
-    ) else {
+    let Behind::At(end) = values(file, types, input, 0, head.parameters, head.count, depth) else {
         return false;
     };
     input.len() <= end

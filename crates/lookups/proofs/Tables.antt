@@ -1,19 +1,23 @@
--- Lookups in the tables of places: what stands at a number of a list that a function was mapped over, and the bytes and constructors that a
--- place of the file begins.
--- Rests on reach's Places.
+-- Lookups in the tables of places: what stands at a number of a list that a function was mapped over, the bytes and constructors that a
+-- place of the file begins, and how many of them a record has.
+-- Rests on reach's Places and specs/Heads.
 use Prim.Native.Nat.{ℕ, zero, suc, _+_, _-_, _≤_, _<_, zero-le}
-use mathlib.Core.Path.{_≡_, refl, ap}
+use mathlib.Core.Path.{_≡_, refl, sym, _∙_, ap}
 use mathlib.Core.List.{List, [], _∷_, map}
 use mathlib.Core.Option.{none, some}
 use lib.ListN.{length, getD, getElem?, drop, drop-of-length-le}
 use lib.Seq.{drop-cons}
 use native.Mathlib.Numerals.{add-one}
 use native.Mathlib.Omega.{arith}
+use Rattle.reach.specs.RuleFile as RuleFile
 use Rattle.reach.specs.Syntax.{fieldTypes}
 use Rattle.reach.specs.Places.{bytesAt, constructorsAt, typeAt}
 use Rattle.lookups.specs.declared.Fields.{Fields}
 use Rattle.lookups.specs.declared.Fields.the-variants as Fields
+use Rattle.lookups.specs.declared.Head.{Head}
+use Rattle.lookups.specs.declared.Constructors.{Constructors}
 use Rattle.lookups.specs.Fields.{Near, fieldsIn}
+use Rattle.lookups.specs.Heads.{headOf}
 
 module _ {A B : Type 0} (f : A → B) where
   -- the element of a mapped list, and none past its end
@@ -66,6 +70,22 @@ module _ (s : List ℕ) where
   unfolding constructorsAt
   constructors-none i zero h = refl
   constructors-none i (suc n) h = absurd (omega arith)
+
+  pub constructors-length : (i n : ℕ) → length (constructorsAt s i n) ≡ n
+  unfolding constructorsAt
+  constructors-length i zero = refl
+  constructors-length i (suc n) = ap suc (constructors-length (i + 1 + getD s i 0) n)
+
+  -- the parameters of a function that was found
+  pub parameters-are : (h : Head) {g : RuleFile.Head} → headOf s h ≡ g → bytesAt s (h .parameters) (h .count) ≡ g .parameters
+  parameters-are h is = ap (λ (g : RuleFile.Head). g .parameters) is
+
+  -- a function has as many parameters as its record counts, and a type as many constructors
+  pub parameters-many : (h : Head) {g : RuleFile.Head} → headOf s h ≡ g → length (g .parameters) ≡ h .count
+  parameters-many h is = ap (λ (g : RuleFile.Head). length (g .parameters)) (sym is) ∙ bytes-length (h .parameters) (h .count)
+
+  pub constructors-many : (cs : Constructors) {ts : List (List ℕ)} → constructorsAt s (cs .at) (cs .count) ≡ ts → length ts ≡ cs .count
+  constructors-many cs is = ap length (sym is) ∙ constructors-length (cs .at) (cs .count)
 
   -- the constructor of a number: the first, a later one, and none where there are no more than the number
   pub constructor-first : (i n c : ℕ) → 0 < n → c ≤ 0 → getElem? (constructorsAt s i n) c ≡ some (bytesAt s (i + 1) (getD s i 0))

@@ -1,11 +1,13 @@
 // The second pass over a rule file: the type and function numbers in TY, FN heads and GO all exist. The records are looked at
-// where the first pass found them: `types` and `functions` hold the places behind the marks. Rests on crate
-// records, its proofs on the tables of crate lookups too.
+// where the first pass found them: `types` and `functions` hold the places behind the marks. Rests on crates
+// records and lookups.
 ghost use mathlib.Core.Path.{_≡_};
 ghost use Prim.Native.Nat.{_≤_};
 ghost use mathlib.Core.List.{map};
 ghost use Rattle.reach.specs.RuleFile.{allBelow, constructorsExist, typesExist, headsExist, numbersExist};
 ghost use Rattle.reach.specs.Places.{bytesAt, constructorsAt, typeAt, headAt, outlineAt};
+use lookups::constructors_of;
+use lookups::head_of;
 use records::byte_or_zero;
 
 // The n bytes from a place on are all below a limit.
@@ -49,8 +51,8 @@ pub fn types_exist<'a>(s: &'a [u8], types: &'a [u16], limit: usize) -> bool
 {
     let mut t: usize = 0;
     while t < types.len() {
-        let place = types[t] as usize;
-        if !constructors_exist(s, place + 1, byte_or_zero(s, place), limit) {
+        let all = constructors_of(s, types, t);
+        if !constructors_exist(s, all.at, all.count, limit) {
             return false;
         }
         t += 1;
@@ -64,12 +66,11 @@ pub fn heads_exist<'a>(s: &'a [u8], functions: &'a [u16], limit: usize) -> bool
 {
     let mut f: usize = 0;
     while f < functions.len() {
-        let place = functions[f] as usize;
-        let parameters = byte_or_zero(s, place);
-        if !all_below(s, place + 1, parameters, limit) {
+        let head = head_of(s, functions, f);
+        if !all_below(s, head.parameters, head.count, limit) {
             return false;
         }
-        if limit <= byte_or_zero(s, place + 1 + parameters) {
+        if limit <= head.result {
             return false;
         }
         f += 1;

@@ -35,13 +35,13 @@ module _ (s types functions : List ℕ) (goal : ℕ) {n : ℕ} (read : outline s
   inside = subst (IfFound (λ o next. Each (BodyInside s) (o .heads))) read (outline-inside s 0)
 
   pub tables-small : Small s types functions
-  unfolding outlineAt headAt
+  unfolding outlineAt
   tables-small =
       record {
         fields-limit = λ t h c us e.
             each-member ConstructorKept ((each-at TypeKept (typeAt s) types (kept .types-kept) t h) .1)
             (nth-member (typeAt s (getD types t 0)) c us e);
-        parameters-limit = λ f h. rw bytes-length at (each-at HeadKept (headAt s) functions (kept .heads-kept) f h);
+        parameters-limit = each-at HeadKept (headAt s) functions (kept .heads-kept);
       }
 
   pub bodies-inside : BodiesThere s functions

@@ -13,7 +13,7 @@ use depths::Depths;
 use depths::all_shallow;
 use depths::least_depths;
 use depths::none_empty;
-use lookups::place_or_zero;
+use lookups::head_of;
 use numbers::numbers_exist;
 use outline::Outlined;
 use outline::first_pass;
@@ -78,12 +78,10 @@ pub fn turned_back(why: Refusal) -> Loaded
 
 // Each parameter of the source has a closed value that is at most D deep.
 pub fn source_shallow<'a>(file: &'a [u8], functions: &'a [u16], goal: usize, least: Depths) -> bool
-    requires { ⌜ goal ≤ 16384 ⌝ }
     ensures { λ r. ⌜ r ≡ sourceShallow (now (file .entry)) (now (functions .entry)) goal (least .of) ⌝ }
 {
-    let place = place_or_zero(functions, byte_or_zero(file, goal));
-    let depth = byte_or_zero(file, goal + 2);
-    all_shallow(file, place + 1, byte_or_zero(file, place), depth, least)
+    let head = head_of(file, functions, source(file, goal));
+    all_shallow(file, head.parameters, head.count, depth(file, goal), least)
 }
 
 // The tests of depth, of a file whose passes found nothing.

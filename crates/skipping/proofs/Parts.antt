@@ -14,15 +14,12 @@ use Rattle.reach.specs.RuleFile.{Outline}
 use Rattle.reach.specs.Encoding.{Skip, skipped, skippedBy, skippedCall, skippedConstruct, skippedCase}
 use Rattle.reach.specs.Places.{bytesAt, constructorsAt, typeAt, headAt, outlineAt}
 use Rattle.lookups.specs.Fields.{fieldsOf, fieldsIn}
+use Rattle.lookups.specs.Heads.{headOf}
+use Rattle.lookups.specs.declared.Constructors.{Constructors}
 use Rattle.lookups.specs.declared.Fields.{Fields}
-use Rattle.lookups.proofs.Tables.{found, missing, bytes-length}
+use Rattle.lookups.specs.declared.Head.{Head}
+use Rattle.lookups.proofs.Tables.{found, missing, bytes-length, parameters-many, constructors-many}
 use Rattle.skipping.specs.Skip.{skippedAt, skippedAllAt, skippedAlternativesAt, numberPart, callPart, constructPart, casePart, letPart, targetPart}
-
--- as many constructors as are asked for
-pub constructors-length : (s : List ℕ) (i n : ℕ) → length (constructorsAt s i n) ≡ n
-unfolding constructorsAt
-constructors-length s i zero = refl
-constructors-length s i (suc n) = ap suc (constructors-length s (i + 1 + getD s i 0) n)
 
 -- the operands of an expression nest one less deep
 nests : (o : Outline) (left : ℕ) → (left ≡ 0 → ⊥) → skipped o left ≡ skippedBy o (skipped o (left - 1))
@@ -56,24 +53,25 @@ module _ (file types functions : List ℕ) (left at : ℕ) where
 
   -- a call and a case, by the number that stands first, which is w
   module _ {number w next : ℕ} (e : byte file at ≡ got number next) (same : w ≡ number) where
-    pub call-known : w < length functions
-        → callPart file types functions left file at ≡ skippedAllAt file types functions left (getD file (getD functions w 0) 0) file next
-    unfolding skippedCall outlineAt headAt
-    call-known h =
-        let count = bytes-length file (getD functions w 0 + 1) (getD file (getD functions w 0) 0) in
-        rw (skippedCall, e, ← same, found (headAt file) functions 0 w h, count)
+    pub call-known : (head : Head) → headOf file head ≡ headAt file (getD functions w 0) → w < length functions
+        → callPart file types functions left file at ≡ skippedAllAt file types functions left (head .count) file next
+    unfolding skippedCall outlineAt
+    call-known head is h = rw (skippedCall, e, ← same, found (headAt file) functions 0 w h, parameters-many file head is)
 
     pub call-unknown : length functions ≤ w → callPart file types functions left file at ≡ refused UnknownNumber
     unfolding skippedCall outlineAt
     call-unknown h = rw (skippedCall, e, ← same, missing (headAt file) functions w h)
 
-    pub case-known : w < length types
+    pub case-first : w < length types
         → casePart file types functions left file at
-        ≡ (skippedAt file types functions left >> skippedAlternativesAt file types functions left (getD file (getD types w 0) 0)) file next
-    unfolding skippedCase outlineAt typeAt
-    case-known h =
-        let count = constructors-length file (getD types w 0 + 1) (getD file (getD types w 0) 0) in
-        rw (skippedCase, e, ← same, found (typeAt file) types 0 w h, count)
+        ≡ (skippedAt file types functions left >> skippedAlternativesAt file types functions left (length (typeAt file (getD types w 0)))) file next
+    unfolding skippedCase outlineAt
+    case-first h = rw (skippedCase, e, ← same, found (typeAt file) types 0 w h)
+
+    pub case-known : (all : Constructors) → constructorsAt file (all .at) (all .count) ≡ typeAt file (getD types w 0) → w < length types
+        → casePart file types functions left file at
+        ≡ (skippedAt file types functions left >> skippedAlternativesAt file types functions left (all .count)) file next
+    case-known all is h = rw (case-first h, constructors-many file all is)
 
     pub case-unknown : length types ≤ w → casePart file types functions left file at ≡ refused UnknownNumber
     unfolding skippedCase outlineAt

@@ -4,12 +4,12 @@ ghost use mathlib.Core.Path.{_≡_};
 ghost use Rattle.records.specs.Steps.{stepOf};
 ghost use Rattle.skipping.specs.Skip.{skippedAt, skippedAllAt, skippedAlternativesAt, callPart, constructPart, casePart, letPart, numberPart, targetPart};
 use lookups::Fields;
+use lookups::constructors_of;
 use lookups::fields_of;
-use lookups::place_or_zero;
+use lookups::head_of;
 use reach::Refusal;
 use records::Step;
 use records::Taken;
-use records::byte_or_zero;
 use records::take_byte;
 use records::wide;
 
@@ -66,15 +66,8 @@ pub fn skip_call<'a>(
     if functions.len() <= f {
         return Step::Refused(Refusal::UnknownNumber);
     }
-    let place = place_or_zero(functions, f);
-    skip_all(
-        file,
-        types,
-        functions,
-        next,
-        left,
-        byte_or_zero(file, place),
-    )
+    let head = head_of(file, functions, f);
+    skip_all(file, types, functions, next, left, head.count)
 }
 
 // A type, a constructor and its fields.
@@ -120,15 +113,8 @@ pub fn skip_case<'a>(
     let Step::Next(first) = step else {
         return step;
     };
-    let place = place_or_zero(types, t);
-    skip_alternatives(
-        file,
-        types,
-        functions,
-        first,
-        left,
-        byte_or_zero(file, place),
-    )
+    let all = constructors_of(file, types, t);
+    skip_alternatives(file, types, functions, first, left, all.count)
 }
 
 // A type, the bound expression and the body.

@@ -15,9 +15,11 @@ use Rattle.reach.specs.Encoding.{encode, countAlternatives}
 use Rattle.reach.specs.Eval as Eval
 use Rattle.reach.specs.Eval.{Env, empty, operands, size, Frame, waiting, State, enter, view, answer, next}
 use Rattle.reach.specs.RuleFile.{Head, Outline}
-use Rattle.reach.specs.Places.{typeAt, headAt, outlineAt}
-use Rattle.lookups.proofs.Tables.{bytes-length}
-use Rattle.skipping.proofs.Parts.{constructors-length}
+use Rattle.reach.specs.Places.{constructorsAt, typeAt, headAt, outlineAt}
+use Rattle.lookups.specs.declared.Head as Looked
+use Rattle.lookups.specs.declared.Constructors.{Constructors}
+use Rattle.lookups.specs.Heads.{headOf}
+use Rattle.lookups.proofs.Tables.{parameters-many, constructors-many}
 use Rattle.machine.specs.Cells.{cellOf}
 use Rattle.machine.specs.Records.{recordWord, Code, empty-at, evaluating-at}
 use Rattle.machine.specs.Walks.{Behind}
@@ -40,19 +42,15 @@ mapped f (x ∷ xs) d (suc n) y is = let rest = mapped f xs d n y is in (omega (
 
 -- A call.
 
-body-place : (file : List ℕ) (place : ℕ) → (headAt file place) .body ≡ place + 4 + getD file place 0
-unfolding headAt
-body-place file place = refl
-
 module _ (file types functions : List ℕ) where
   -- a called function is one of the table, and takes as many operands as its record says
   called :
       (f : ℕ) (es : Exprs) (h : Head) → getElem? ((outlineOf file types functions) .heads) f ≡ some h → count es ≡ length (h .parameters)
-      → (f < length functions) × (count es ≡ getD file (getD functions f 0) 0)
-  unfolding outlineAt headAt
+      → (f < length functions) × (count es ≡ length ((headAt file (getD functions f 0)) .parameters))
+  unfolding outlineAt
   called f es h is many =
       let known = mapped (headAt file) functions 0 f h is in
-      (known .0, many ∙ (ap (λ (g : Head). length (g .parameters)) (sym (known .1)) ∙ bytes-length file (getD functions f 0 + 1) (getD file (getD functions f 0) 0)))
+      (known .0, many ∙ ap (λ (g : Head). length (g .parameters)) (sym (known .1)))
 
 call-next :
     (p : Program) (e : Parts) (f : ℕ) (es : Exprs) (env : Env) (fs : List Frame) (g : Function) → functionAt p f ≡ some g
@@ -61,12 +59,12 @@ unfolding next answer view enter
 call-next p e f es env fs g is = rw is
 
 module _
-    (file functions w w′ : List ℕ) (base i env : ℕ) (r : Registers) {place n : ℕ} (ready : Ready file w base r 1 i env)
-    (is-place : place ≡ getD functions (getD file (i + 1) 0) 0) (is-n : n ≡ getD file place 0) (small : n ≤ 255)
-    (wrote : Wrote w w′ base (r .records) 0 n (i + 2) (env + 1))
+    (file functions w w′ : List ℕ) (base i env : ℕ) (r : Registers) (head : Looked.Head) (ready : Ready file w base r 1 i env)
+    (is : headOf file head ≡ headAt file (getD functions (getD file (i + 1) 0) 0)) (small : head .count ≤ 255)
+    (wrote : Wrote w w′ base (r .records) 0 (head .count) (i + 2) (env + 1))
   where
     call-after : Registers
-    call-after = record { control = Control.Expression (place + 4 + n) (r .records); frame = r .frame; records = r .records + 1 }
+    call-after = record { control = Control.Expression (head .body) (r .records); frame = r .frame; records = r .records + 1 }
 
     call-follows :
         (types : List ℕ) (p : Program) (cells : ℕ) (e : Parts) (s : State) → FileOf file types functions p → StandsFor file types functions p w base cells r e s
@@ -78,9 +76,9 @@ module _
         let arity = met .code .1 in
         let known = called file types functions f es (arity .0) (arity .1) (arity .2) in
         let there = file-of .function-there f (known .0) in
-        let here : place ≡ getD functions f 0 = is-place ∙ ap (λ (k : ℕ). getD functions k 0) (bytes .1 .1) in
-        let many : n ≡ count es = is-n ∙ (ap (λ (k : ℕ). getD file k 0) here ∙ sym (known .1)) in
-        let body : (headAt file (getD functions f 0)) .body ≡ place + 4 + n = ap (λ (k : ℕ). (headAt file k) .body) (sym here) ∙ (body-place file place ∙ ap (λ (k : ℕ). place + 4 + k) (sym is-n)) in (
+        let here : headOf file head ≡ headAt file (getD functions f 0) = is ∙ ap (λ (k : ℕ). headAt file (getD functions k 0)) (bytes .1 .1) in
+        let many : head .count ≡ count es = sym (known .1 ∙ parameters-many file head here) in
+        let body : (headAt file (getD functions f 0)) .body ≡ head .body = ap (λ (g : Head). g .body) (sym here) in (
           Eval.evaluating (there .0 .body) (operands empty es env′) fs,
           call-next p e f es env′ fs (there .0) (there .1),
           record {
@@ -97,7 +95,7 @@ module _
 
     pub call-leads :
         (types : List ℕ)
-        → Leads file types functions w w′ base r (record { control = Control.Expression (place + 4 + n) (r .records); frame = r .frame; records = r .records + 1 })
+        → Leads file types functions w w′ base r (record { control = Control.Expression (head .body) (r .records); frame = r .frame; records = r .records + 1 })
     unfolding call-after
     call-leads types = record {
       only-top = wrote .only-top;
@@ -165,11 +163,9 @@ case-next p e t y alts env fs = refl
 -- a case has as many alternatives as the type's record says
 cased :
     (file types functions : List ℕ) (t : ℕ) (alts : Alternatives) (cs : List (List ℕ)) → getElem? ((outlineOf file types functions) .types) t ≡ some cs
-    → countAlternatives alts ≡ length cs → countAlternatives alts ≡ getD file (getD types t 0) 0
-unfolding outlineAt typeAt
-cased file types functions t alts cs is many =
-    let known = mapped (typeAt file) types 0 t cs is in
-    many ∙ (ap length (sym (known .1)) ∙ constructors-length file (getD types t 0 + 1) (getD file (getD types t 0) 0))
+    → countAlternatives alts ≡ length cs → countAlternatives alts ≡ length (typeAt file (getD types t 0))
+unfolding outlineAt
+cased file types functions t alts cs is many = many ∙ ap length (sym (mapped (typeAt file) types 0 t cs is .1))
 
 -- the place behind an expression is a place of the file
 pub behind-small :
@@ -179,10 +175,10 @@ behind-small file o i next x from code passed =
     omega (arith, z, simp (length-drop, length-append) at (ap length (code .0 .1)))
 
 module _
-    (file types functions w w′ : List ℕ) (base i env : ℕ) (r : Registers) {alternatives n : ℕ} (ready : Ready file w base r 3 i env)
+    (file types functions w w′ : List ℕ) (base i env : ℕ) (r : Registers) {alternatives : ℕ} (all : Constructors) (ready : Ready file w base r 3 i env)
     (found : PassedOver file types functions (i + 2) alternatives)
-    (is-n : n ≡ getD file (getD types (getD file (i + 1) 0) 0) 0) (small : n ≤ 255)
-    (wrote : Wrote w w′ base (r .records) alternatives n env (r .frame))
+    (is : constructorsAt file (all .at) (all .count) ≡ typeAt file (getD types (getD file (i + 1) 0) 0)) (small : all .count ≤ 255)
+    (wrote : Wrote w w′ base (r .records) alternatives (all .count) env (r .frame))
   where
     case-after : Registers
     case-after = record { control = Control.Expression (i + 2) env; frame = r .records; records = r .records + 1 }
@@ -195,7 +191,8 @@ module _
     case-follows p cells e s stands t y alts env′ fs met =
         let at = code-case file (outlineOf file types functions) i t y alts (met .code) in
         let arity = met .code .1 in
-        let many : n ≡ countAlternatives alts = is-n ∙ (ap (λ (k : ℕ). getD file (getD types k 0) 0) (at .1 .1) ∙ sym (cased file types functions t alts (arity .0) (arity .1) (arity .2))) in (
+        let here : constructorsAt file (all .at) (all .count) ≡ typeAt file (getD types t 0) = is ∙ ap (λ (k : ℕ). typeAt file (getD types k 0)) (at .1 .1) in
+        let many : all .count ≡ countAlternatives alts = sym (cased file types functions t alts (arity .0) (arity .1) (arity .2) ∙ constructors-many file all here) in (
           Eval.evaluating y env′ (waiting alts env′ ∷ fs),
           case-next p e t y alts env′ fs,
           record {

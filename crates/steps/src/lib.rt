@@ -9,8 +9,9 @@ ghost use Rattle.machine.specs.Records.{recordWord};
 ghost use Rattle.machine.specs.Walks.{outsideOf};
 ghost use Rattle.steps.specs.Stepping.{Space, Standing, Ready, Wrote, Leads, Stepped, VariableThere, Group, FieldCount, PassedOver, OperandIn, AlternativeThere, PassedAlternative, Found, Chose};
 use lookups::Fields;
+use lookups::constructors_of;
 use lookups::fields_of;
-use lookups::place_or_zero;
+use lookups::head_of;
 use records::Step;
 use records::byte_or_zero;
 use skipping::skip_expression;
@@ -230,12 +231,11 @@ pub fn step_call<'a>(
     requires { ⌜ Ready (now file) (now work) base r 1 at env ⌝ }
     ensures { λ x. ⌜ ((types : List ℕ) → Leads (now (file .entry)) types (now (functions .entry)) (now (work .entry)) (now (work .exit)) base r x) ⌝ }
 {
-    let place = place_or_zero(functions, byte_or_zero(file, at + 1));
-    let n = byte_or_zero(file, place);
+    let head = head_of(file, functions, byte_or_zero(file, at + 1));
     let top = r.records;
-    put_record(work, base, top, 0, n, at + 2, env + 1);
+    put_record(work, base, top, 0, head.count, at + 2, env + 1);
     Registers {
-        control: Control::Expression(place + 4 + n, top),
+        control: Control::Expression(head.body, top),
         frame: r.frame,
         records: top + 1,
     }
@@ -330,8 +330,8 @@ pub fn step_case<'a>(
 {
     let top = r.records;
     let alternatives = behind(file, types, functions, at + 2);
-    let n = byte_or_zero(file, place_or_zero(types, byte_or_zero(file, at + 1)));
-    put_record(work, base, top, alternatives, n, env, r.frame);
+    let all = constructors_of(file, types, byte_or_zero(file, at + 1));
+    put_record(work, base, top, alternatives, all.count, env, r.frame);
     Registers {
         control: Control::Expression(at + 2, env),
         frame: top,

@@ -5,7 +5,7 @@ use mathlib.Core.Path.{_≡_, refl, _∙_}
 use lib.ListN.{length}
 use native.Mathlib.Omega.{arith}
 use borrow.Author.Needs.{needs}
-use Rattle.bodies.proofs.Functions.{bodiesFrom, few-parameters, body-there, body-next, body-stops, bodies-done}
+use Rattle.bodies.proofs.Functions.{bodiesFrom, body-next, body-stops, bodies-done}
 use Rattle.bodies.proofs.bodies.Statement.{statement}
 use Rattle.bodies.proofs.bodies.Tie as tie
 
@@ -20,28 +20,19 @@ loop-holds c = refl
 
 body-of-requires : tie.Need-body-of-requires Inv-loop μ-loop
 body-of-requires c κs =
-    let k = c .before .before in
-    let start = k .before .before .before .before in
-    let more = c .before .loop-test .taken in (
-      start .pre .0,
-      omega (arith, k .before .shared-slice-known3 .given (k .loop .f)),
-      few-parameters _ _ _ more (c .place-or-zero .ensures) (start .pre .0),
-      body-there _ (start .args .functions .now) _ more (c .place-or-zero .ensures) (start .pre .1),
-    )
+    let start = c .before .before .before .before .before in
+    let more = c .loop-test .taken in
+    (start .pre .0, more, start .pre .1 _ more)
 
 returns : tie.Need-returns Inv-loop μ-loop
 returns c =
     let k = c .before .before in
-    let k₁ = k .before .before in
-    body-stops _ _ _ _ (k₁ .loop-test .taken) (k .before .place-or-zero .ensures) (k .body-of .ensures) (c .enum-told2 .given .1)
-    ∙ k₁ .before .loop .inv
+    body-stops _ _ _ _ (k .before .loop-test .taken) (k .body-of .ensures) (c .enum-told2 .given .1) ∙ k .before .before .loop .inv
 
 loop-again : tie.Need-loop-again Inv-loop μ-loop
 loop-again c =
     let k = c .before .before in
-    let k₁ = k .before .before in
-    body-next _ _ _ _ (k₁ .loop-test .taken) (k .before .place-or-zero .ensures) (k .body-of .ensures) (c .enum-told .given .1)
-    ∙ k₁ .before .loop .inv
+    body-next _ _ _ _ (k .before .loop-test .taken) (k .body-of .ensures) (c .enum-told .given .1) ∙ k .before .before .loop .inv
 
 returns-2 : tie.Need-returns-2 Inv-loop μ-loop
 returns-2 c = bodies-done _ _ _ _ (c .loop-test .left) ∙ c .before .loop .inv
@@ -53,7 +44,6 @@ bodies-spec =
     Inv-loop
     μ-loop
     loop-holds
-    (λ c κs. search needs)
     body-of-requires
     (λ c. search needs)
     (λ c. search needs)

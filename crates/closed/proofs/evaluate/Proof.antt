@@ -2,7 +2,7 @@
 use native.Mathlib.Omega.{arith}
 use borrow.Author.Needs.{needs}
 use Rattle.reach.specs.Eval.{start}
-use Rattle.closed.proofs.Beginning.{depth-is, steps-is, steps-few, depth-small, n-few, evaluation-begins, whole-run}
+use Rattle.closed.proofs.Beginning.{depth-is, steps-is, steps-few, depth-small, n-few, evaluation-begins, whole-run, whole-looked}
 use Rattle.closed.proofs.evaluate.Statement.{statement}
 use Rattle.closed.proofs.evaluate.Tie as tie
 
@@ -14,43 +14,46 @@ add-base c = omega (arith, c .steps .ensures, steps-is (c .before .before .befor
 
 begin-requires : tie.Need-begin-requires
 begin-requires c κs =
-    let pre = c .before .before .before .before .before .before .before .before .before .before .before .pre in
+    let found = c .before .before in
+    let read = found .before .before in
+    let pre = read .before .before .before .before .before .before .pre in
     let given = pre .2 in
-    let few = n-few given (c .before .before .before .before .before .steps .ensures) (c .before .before .before .before .source .ensures) (c .before .before .before .place-or-zero .ensures) (c .before .before .byte-or-zero .ensures) (c .depth .ensures) in (
+    let few = n-few given (read .steps .ensures) (found .before .source .ensures) (found .head-of .result) (found .head-of .ensures .0) (c .depth .ensures) in
+    let near = found .head-of .ensures .1 in (
       omega arith,
-      omega (arith, pre .3, c .before .before .before .before .before .steps .ensures, steps-is given),
+      omega (arith, pre .3, read .steps .ensures, steps-is given),
       omega arith,
-      omega (arith, c .before .before .before .place-or-zero .ensures, c .before .before .before .before .before .before .before .before .shared-slice-known3 .given (c .before .before .before .before .source .result)),
+      omega arith,
       omega (arith, c .depth .ensures, depth-is given, depth-small given),
     )
 
-add-t12 : tie.Need-add-t12
-add-t12 c = omega (arith, c .before .before .before .before .before .before .place-or-zero .ensures, c .before .before .before .before .before .before .before .before .before .before .before .shared-slice-known3 .given (c .before .before .before .before .before .before .before .source .result))
-
-add-t16 : tie.Need-add-t16
-add-t16 c =
-    omega (arith, c .before .before .before .before .before .before .place-or-zero .ensures, c .before .before .before .before .before .before .before .before .before .before .before .shared-slice-known3 .given (c .before .before .before .before .before .before .before .source .result), n-few (c .before .before .before .before .before .before .before .before .before .before .before .before .before .before .pre .2) (c .before .before .before .before .before .before .before .before .steps .ensures) (c .before .before .before .before .before .before .before .source .ensures) (c .before .before .before .before .before .before .place-or-zero .ensures) (c .before .before .before .before .before .byte-or-zero .ensures) (c .before .before .before .depth .ensures))
-
 go-on-requires : tie.Need-go-on-requires
 go-on-requires c κs =
-    let pre = c .before .before .before .before .before .before .before .before .before .before .before .before .before .before .before .before .pre in
+    let begun = c .before .before .before .before in
+    let found = begun .before .before .before in
+    let read = found .before .before in
+    let pre = read .before .before .before .before .before .before .pre in
     let given = pre .2 in (
-      omega (arith, c .before .before .before .before .before .before .before .before .before .before .steps .ensures, steps-is given, steps-few given),
+      omega (arith, read .steps .ensures, steps-is given, steps-few given),
       (
         pre .0,
         pre .1,
         start (pre .0),
-        evaluation-begins given (c .before .before .before .before .before .before .before .before .before .before .steps .ensures) (c .before .before .before .before .before .before .before .before .before .source .ensures) (c .before .before .before .before .before .before .before .before .place-or-zero .ensures) (c .before .before .before .before .before .before .before .byte-or-zero .ensures) (c .before .before .before .before .before .depth .ensures) (c .before .label .ensures) (omega (arith, pre .3, c .before .before .before .before .before .before .before .before .before .before .steps .ensures, steps-is given)) (c .before .before .before .before .begin .ensures),
+        evaluation-begins given (read .steps .ensures) (found .before .source .ensures) (found .head-of .result) (found .head-of .ensures .0) (begun .before .depth .ensures) (c .before .label .ensures) (omega (arith, pre .3, read .steps .ensures, steps-is given)) (begun .begin .ensures),
       ),
     )
 
 returns : tie.Need-returns
 returns c =
-    let pre = c .before .before .before .before .before .before .before .before .before .before .before .before .before .before .before .before .before .before .before .pre in
+    let begun = c .before .before .before .before .before .before .before in
+    let found = begun .before .before .before in
+    let read = found .before .before in
+    let pre = read .before .before .before .before .before .before .pre in
     λ p j given.
-    whole-run given (c .before .before .before .before .before .before .before .before .before .before .before .before .before .steps .ensures)
-    (c .before .before .go-on .ensures p j (start p)
-    (evaluation-begins given (c .before .before .before .before .before .before .before .before .before .before .before .before .before .steps .ensures) (c .before .before .before .before .before .before .before .before .before .before .before .before .source .ensures) (c .before .before .before .before .before .before .before .before .before .before .before .place-or-zero .ensures) (c .before .before .before .before .before .before .before .before .before .before .byte-or-zero .ensures) (c .before .before .before .before .before .before .before .before .depth .ensures) (c .before .before .before .before .label .ensures) (omega (arith, pre .3, c .before .before .before .before .before .before .before .before .before .before .before .before .before .steps .ensures, steps-is (pre .2))) (c .before .before .before .before .before .before .before .begin .ensures)))
+    let ends =
+    c .before .before .go-on .ensures p j (start p)
+    (evaluation-begins given (read .steps .ensures) (found .before .source .ensures) (found .head-of .result) (found .head-of .ensures .0) (begun .before .depth .ensures) (c .before .before .before .before .label .ensures) (omega (arith, pre .3, read .steps .ensures, steps-is (pre .2))) (begun .begin .ensures)) in
+    (whole-run given (read .steps .ensures) (ends .0), whole-looked given (read .steps .ensures) (ends .1))
 
 pub evaluate-spec : {M : Type 1} → statement M
 evaluate-spec =
@@ -62,10 +65,7 @@ evaluate-spec =
     (λ c κs. search needs)
     (λ c κs. search needs)
     (λ c κs. search needs)
-    (λ c κs. search needs)
     begin-requires
-    add-t12
-    add-t16
     (λ c κs. search needs)
     go-on-requires
     (λ c. search needs)

@@ -20,23 +20,17 @@ abbrev μ-loop : tie.MeasureT-loop
 loop-holds : tie.Need-loop-holds Inv-loop μ-loop
 loop-holds c = (refl, (λ h. refl), omega arith)
 
-cast-renewed : tie.Need-cast-renewed Inv-loop μ-loop
-cast-renewed c = omega (arith, c .shared-slice-known3 .given (c .before .before .before .loop .t))
-
-renewed-requires : tie.Need-renewed-requires Inv-loop μ-loop
-renewed-requires c κs = omega (arith, c .shared-slice-known3 .given (c .before .before .before .loop .t))
-
 loop-again : tie.Need-loop-again Inv-loop μ-loop
 loop-again c = (
-  round-next _ _ (c .before .before .before .before .before .before .before .before .pre) (c .before .before .before .before .loop-test .taken) (c .before .before .before .before .before .loop .inv .0) (c .before .renewed .ensures),
+  round-next _ _ (c .before .before .before .before .before .before .before .pre) (c .before .before .before .loop-test .taken) (c .before .before .before .before .loop .inv .0) (c .before .renewed .ensures),
   (λ h. absurd (false≢true (sym h))),
   omega arith,
 )
 
 loop-again-2 : tie.Need-loop-again-2 Inv-loop μ-loop
 loop-again-2 c = (
-  round-next _ _ (c .before .before .before .before .before .before .before .before .pre) (c .before .before .before .before .loop-test .taken) (c .before .before .before .before .before .loop .inv .0) (c .before .renewed .ensures),
-  kept-next _ (c .before .before .before .before .before .loop .t) (c .before .before .before .before .before .loop .inv .1) (c .if1 .left),
+  round-next _ _ (c .before .before .before .before .before .before .before .pre) (c .before .before .before .loop-test .taken) (c .before .before .before .before .loop .inv .0) (c .before .renewed .ensures),
+  kept-next _ (c .before .before .before .before .loop .t) (c .before .before .before .before .loop .inv .1) (c .if1 .left),
   omega arith,
 )
 
@@ -53,10 +47,7 @@ next-round-spec =
     loop-holds
     (λ c. search needs)
     (λ c. search needs)
-    (λ c. search needs)
-    cast-renewed
-    (λ c. search needs)
-    renewed-requires
+    (λ c κs. search needs)
     (λ c. search needs)
     (λ c. search needs)
     (λ c. search needs)

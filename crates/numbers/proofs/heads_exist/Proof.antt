@@ -4,7 +4,7 @@ use Prim.Native.Nat.{_-_}
 use native.Mathlib.Omega.{arith}
 use mathlib.Core.Path.{_≡_, refl}
 use mathlib.Core.List.{map}
-use lib.ListN.{length, drop, getD}
+use lib.ListN.{length, drop}
 use borrow.Author.Tests.{not-true, not-false, le-ltb, lt-ltb}
 use borrow.Author.Needs.{needs}
 use Rattle.reach.specs.RuleFile.{headsExist}
@@ -22,67 +22,46 @@ abbrev μ-loop : tie.MeasureT-loop
 loop-holds : tie.Need-loop-holds Inv-loop μ-loop
 loop-holds c = refl
 
-cast-place : tie.Need-cast-place Inv-loop μ-loop
-cast-place c = omega (arith, c .shared-slice-known3 .given (c .before .before .loop .f))
-
-add-all-below : tie.Need-add-all-below Inv-loop μ-loop
-add-all-below c = omega (arith, c .before .shared-slice-known3 .given (c .before .before .before .loop .f))
-
 all-below-requires : tie.Need-all-below-requires Inv-loop μ-loop
-all-below-requires c κs =
-    omega (
-      arith,
-      c .before .shared-slice-known3 .given (c .before .before .before .loop .f),
-      c .byte-or-zero .ensures,
-      c .before .before .before .before .before .shared-slice-known .given (getD (c .before .before .before .before .before .before .args .functions .now) (c .before .before .before .loop .f) 0),
-    )
+all-below-requires c κs = let near = c .head-of .ensures .1 in (omega arith, omega arith)
 
 returns : tie.Need-returns Inv-loop μ-loop
-unfolding headsExist headAt
+unfolding headsExist
 returns c =
+    let found = c .before .before in
     rw (
-      ← c .before .before .before .before .before .loop .inv,
-      places-more _ _ _ (c .before .before .before .before .loop-test .taken),
-      ← c .before .before .byte-or-zero .ensures,
+      ← found .before .before .loop .inv,
+      places-more _ _ _ (found .before .loop-test .taken),
+      ← found .head-of .ensures .0,
       ← c .before .all-below .ensures,
       not-true (c .before .all-below .result) (c .if1 .taken),
     )
 
-add-byte-or-zero : tie.Need-add-byte-or-zero Inv-loop μ-loop
-add-byte-or-zero c = omega (arith, c .before .before .before .shared-slice-known3 .given (c .before .before .before .before .before .loop .f))
-
-add-byte-or-zero-2 : tie.Need-add-byte-or-zero-2 Inv-loop μ-loop
-add-byte-or-zero-2 c =
-    omega (
-      arith,
-      c .before .before .before .shared-slice-known3 .given (c .before .before .before .before .before .loop .f),
-      c .before .before .byte-or-zero .ensures,
-      c .before .before .before .before .before .before .before .shared-slice-known .given (getD (c .before .before .before .before .before .before .before .before .args .functions .now) (c .before .before .before .before .before .loop .f) 0),
-    )
-
 returns-2 : tie.Need-returns-2 Inv-loop μ-loop
-unfolding headsExist headAt
+unfolding headsExist
 returns-2 c =
+    let below = c .before .before .before in
+    let found = below .before in
     rw (
-      ← c .before .before .before .before .before .before .before .loop .inv,
-      places-more _ _ _ (c .before .before .before .before .before .before .loop-test .taken),
-      ← c .before .before .before .before .byte-or-zero .ensures,
-      ← c .before .before .before .all-below .ensures,
-      not-false (c .before .before .before .all-below .result) (c .before .before .if1 .left),
-      ← c .before .byte-or-zero2 .ensures,
+      ← found .before .before .loop .inv,
+      places-more _ _ _ (found .before .loop-test .taken),
+      ← found .head-of .ensures .0,
+      ← below .all-below .ensures,
+      not-false (below .all-below .result) (c .before .before .if1 .left),
       le-ltb _ _ (c .if2 .taken),
     )
 
 loop-again : tie.Need-loop-again Inv-loop μ-loop
-unfolding headsExist headAt
+unfolding headsExist
 loop-again c =
+    let below = c .before .before .before in
+    let found = below .before in
     rw (
-      ← c .before .before .before .before .before .before .before .loop .inv,
-      places-more _ _ _ (c .before .before .before .before .before .before .loop-test .taken),
-      ← c .before .before .before .before .byte-or-zero .ensures,
-      ← c .before .before .before .all-below .ensures,
-      not-false (c .before .before .before .all-below .result) (c .before .before .if1 .left),
-      ← c .before .byte-or-zero2 .ensures,
+      ← found .before .before .loop .inv,
+      places-more _ _ _ (found .before .loop-test .taken),
+      ← found .head-of .ensures .0,
+      ← below .all-below .ensures,
+      not-false (below .all-below .result) (c .before .before .if1 .left),
       lt-ltb _ _ (c .if2 .left),
     )
 
@@ -97,16 +76,9 @@ heads-exist-spec =
     Inv-loop
     μ-loop
     loop-holds
-    (λ c. search needs)
-    (λ c. search needs)
-    cast-place
     (λ c κs. search needs)
-    add-all-below
     all-below-requires
     returns
-    add-byte-or-zero
-    add-byte-or-zero-2
-    (λ c κs. search needs)
     returns-2
     (λ c. search needs)
     (λ c. search needs)

@@ -4,7 +4,7 @@ use Prim.Native.Nat.{_-_}
 use native.Mathlib.Omega.{arith}
 use mathlib.Core.Path.{_≡_, refl}
 use mathlib.Core.List.{map}
-use lib.ListN.{length, drop, getD}
+use lib.ListN.{length, drop}
 use borrow.Author.Tests.{not-true, not-false}
 use borrow.Author.Needs.{needs}
 use Rattle.reach.specs.RuleFile.{typesExist}
@@ -22,39 +22,29 @@ abbrev μ-loop : tie.MeasureT-loop
 loop-holds : tie.Need-loop-holds Inv-loop μ-loop
 loop-holds c = refl
 
-cast-place : tie.Need-cast-place Inv-loop μ-loop
-cast-place c = omega (arith, c .shared-slice-known3 .given (c .before .before .loop .t))
-
-add-constructors-exist : tie.Need-add-constructors-exist Inv-loop μ-loop
-add-constructors-exist c = omega (arith, c .shared-slice-known3 .given (c .before .before .loop .t))
-
 constructors-exist-requires : tie.Need-constructors-exist-requires Inv-loop μ-loop
-constructors-exist-requires c κs =
-    omega (
-      arith,
-      c .before .shared-slice-known3 .given (c .before .before .before .loop .t),
-      c .byte-or-zero .ensures,
-      c .before .before .before .before .before .shared-slice-known .given (getD (c .before .before .before .before .before .before .args .types .now) (c .before .before .before .loop .t) 0),
-    )
+constructors-exist-requires c κs = let near = c .constructors-of .ensures .1 in (omega arith, omega arith)
 
 returns : tie.Need-returns Inv-loop μ-loop
-unfolding typesExist typeAt
+unfolding typesExist
 returns c =
+    let found = c .before .before in
     rw (
-      ← c .before .before .before .before .before .loop .inv,
-      places-more _ _ _ (c .before .before .before .before .loop-test .taken),
-      ← c .before .before .byte-or-zero .ensures,
+      ← found .before .before .loop .inv,
+      places-more _ _ _ (found .before .loop-test .taken),
+      ← found .constructors-of .ensures .0,
       ← c .before .constructors-exist .ensures,
       not-true (c .before .constructors-exist .result) (c .if1 .taken),
     )
 
 loop-again : tie.Need-loop-again Inv-loop μ-loop
-unfolding typesExist typeAt
+unfolding typesExist
 loop-again c =
+    let found = c .before .before in
     rw (
-      ← c .before .before .before .before .before .loop .inv,
-      places-more _ _ _ (c .before .before .before .before .loop-test .taken),
-      ← c .before .before .byte-or-zero .ensures,
+      ← found .before .before .loop .inv,
+      places-more _ _ _ (found .before .loop-test .taken),
+      ← found .constructors-of .ensures .0,
       ← c .before .constructors-exist .ensures,
       not-false (c .before .constructors-exist .result) (c .if1 .left),
     )
@@ -70,10 +60,6 @@ types-exist-spec =
     Inv-loop
     μ-loop
     loop-holds
-    (λ c. search needs)
-    (λ c. search needs)
-    cast-place
-    add-constructors-exist
     (λ c κs. search needs)
     constructors-exist-requires
     returns

@@ -10,13 +10,13 @@ use borrow.Fn.PlainCycle.{Measures, is, falls, and}
 use Rattle.reach.specs.Encoding.{skippedCall, skippedConstruct, skippedCase}
 use Rattle.records.specs.Steps.{stepOf}
 use Rattle.records.proofs.Answers.{byte-got, byte-short}
-use Rattle.records.proofs.byte_or_zero.Reads as byte-or-zero
 use Rattle.records.proofs.take_byte.Reads as take-byte
 use Rattle.records.proofs.wide.Reads as wide
 use Rattle.lookups.proofs.fields_of.Reads as fields-of
-use Rattle.lookups.proofs.place_or_zero.Reads as place-or-zero
+use Rattle.lookups.proofs.head_of.Reads as head-of
+use Rattle.lookups.proofs.constructors_of.Reads as constructors-of
 use Rattle.skipping.specs.Skip.{skippedAt, skippedAllAt, skippedAlternativesAt}
-use Rattle.skipping.proofs.Parts.{partOf, expression-none, expression-short, expression-by, call-known, call-unknown, case-known, case-unknown, construct-known, construct-unknown}
+use Rattle.skipping.proofs.Parts.{partOf, expression-none, expression-short, expression-by, call-known, call-unknown, case-first, case-known, case-unknown, construct-known, construct-unknown}
 use Rattle.skipping.proofs.Rows.{goes-on, stops, all-row, alternatives-row, row-done, row-next, row-stops}
 use Rattle.skipping.proofs.skip_number.Reads as number
 use Rattle.skipping.proofs.skip_all.Reads as all
@@ -163,10 +163,8 @@ module _ (t : ℕ) where
     take-byte.Learnt,
     wide.Asked,
     wide.Learnt,
-    place-or-zero.Asked,
-    place-or-zero.Learnt,
-    byte-or-zero.Asked,
-    byte-or-zero.Learnt,
+    head-of.Asked,
+    head-of.Learnt,
     all-below,
     all.Post,
   )
@@ -179,10 +177,8 @@ module _ (t : ℕ) where
     wide.Learnt,
     expression-below,
     expression.Post,
-    place-or-zero.Asked,
-    place-or-zero.Learnt,
-    byte-or-zero.Asked,
-    byte-or-zero.Learnt,
+    constructors-of.Asked,
+    constructors-of.Learnt,
     alternatives-below,
     alternatives.Post,
   )
@@ -273,12 +269,10 @@ module _ (t : ℕ) where
 
   call-returns-3 : call-lts.Need-returns-3 call-claims call-at call.Post
   call-returns-3 c =
-      let known = c .before .before .before in
+      let known = c .before .before in
       rw (
         c .skip-all .ensures,
-        c .before .byte-or-zero .ensures,
-        c .before .before .place-or-zero .ensures,
-        call-known _ _ _ _ _ (byte-got _ _ (known .before .before .before .before .before .take-byte .ensures) (known .before .before .before .number .given .1)) (known .before .wide .ensures) (known .if1 .left),
+        call-known _ _ _ _ _ (byte-got _ _ (known .before .before .before .before .before .take-byte .ensures) (known .before .before .before .number .given .1)) (known .before .wide .ensures) (c .before .head-of .result) (c .before .head-of .ensures .0) (known .if1 .left),
       )
 
   -- a case: the number of a type, the scrutinee, and an alternative for each constructor
@@ -292,18 +286,16 @@ module _ (t : ℕ) where
   case-returns-3 : case-lts.Need-returns-3 case-claims case-at case.Post
   case-returns-3 c =
       let known = c .before .before .before in
-      rw (case-known _ _ _ _ _ (byte-got _ _ (known .before .before .before .before .before .take-byte .ensures) (known .before .before .before .number .given .1)) (known .before .wide .ensures) (known .if1 .left))
+      rw (case-first _ _ _ _ _ (byte-got _ _ (known .before .before .before .before .before .take-byte .ensures) (known .before .before .before .number .given .1)) (known .before .wide .ensures) (known .if1 .left))
       (stops (skippedAt _ _ _ _) (skippedAlternativesAt _ _ _ _ _) _ _ (c .before .before .skip-expression .ensures) (c .enum-told2 .given .1))
 
   case-returns-4 : case-lts.Need-returns-4 case-claims case-at case.Post
   case-returns-4 c =
-      let known = c .before .before .before .before .before .before .before in
+      let known = c .before .before .before .before .before .before in
       rw (
         c .skip-alternatives .ensures,
-        c .before .byte-or-zero .ensures,
-        c .before .before .place-or-zero .ensures,
-        case-known _ _ _ _ _ (byte-got _ _ (known .before .before .before .before .before .take-byte .ensures) (known .before .before .before .number .given .1)) (known .before .wide .ensures) (known .if1 .left),
-        goes-on (skippedAt _ _ _ _) (skippedAlternativesAt _ _ _ _ _) _ _ (c .before .before .before .before .before .before .skip-expression .ensures) (c .before .before .before .before .step .given .1),
+        case-known _ _ _ _ _ (byte-got _ _ (known .before .before .before .before .before .take-byte .ensures) (known .before .before .before .number .given .1)) (known .before .wide .ensures) (c .before .constructors-of .result) (c .before .constructors-of .ensures .0) (known .if1 .left),
+        goes-on (skippedAt _ _ _ _) (skippedAlternativesAt _ _ _ _ _) _ _ (c .before .before .before .before .before .skip-expression .ensures) (c .before .before .before .step .given .1),
       )
 
   -- a constructor: its type and its number, and as many expressions as it has fields
@@ -429,12 +421,12 @@ pub +skip-all+skip-alternative+skip-alternatives+skip-call+skip-case+skip-constr
     (λ t. call-lts.spec (call-claims t) (call-at t) call.Post
     (λ c κs. search needs) (λ c. search needs) (λ c. search needs) (call-returns t)
     (λ c κs. search needs) (call-returns-2 t)
-    (λ c κs. search needs) (λ c κs. search needs) (λ c κs. search needs) (call-returns-3 t))
+    (λ c κs. search needs) (λ c κs. search needs) (call-returns-3 t))
     (λ t. case-lts.spec (case-claims t) (case-at t) case.Post
     (λ c κs. search needs) (λ c. search needs) (λ c. search needs) (case-returns t)
     (λ c κs. search needs) (case-returns-2 t)
     (λ c κs. search needs) (λ c. search needs) (λ c. search needs) (case-returns-3 t)
-    (λ c κs. search needs) (λ c κs. search needs) (λ c κs. search needs) (case-returns-4 t))
+    (λ c κs. search needs) (λ c κs. search needs) (case-returns-4 t))
     (λ t. construct-lts.spec (construct-claims t) (construct-at t) construct.Post
     (λ c κs. search needs) (λ c. search needs) (λ c. search needs) (construct-returns t)
     (λ c κs. search needs) (λ c. search needs) (λ c. search needs) (construct-returns-2 t)

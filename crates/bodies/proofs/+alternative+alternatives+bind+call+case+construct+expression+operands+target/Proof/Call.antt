@@ -39,22 +39,9 @@ module _ (t : ℕ) where
       (c .before .in-limits .ensures)
       (c .if2 .taken)
 
-  add-byte-or-zero : lts.Need-add-byte-or-zero (call-claims t) (call-at t) reads.Post
-  add-byte-or-zero c =
-      let k = c .before .before .before .before .before in
-      let k₁ = k .before .before .before .before .before in
-      omega (arith, k₁ .shared-slice-known4 .given (k .wide .result))
-
-  add-byte-or-zero-2 : lts.Need-add-byte-or-zero-2 (call-claims t) (call-at t) reads.Post
-  add-byte-or-zero-2 c =
-      let k = c .before .before .before .before .before in
-      let k₁ = k .before .before .before .before .before in
-      let k₂ = k₁ .before .before .before in
-      omega (arith, k₁ .shared-slice-known4 .given (k .wide .result), k₂ .shared-slice-known .given (c .before .place-or-zero .result))
-
   returns-4 : lts.Need-returns-4 (call-claims t) (call-at t) reads.Post
   returns-4 c =
-      let k = c .before .before .before in
+      let k = c .before .before in
       let k₁ = k .before .before .before in
       let k₂ = k₁ .before .before .before in
       call-mismatch _ _ _ _ _ _ _ _
@@ -63,47 +50,37 @@ module _ (t : ℕ) where
       (k₁ .if1 .left)
       (k .before .before .in-limits .ensures)
       (k .before .if2 .left)
-      (k .place-or-zero .ensures)
-      (c .before .before .byte-or-zero .ensures)
-      (c .before .byte-or-zero2 .ensures)
+      (k .head-of .result)
+      (k .head-of .ensures .0)
       (c .if3 .taken)
 
   sub-operands : lts.Need-sub-operands (call-claims t) (call-at t) reads.Post
   sub-operands c =
-      let k = c .before .before .before .before in
+      let k = c .before .before .before in
       limits-nested (k .before .in-limits .ensures) (k .if2 .left)
-
-  add-operands : lts.Need-add-operands (call-claims t) (call-at t) reads.Post
-  add-operands c =
-      let k = c .before .before .before .before .before .before .before in
-      let k₁ = k .before .before .before .before .before in
-      omega (arith, k₁ .shared-slice-known4 .given (k .wide .result))
 
   operands-requires : lts.Need-operands-requires (call-claims t) (call-at t) reads.Post
   operands-requires c κs =
-      let k = c .before .before .before in
+      let k = c .before .before in
       let k₁ = k .before .before .before .before in
-      let k₂ = k₁ .before .before .before .before .before in
-      let k₃ = k₂ .before .before .before in
+      let start = k₁ .before .before .before .before .before .before .before .before .before in
       let h = limits-nested (k .before .before .in-limits .ensures) (k .before .if2 .left) in
-      let p = k₂ .shared-slice-known4 .given (k₁ .wide .result) in
-      let n = k₃ .shared-slice-known .given (k .place-or-zero .result) in
-      (omega arith, (k₃ .before .pre .1 .0, omega arith, omega arith, omega arith))
+      let near = k .head-of .ensures .1 in
+      (omega arith, (start .pre .1 .0, omega arith, omega arith, omega arith))
 
   returns-5 : lts.Need-returns-5 (call-claims t) (call-at t) reads.Post
   returns-5 c =
       let k = c .before .before .before in
       let k₁ = k .before .before .before in
-      let k₂ = k₁ .before .before .before .before in
+      let k₂ = k₁ .before .before .before in
       call-goes _ _ _ _ _ _ _ _
       (byte-got _ _ (k₂ .before .before .take-byte .ensures) (k₂ .number .given .1))
-      (k₁ .before .before .wide .ensures)
-      (k₁ .before .if1 .left)
-      (k₁ .in-limits .ensures)
-      (k .before .before .if2 .left)
-      (k .before .place-or-zero .ensures)
-      (k .byte-or-zero .ensures)
-      (c .before .before .byte-or-zero2 .ensures)
+      (k₁ .before .wide .ensures)
+      (k₁ .if1 .left)
+      (k .before .before .in-limits .ensures)
+      (k .before .if2 .left)
+      (k .head-of .result)
+      (k .head-of .ensures .0)
       (c .before .if3 .left)
       (c .operands .ensures)
 
@@ -122,12 +99,7 @@ call-spec t =
     (λ c κs. search needs)
     (returns-3 t)
     (λ c κs. search needs)
-    (λ c κs. search needs)
-    (add-byte-or-zero t)
-    (add-byte-or-zero-2 t)
-    (λ c κs. search needs)
     (returns-4 t)
     (sub-operands t)
-    (add-operands t)
     (operands-requires t)
     (returns-5 t)

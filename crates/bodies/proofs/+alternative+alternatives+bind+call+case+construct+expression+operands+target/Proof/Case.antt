@@ -65,29 +65,20 @@ module _ (t : ℕ) where
       let k = c .before .before .before .before .before in
       limits-nested (k .before .in-limits .ensures) (k .if2 .left)
 
-  add-alternatives : lts.Need-add-alternatives (case-claims t) (case-at t) reads.Post
-  add-alternatives c =
-      let k = c .before .before .before .before .before .before .before .before in
-      let k₁ = k .before .before .before .before .before .before in
-      omega (arith, k₁ .shared-slice-known3 .given (k .wide .result))
-
   alternatives-requires : lts.Need-alternatives-requires (case-claims t) (case-at t) reads.Post
   alternatives-requires c κs =
-      let k = c .before .before .before .before .before .before in
+      let k = c .before .before .before .before .before in
       let k₁ = k .before .before .before in
-      let k₂ = k₁ .before .before .before .before .before .before in
-      let start = k₂ .before .before .before in
+      let start = k₁ .before .before .before .before .before .before .before .before .before in
       let h = limits-nested (k .before .in-limits .ensures) (k .if2 .left) in
       let v = limits-view (k .before .in-limits .ensures) (k .if2 .left) in
-      let p = k₂ .shared-slice-known3 .given (k₁ .wide .result) in
-      let n = k₂ .before .before .shared-slice-known .given (c .before .place-or-zero .result) in
       let small = start .pre .1 .0 in
-      let narrow = narrow-type small (k .before .before .if1 .left) (c .before .place-or-zero .ensures) (c .byte-or-zero .ensures) in
-      (omega arith, (small, v, omega arith, omega arith, narrow))
+      let near = c .constructors-of .ensures .1 in
+      (omega arith, (small, v, omega arith, omega arith, narrow-type (c .constructors-of .result) small (k .before .before .if1 .left) (c .constructors-of .ensures .0)))
 
   returns-5 : lts.Need-returns-5 (case-claims t) (case-at t) reads.Post
   returns-5 c =
-      let k = c .before .before .before .before in
+      let k = c .before .before .before in
       let k₁ = k .before .before .before in
       let k₂ = k₁ .before .before .before in
       let k₃ = k₂ .before .before .before .before in
@@ -99,8 +90,8 @@ module _ (t : ℕ) where
       (k₁ .if2 .left)
       (k .before .before .expression .ensures)
       (k .step .given .1)
-      (c .before .before .place-or-zero .ensures)
-      (c .before .byte-or-zero .ensures)
+      (c .before .constructors-of .result)
+      (c .before .constructors-of .ensures .0)
       (c .alternatives .ensures)
 
 pub case-spec : {M : Type 1} (t : ℕ) → lts.Closed (case-claims t) (case-at t) reads.Post M
@@ -124,7 +115,5 @@ case-spec t =
     (returns-4 t)
     (λ c κs. search needs)
     (sub-alternatives t)
-    (add-alternatives t)
-    (λ c κs. search needs)
     (alternatives-requires t)
     (returns-5 t)

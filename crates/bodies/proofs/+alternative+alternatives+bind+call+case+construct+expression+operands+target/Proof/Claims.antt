@@ -34,7 +34,8 @@ use Rattle.bodies.proofs.+alternative+alternatives+bind+call+case+const
 use Rattle.bodies.proofs.extended.Reads as extended-reads
 use Rattle.lookups.proofs.fields_of.Reads as fields-of-reads
 use Rattle.bodies.proofs.in_limits.Reads as in-limits-reads
-use Rattle.lookups.proofs.place_or_zero.Reads as place-or-zero-reads
+use Rattle.lookups.proofs.head_of.Reads as head-of-reads
+use Rattle.lookups.proofs.constructors_of.Reads as constructors-of-reads
 use Rattle.bodies.proofs.variable.Reads as variable-reads
 use Rattle.bodies.proofs.with_one.Reads as with-one-reads
 use Rattle.records.proofs.byte_or_zero.Reads as byte-or-zero-reads
@@ -162,10 +163,8 @@ call-claims t = (
   wide-reads.Learnt,
   in-limits-reads.Asked,
   in-limits-reads.Learnt,
-  place-or-zero-reads.Asked,
-  place-or-zero-reads.Learnt,
-  byte-or-zero-reads.Asked,
-  byte-or-zero-reads.Learnt,
+  head-of-reads.Asked,
+  head-of-reads.Learnt,
   operands-below t,
   operands.Post,
 )
@@ -180,10 +179,8 @@ case-claims t = (
   in-limits-reads.Learnt,
   expression-below t,
   expression.Post,
-  place-or-zero-reads.Asked,
-  place-or-zero-reads.Learnt,
-  byte-or-zero-reads.Asked,
-  byte-or-zero-reads.Learnt,
+  constructors-of-reads.Asked,
+  constructors-of-reads.Learnt,
   alternatives-below t,
   alternatives.Post,
 )
