@@ -59,7 +59,7 @@ bytes-more (x ∷ es) e =
 size-first : (x : Entry) (es : List Entry) → length (listBytes (x ∷ es)) ≡ length (entryBytes x) + length (listBytes es)
 size-first x es = rw (bytes-first x es) (length-append (entryBytes x) (listBytes es))
 
-size-more : (es : List Entry) (e : Entry) → length (listBytes (es ++ (e ∷ []))) ≡ length (listBytes es) + length (entryBytes e)
+pub size-more : (es : List Entry) (e : Entry) → length (listBytes (es ++ (e ∷ []))) ≡ length (listBytes es) + length (entryBytes e)
 size-more es e = rw (bytes-more es e) (length-append (listBytes es) (entryBytes e))
 
 -- The cut.

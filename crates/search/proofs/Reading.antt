@@ -5,10 +5,10 @@
 use Prim.Native.Nat.{ℕ, zero, suc, _≤_, _<_}
 use native.Mathlib.Omega.{arith}
 use mathlib.Core.Path.{_≡_, refl, sym, ap, subst, _∙_}
-use mathlib.Core.Logic.{_↔_}
+use mathlib.Core.Logic.{_⊎_, inl, inr, _↔_}
 use mathlib.Core.List.{List, [], _∷_, _++_, append-assoc, append-nil}
-use mathlib.Core.Option.{Option, none, some, Option·none-ne-some, Option·some-injective}
-use lib.ListN.{length, getD, getElem?, length-append}
+use mathlib.Core.Option.{Option, none, some, Option·none-ne-some}
+use lib.ListN.{length, getD, getElem?}
 use Rattle.reach.specs.Base.{_∈_}
 use Rattle.reach.specs.Limits.{listLimit}
 use Rattle.reach.specs.Syntax.{Types, Program, fieldTypes, sourceTypes}
@@ -17,7 +17,7 @@ use Rattle.reach.specs.Types.{Typed, sourceSlots, leastDepths}
 use Rattle.reach.specs.Eval.{State}
 use Rattle.reach.specs.Search.{Entry, branches, openInput, entries}
 use Rattle.reach.specs.RuleFile.{deepEnough}
-use Rattle.reach.specs.Lists.{kindBytes, entryBytes, listBytes, entryPart}
+use Rattle.reach.specs.Lists.{entryBytes, listBytes, entryPart}
 use Rattle.reach.specs.Answers.{accepted, check}
 use Rattle.reach.proofs.Base.{clash, nth-member}
 use Rattle.reach.proofs.WellTyped.{at-getD}
@@ -30,7 +30,7 @@ use Rattle.reach.proofs.ReadBack.{Decoded, decoded, decoded-entry, entry-read-b
 use Rattle.listing.proofs.Bytes.{entry-length}
 use Rattle.search.specs.Listing.{ReadsAs}
 
--- bytes that are told apart by how they are put together
+-- the same bytes, put together the other way
 regroup : (x y r x′ y′ r′ : List ℕ) → x ++ y ++ r ≡ x′ ++ y′ ++ r′ → x ++ (y ++ r) ≡ x′ ++ (y′ ++ r′)
 regroup x y r x′ y′ r′ is = cc (append-assoc x y r, append-assoc x′ y′ r′)
 
@@ -59,6 +59,19 @@ row-unique types low (t ∷ ts) (bound c fs x) (bound d gs y) r r′ a b is =
     let first = row-unique types low (a .0) fs gs (prefix x ++ r) (prefix y ++ r′) (a .2) typed (regroup (prefix fs) (prefix x) r (prefix gs) (prefix y) r′ (cc)) in
     let rest = row-unique types low ts x y r r′ (a .3) (b .3) (first .1) in
     (cc (first .0, rest .0), rest .1)
+
+-- a number that no entry has is beyond the last
+missing : (es : List Entry) (k : ℕ) → getElem? es k ≡ none → length es ≤ k
+missing [] k is = omega arith
+missing (x ∷ es) zero is = absurd (Option·none-ne-some x (sym is))
+missing (x ∷ es) (suc k) is = omega (arith, missing es k is)
+
+-- an entry is its kind, its steps and its input
+same-entry : (e f : Entry) → e .kind ≡ f .kind → e .steps ≡ f .steps → e .input ≡ f .input → e ≡ f
+same-entry e f k s i =
+    let whole : Entry → Entry = λ g. record { kind = g .kind; steps = g .steps; input = g .input } in
+    let z : whole e ≡ whole f = rw (k, s, i) in
+    z
 
 module _ (file : List ℕ) (p : Program) (h : check file ≡ accepted p) where
   -- the constructors of a type are at most 16
@@ -108,18 +121,6 @@ module _ (file : List ℕ) (p : Program) (h : check file ≡ accepted p) where
         rw (part-of k e there)
         (λ none. clash (omega (arith, ap length none, entry-length e)), decoded-entry e (entry-steps e m), entry-typed e m)
 
-    missing : (xs : List Entry) (k : ℕ) → getElem? xs k ≡ none → length xs ≤ k
-    missing [] k is = omega arith
-    missing (x ∷ xs) zero is = absurd (Option·none-ne-some x (sym is))
-    missing (x ∷ xs) (suc k) is = omega (arith, missing xs k is)
-
-    -- an entry is its kind, its steps and its input
-    same-entry : (e f : Entry) → e .kind ≡ f .kind → e .steps ≡ f .steps → e .input ≡ f .input → e ≡ f
-    same-entry e f k s i =
-        let whole : Entry → Entry = λ g. record { kind = g .kind; steps = g .steps; input = g .input } in
-        let z : whole e ≡ whole f = rw (k, s, i) in
-        z
-
     read : (k : ℕ) (e : Entry) → ReadsAs p (listBytes es) k e → getElem? es k ≡ some e
     read k e (there, says, typed) = go (getElem? es k) refl
       where
@@ -133,3 +134,11 @@ module _ (file : List ℕ) (p : Program) (h : check file ≡ accepted p) where
 
     pub reads-exactly : (k : ℕ) (e : Entry) → ReadsAs p (listBytes es) k e ↔ (getElem? es k ≡ some e)
     reads-exactly k e = (read k e, reads k e)
+
+    -- a number reads as an entry, or its part is empty
+    pub reads-or-empty : (k : ℕ) → ((e : Entry) × ReadsAs p (listBytes es) k e) ⊎ (entryPart (listBytes es) k ≡ [])
+    reads-or-empty k = go (getElem? es k) refl
+      where
+        go : (o : Option Entry) → getElem? es k ≡ o → ((e : Entry) × ReadsAs p (listBytes es) k e) ⊎ (entryPart (listBytes es) k ≡ [])
+        go none is = inr (beyond-end es small fits k (missing es k is))
+        go (some e) is = inl (e, reads k e is)

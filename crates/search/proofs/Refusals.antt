@@ -3,7 +3,7 @@
 -- Rests on reach's Reader, RuleFile, Words and Answers.
 use Prim.Native.Nat.{ℕ, zero, suc, pred, _+_, _≤_}
 use native.Mathlib.Omega.{arith}
-use mathlib.Core.Path.{_≡_, refl, subst}
+use mathlib.Core.Path.{_≡_, subst}
 use mathlib.Core.Bool.{Bool, true, false, _&&_}
 use mathlib.Core.List.{List, [], _∷_, _++_}
 use mathlib.Core.Option.{Option, none, some}
@@ -14,7 +14,7 @@ use Rattle.reach.specs.declared.Refusal.the-variants.{Truncated, OutOfRange, Un
 use Rattle.reach.specs.Base.{pick}
 use Rattle.reach.specs.Words.{numberOf}
 use Rattle.reach.specs.Limits.{fileLimit, typeLimit, constructorLimit, fieldLimit, functionLimit, parameterLimit, bodyLimit, depthLimit, stepLimit, viewLimit, nestingLimit}
-use Rattle.reach.specs.Syntax.{Expr, Program, fieldTypes}
+use Rattle.reach.specs.Syntax.{Program, fieldTypes}
 use Rattle.reach.specs.Types.{leastDepths}
 use Rattle.reach.specs.Reader.{Got, got, refused, onGot, Reader, _>>=_, _>>_, give, refuse, demand, byte, word, times, passed, atEnd}
 use Rattle.reach.specs.RuleFile.{Mark, TY, FN, GO, other, onMark, mark, counted, constructorRecord, typeRecord, Head, functionRecord, goalRecord, moreTypes, moreFunctions, Outline, outline}
