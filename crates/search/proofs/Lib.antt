@@ -1,0 +1,5 @@
+pub mod Cutting
+pub mod Reading
+pub mod Refusals
+pub mod Called
+pub mod Demands

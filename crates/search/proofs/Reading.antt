@@ -1,0 +1,144 @@
+-- The bytes of a list determine its entries: a partial input of the source's types is determined by its prefix form, so that an entry is determined by
+-- what is read back of it.
+-- Rests on specs/Listing, on reach's ReadBack for the bytes of a list, on its Limits (a constructor's number is not 0xFF) and on its Depths and Entries
+-- (an entry has the source's types).
+use Prim.Native.Nat.{ℕ, zero, suc, _≤_, _<_}
+use native.Mathlib.Omega.{arith}
+use mathlib.Core.Path.{_≡_, refl, sym, ap, subst, _∙_}
+use mathlib.Core.Logic.{_⊎_, inl, inr, _↔_}
+use mathlib.Core.List.{List, [], _∷_, _++_, append-assoc, append-nil}
+use mathlib.Core.Option.{Option, none, some, Option·none-ne-some}
+use lib.ListN.{length, getD, getElem?}
+use Rattle.reach.specs.Base.{_∈_}
+use Rattle.reach.specs.Limits.{listLimit}
+use Rattle.reach.specs.Syntax.{Types, Program, fieldTypes, sourceTypes}
+use Rattle.reach.specs.Parts.{Parts, end, opened, bound, prefix}
+use Rattle.reach.specs.Types.{Typed, sourceSlots, leastDepths}
+use Rattle.reach.specs.Eval.{State}
+use Rattle.reach.specs.Search.{Entry, branches, openInput, entries}
+use Rattle.reach.specs.RuleFile.{deepEnough}
+use Rattle.reach.specs.Lists.{entryBytes, listBytes, entryPart}
+use Rattle.reach.specs.Answers.{accepted, check}
+use Rattle.reach.proofs.Base.{clash, nth-member}
+use Rattle.reach.proofs.WellTyped.{at-getD}
+use Rattle.reach.proofs.Limits.{accepted-keeps}
+use Rattle.reach.proofs.Depths.{Fit, open-fit, bind-fit, fit-typed}
+use Rattle.reach.proofs.Evaluation.{waits-free}
+use Rattle.reach.proofs.EntryLength.{entry-within}
+use Rattle.reach.proofs.Entries.{Finds, at-target, at-limit, at-limit-waiting, by-step, by-fork, entry-found}
+use Rattle.reach.proofs.ReadBack.{Decoded, decoded, decoded-entry, entry-read-back, beyond-end}
+use Rattle.listing.proofs.Bytes.{entry-length}
+use Rattle.search.specs.Listing.{ReadsAs}
+
+-- the same bytes, put together the other way
+regroup : (x y r x′ y′ r′ : List ℕ) → x ++ y ++ r ≡ x′ ++ y′ ++ r′ → x ++ (y ++ r) ≡ x′ ++ (y′ ++ r′)
+regroup x y r x′ y′ r′ is = cc (append-assoc x y r, append-assoc x′ y′ r′)
+
+-- With the types fixed, and no constructor's number 0xFF, bytes that begin with a prefix form determine the row and the rest.
+row-unique :
+    (types : Types) → ((t c : ℕ) (us : List ℕ) → fieldTypes types t c ≡ some us → c < 255)
+    → (ts : List ℕ) (x y : Parts) (r r′ : List ℕ) → Typed types ts x → Typed types ts y → prefix x ++ r ≡ prefix y ++ r′ → (x ≡ y) × (r ≡ r′)
+unfolding prefix
+row-unique types low [] end end r r′ a b is = (refl, is)
+row-unique types low [] end (opened y) r r′ a b is = absurd b
+row-unique types low [] end (bound c gs y) r r′ a b is = absurd b
+row-unique types low [] (opened x) y r r′ a b is = absurd a
+row-unique types low [] (bound c fs x) y r r′ a b is = absurd a
+row-unique types low (t ∷ ts) end y r r′ a b is = absurd a
+row-unique types low (t ∷ ts) (opened x) end r r′ a b is = absurd b
+row-unique types low (t ∷ ts) (opened x) (opened y) r r′ a b is =
+    let rest = row-unique types low ts x y r r′ a b (cc) in
+    (ap opened (rest .0), rest .1)
+row-unique types low (t ∷ ts) (opened x) (bound c gs y) r r′ a b is = let z : 0xff ≡ c = cc in absurd (omega (arith, low t c (b .0) (b .1)))
+row-unique types low (t ∷ ts) (bound c fs x) end r r′ a b is = absurd b
+row-unique types low (t ∷ ts) (bound c fs x) (opened y) r r′ a b is = let z : c ≡ 0xff = cc in absurd (omega (arith, low t c (a .0) (a .1)))
+row-unique types low (t ∷ ts) (bound c fs x) (bound d gs y) r r′ a b is =
+    let same : c ≡ d = cc in
+    let fields : b .0 ≡ a .0 = cc (a .1, b .1) in
+    let typed : Typed types (a .0) gs = subst (λ (us : List ℕ). Typed types us gs) fields (b .2) in
+    let first = row-unique types low (a .0) fs gs (prefix x ++ r) (prefix y ++ r′) (a .2) typed (regroup (prefix fs) (prefix x) r (prefix gs) (prefix y) r′ (cc)) in
+    let rest = row-unique types low ts x y r r′ (a .3) (b .3) (first .1) in
+    (cc (first .0, rest .0), rest .1)
+
+-- a number that no entry has is beyond the last
+missing : (es : List Entry) (k : ℕ) → getElem? es k ≡ none → length es ≤ k
+missing [] k is = omega arith
+missing (x ∷ es) zero is = absurd (Option·none-ne-some x (sym is))
+missing (x ∷ es) (suc k) is = omega (arith, missing es k is)
+
+-- an entry is its kind, its steps and its input
+same-entry : (e f : Entry) → e .kind ≡ f .kind → e .steps ≡ f .steps → e .input ≡ f .input → e ≡ f
+same-entry e f k s i =
+    let whole : Entry → Entry = λ g. record { kind = g .kind; steps = g .steps; input = g .input } in
+    let z : whole e ≡ whole f = rw (k, s, i) in
+    z
+
+module _ (file : List ℕ) (p : Program) (h : check file ≡ accepted p) where
+  -- the constructors of a type are at most 16
+  number-low : (t c : ℕ) (us : List ℕ) → fieldTypes (p .types) t c ≡ some us → c < 255
+  unfolding fieldTypes
+  number-low t c us is = omega (arith, (at-getD (getD (p .types) t []) c [] us is) .0, (accepted-keeps file p h) .constructors-limit t)
+
+  -- partial inputs of the source's types that have one prefix form are one
+  pub prefix-unique : (i j : Parts) → Typed (p .types) (sourceTypes p) i → Typed (p .types) (sourceTypes p) j → prefix i ≡ prefix j → i ≡ j
+  prefix-unique i j a b is = (row-unique (p .types) number-low (sourceTypes p) i j [] [] a b (ap (λ (l : List ℕ). l ++ []) is)) .0
+
+  -- the search begins with open parts that fit, and a fork keeps to the types and the depth
+  start-fit : Fit (p .types) (sourceSlots p) (openInput p)
+  unfolding openInput sourceSlots deepEnough
+  start-fit = open-fit (p .types) (sourceTypes p) (p .depth) ((accepted-keeps file p h) .deep-enough)
+
+  found-fit : {left n : ℕ} {i : Parts} {s : State} {e : Entry} → Finds p (leastDepths (p .types)) left n i s e
+      → Fit (p .types) (sourceSlots p) i → Fit (p .types) (sourceSlots p) (e .input)
+  unfolding branches
+  found-fit (at-target w) f = f
+  found-fit (at-limit w) f = f
+  found-fit (at-limit-waiting w) f = f
+  found-fit (by-step w d) f = found-fit d f
+  found-fit (by-fork {i = i} {s = s} q g w m d) f = found-fit d (bind-fit (p .types) (sourceSlots p) i (q .place) g f (waits-free p i s q w) m)
+
+  -- every entry has the source's types
+  pub entry-typed : (e : Entry) → e ∈ entries p → Typed (p .types) (sourceTypes p) (e .input)
+  unfolding sourceSlots
+  entry-typed e m = (fit-typed (p .types) (sourceTypes p) (p .depth) (e .input) (found-fit (entry-found p e m) start-fit)) .0
+
+  -- its steps fit their two bytes
+  entry-steps : (e : Entry) → e ∈ entries p → e .steps < 65536
+  entry-steps e m = omega (arith, (entry-within file p h e m) .1, (accepted-keeps file p h) .steps-limit)
+
+  -- Of a list of such entries: entry k, read back, is the entry of number k, and no other.
+  module _ (es : List Entry) (all : (e : Entry) → e ∈ es → e ∈ entries p) (fits : length (listBytes es) ≤ listLimit) where
+    small : (e : Entry) → e ∈ es → length (prefix (e .input)) < 65536
+    small e m = (entry-within file p h e (all e m)) .0
+
+    -- the part that it fills is its bytes
+    pub part-of : (k : ℕ) (e : Entry) → getElem? es k ≡ some e → entryPart (listBytes es) k ≡ entryBytes e
+    part-of k e there = rw (append-nil (listBytes es)) at (entry-read-back es [] small fits k e there)
+
+    reads : (k : ℕ) (e : Entry) → getElem? es k ≡ some e → ReadsAs p (listBytes es) k e
+    reads k e there =
+        let m = all e (nth-member es k e there) in
+        rw (part-of k e there)
+        (λ none. clash (omega (arith, ap length none, entry-length e)), decoded-entry e (entry-steps e m), entry-typed e m)
+
+    read : (k : ℕ) (e : Entry) → ReadsAs p (listBytes es) k e → getElem? es k ≡ some e
+    read k e (there, says, typed) = go (getElem? es k) refl
+      where
+        go : (o : Option Entry) → getElem? es k ≡ o → o ≡ some e
+        go none is = absurd (there (beyond-end es small fits k (missing es k is)))
+        go (some f) is =
+            let m = all f (nth-member es k f is) in
+            let both : _≡_ {A = Decoded} _ _ = sym (decoded-entry f (entry-steps f m)) ∙ ap decoded (sym (part-of k f is)) ∙ says in
+            let input = prefix-unique (f .input) (e .input) (entry-typed f m) typed (ap (λ (d : Decoded). d .parameters) both) in
+            ap some (same-entry f e (ap (λ (d : Decoded). d .kind) both) (ap (λ (d : Decoded). d .steps) both) input)
+
+    pub reads-exactly : (k : ℕ) (e : Entry) → ReadsAs p (listBytes es) k e ↔ (getElem? es k ≡ some e)
+    reads-exactly k e = (read k e, reads k e)
+
+    -- a number reads as an entry, or its part is empty
+    pub reads-or-empty : (k : ℕ) → ((e : Entry) × ReadsAs p (listBytes es) k e) ⊎ (entryPart (listBytes es) k ≡ [])
+    reads-or-empty k = go (getElem? es k) refl
+      where
+        go : (o : Option Entry) → getElem? es k ≡ o → ((e : Entry) × ReadsAs p (listBytes es) k e) ⊎ (entryPart (listBytes es) k ≡ [])
+        go none is = inr (beyond-end es small fits k (missing es k is))
+        go (some e) is = inl (e, reads k e is)
