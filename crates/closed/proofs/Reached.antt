@@ -15,7 +15,7 @@ use Rattle.reach.proofs.Order.{⊑-width}
 use Rattle.reach.proofs.Evaluation.{StateIn, next-more, eval-step, eval-demands, eval-stops, eval-spent}
 use Rattle.reach.proofs.Depths.{typed-width}
 use Rattle.reach.proofs.NeverStuck.{Steps, no-step, one-more, Sound, steps-sound}
-use Rattle.reach.proofs.Reached.{steps-in}
+use Rattle.reach.proofs.Reached.{steps-in, steps-more}
 
 -- an input below one of these types is of these types
 pub below-typed : (types : Types) (ts : List ℕ) {e j : Parts} → e ⊑ j → Typed types ts j → Typed types ts e

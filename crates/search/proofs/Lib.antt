@@ -1,4 +1,5 @@
 pub mod Cutting
+pub mod Exploring
 pub mod Reading
 pub mod Refusals
 pub mod Called
