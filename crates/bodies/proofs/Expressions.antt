@@ -1,7 +1,7 @@
 -- The kinds of expression: what the definition's reader gives at each place where the code answers, one law for each answer. The code's own
 -- values stand beside the definition's, with the equations that the code's calls ensure.
 -- Rests on Tables, Views and Steps.
-use Prim.Native.Nat.{ℕ, _+_, _-_, _≤_, _<_}
+use Prim.Native.Nat.{ℕ, _-_, _≤_, _<_}
 use mathlib.Core.Path.{_≡_, sym, _∙_, ap}
 use mathlib.Core.Bool.{Bool, true, false, not}
 use mathlib.Core.List.{List, [], _∷_, _++_, map}

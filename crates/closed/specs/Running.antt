@@ -124,7 +124,7 @@ AdvancesAll file types functions input label w w′ base cells r cells′ n =
     → Advances file types functions input label limit w′ base done p j s cells′ n × BoundSoFar p j done s n w′
 
 -- What words w stand for after a run of at most `limit` steps: a partial input below the closed one, on which the evaluation comes to the same end. So
--- each part that is bound has the constructor that the closed input has there, and the run looked at no part that is open.
+-- each part that is bound has the constructor that the closed input has there, and no step of the run looked at a part that is open.
 pub record LookedAt (p : Program) (j : Parts) (limit : ℕ) (w : List ℕ) : Type 0 where
   pub cells : ℕ
   pub input : Parts
@@ -186,7 +186,7 @@ abbrev pub Unchanged : Answer → List ℕ → List ℕ → List ℕ → Type 0
 Unchanged (Answer.Refused why) file w w′ = w′ ≡ w
 Unchanged (Answer.Ran o) file w w′ = (p : Program) → check file ≡ accepted p → drop (64 * p .steps + 1024) w′ ≡ drop (64 * p .steps + 1024) w
 
--- After a run the words stand for a part of the closed input that has all that the run looked at. What the evaluation's records left behind the
+-- After a run the words stand for a part of the closed input that has all that its steps looked at. What the evaluation's records left behind the
 -- cells is not said.
 abbrev pub Leaves : Answer → List ℕ → List ℕ → List ℕ → Type 0
 Leaves (Answer.Refused why) file input w′ = Unit {0}

@@ -18,7 +18,7 @@ use Rattle.reach.proofs.Encoding.{BodyInside, outline-inside}
 use Rattle.records.specs.declared.Step.{Step}
 use Rattle.records.specs.declared.Step.the-variants.{Next, Refused}
 use Rattle.records.specs.Steps.{stepOf}
-use Rattle.lookups.proofs.Tables.{found, bytes-length}
+use Rattle.lookups.proofs.Tables.{found}
 use Rattle.bodies.specs.Check.{Small, BodiesThere, functionsAt, bodiesStep}
 
 -- ---- the tables keep to the limits, and the bodies end inside the file

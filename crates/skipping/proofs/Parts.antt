@@ -1,6 +1,6 @@
 -- What an expression comes to by its code, and what follows a code by the numbers that stand there.
 -- Rests on Skip, on reach's Encoding and Places, and on the lookups' Tables.
-use Prim.Native.Nat.{ℕ, zero, suc, _+_, _-_, _≤_, _<_}
+use Prim.Native.Nat.{ℕ, zero, suc, _-_, _≤_, _<_}
 use mathlib.Core.Path.{_≡_, refl, sym, _∙_, ap}
 use mathlib.Core.List.{List}
 use mathlib.Core.Option.{none, some}

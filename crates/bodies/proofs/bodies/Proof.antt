@@ -3,7 +3,6 @@
 use Prim.Native.Nat.{_-_}
 use mathlib.Core.Path.{_≡_, refl, _∙_}
 use lib.ListN.{length}
-use native.Mathlib.Omega.{arith}
 use borrow.Author.Needs.{needs}
 use Rattle.bodies.proofs.Functions.{bodiesFrom, body-next, body-stops, bodies-done}
 use Rattle.bodies.proofs.bodies.Statement.{statement}

@@ -1,7 +1,6 @@
 -- `lookups::fields_of` meets its contract: the fields are those of one of the type's constructors. Rests on Tables.
 use mathlib.Core.Path.{sym}
 use borrow.Author.Needs.{needs}
-use native.Mathlib.Omega.{arith}
 use Rattle.lookups.proofs.Tables.{fields-found, fields-missing}
 use Rattle.lookups.proofs.fields_of.Statement.{statement}
 use Rattle.lookups.proofs.fields_of.Tie as tie

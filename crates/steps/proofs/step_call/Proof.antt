@@ -1,7 +1,6 @@
 -- `steps::step_call` meets its contract: Unfolds says what the words stand for after the record of the operands was written.
 use Prim.Native.Nat.{ℕ}
 use mathlib.Core.Path.{_∙_, ap}
-use native.Mathlib.Omega.{arith}
 use lib.ListN.{getD}
 use borrow.Author.Needs.{needs}
 use Rattle.reach.specs.Places.{headAt}
