@@ -1,13 +1,11 @@
+use native.Mathlib.Omega.{arith}
+use borrow.Author.Needs.{needs}
 use Rattle.search.proofs.room_of.Statement.{statement}
 use Rattle.search.proofs.room_of.Tie as tie
-use Rattle.search.proofs.room_of.Reads as reads
-use Rattle.search.proofs.room_of.Lts as lts
 
--- src/lib.rt:239:1
 returns : tie.Need-returns
 returns c = ?
 
--- src/lib.rt:239:1
 returns-2 : tie.Need-returns-2
 returns-2 c = ?
 
