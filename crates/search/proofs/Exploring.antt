@@ -7,6 +7,8 @@ use mathlib.Core.Bool.{Bool, true, false}
 use mathlib.Core.List.{List, [], _∷_, _++_, append-nil, append-assoc, flatMap, map}
 use native.Mathlib.Omega.{arith}
 use lib.ListN.{length, take, drop}
+use lib.Dec.{ltb}
+use borrow.Author.Tests.{ltb-true, ltb-false}
 use Rattle.reach.specs.declared.Verdict.{Verdict}
 use Rattle.reach.specs.declared.Verdict.the-variants as Verdict
 use Rattle.reach.specs.Syntax.{Program, sourceTypes}
@@ -31,7 +33,7 @@ use Rattle.moves.specs.declared.Walk.{Walk}
 use Rattle.moves.specs.declared.Listing.{Listing}
 use Rattle.moves.specs.declared.Listing.the-variants as Listing
 use Rattle.moves.specs.declared.Moved.{Moved}
-use Rattle.moves.specs.Moving.{PositionAt, StandsAs, EntryIn, Lists, walkWeight, Makes, Active, Standing, Moves}
+use Rattle.moves.specs.Moving.{PositionAt, StandsAs, EntryIn, Lists, walkWeight, Makes, ActiveAt, Active, Standing, Moves}
 use Rattle.listing.specs.declared.Mark.{Mark}
 use Rattle.listing.specs.declared.Mark.the-variants as Mark
 use Rattle.listing.specs.declared.Written.{Written}
@@ -42,6 +44,17 @@ use Rattle.search.specs.declared.Answer.the-variants as Answer
 use Rattle.search.specs.Listing.{joined}
 use Rattle.search.specs.Exploring.{GoesOn, verdictAfter, ListableAs, WroteAs, WholeList, FirstEntries, Begins, SomeBegins, Explores}
 use Rattle.search.proofs.Cutting.{verdict-more, size-more, written-none, written-length, written-more}
+
+-- the search goes on while a path is under way, and behind the end of one while there is a choice point
+pub active-on : (x : Walk) {r : Registers} → x .position ≡ Position.On r → Active x
+active-on x is = subst (λ y. ActiveAt y (x .height)) (sym is) tt
+
+pub active-over : (x : Walk) → x .position ≡ Position.Over → GoesOn x (ltb 0 (x .height))
+active-over x is = by-height (ltb 0 (x .height)) refl
+  where
+    by-height : (b : Bool) → ltb 0 (x .height) ≡ b → GoesOn x b
+    by-height true h = subst (λ y. ActiveAt y (x .height)) (sym is) (ltb-true 0 (x .height) h)
+    by-height false h = (is, omega (arith, ltb-false 0 (x .height) h))
 
 -- at the beginning everything is still to come
 nothing-listed :
@@ -283,3 +296,20 @@ module _ (file types functions least : List ℕ) (label : ℕ) (w₀ : List ℕ)
             by-listing Listing.Nothing same (place-is, list-same) = absurd (clash (cc (is, place-is)))
             by-listing Listing.Reached same told = full-one p begins Mark.Reach (lists p begins Listing.Reached same) told is
             by-listing Listing.Unfinished same told = full-one p begins Mark.Unfinished (lists p begins Listing.Unfinished same) told is
+
+-- The same, whatever registers the search began with: the loop knows them as those of its first walk.
+
+-- the walk at the beginning
+abbrev pub firstWalk : ℕ → Registers → Walk
+firstWalk parameters from = record { position = Position.On from; cells = parameters; done = 0; height = 0 }
+
+abbrev pub CameFrom : (file types functions least : List ℕ) (label : ℕ) (w₀ : List ℕ) (limit base stack parameters : ℕ) (before : List ℕ) → Walk → List ℕ → Walk → List ℕ → ℕ → Verdict → Type 0
+CameFrom file types functions least label w₀ limit base stack parameters before x₀ w x l n v =
+    (from : Registers) → x₀ ≡ firstWalk parameters from → CameTo file types functions least label w₀ limit base stack parameters from before w x l n v
+
+pub came-begin :
+    (file types functions least : List ℕ) (label : ℕ) (w₀ : List ℕ) (limit base stack parameters : ℕ) (before : List ℕ) (from : Registers)
+    → CameFrom file types functions least label w₀ limit base stack parameters before (firstWalk parameters from) w₀ (firstWalk parameters from) before 0 Verdict.None
+came-begin file types functions least label w₀ limit base stack parameters before from r is =
+    subst (λ y. CameTo file types functions least label w₀ limit base stack parameters r before w₀ y before 0 Verdict.None) (sym is)
+    (came-first file types functions least label w₀ limit base stack parameters r before)

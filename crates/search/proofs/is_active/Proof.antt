@@ -1,3 +1,4 @@
+use Rattle.search.proofs.Exploring.{active-on, active-over}
 use native.Mathlib.Omega.{arith}
 use borrow.Author.Needs.{needs}
 use Rattle.search.proofs.is_active.Statement.{statement}
@@ -10,10 +11,10 @@ enum-told-2 : tie.Need-enum-told-2
 enum-told-2 c = search needs
 
 returns : tie.Need-returns
-returns c = ?
+returns c = active-on (c .before .before .args .walk) (c .enum-told .given .1)
 
 returns-2 : tie.Need-returns-2
-returns-2 c = ?
+returns-2 c = active-over (c .before .before .before .args .walk) (c .before .enum-told2 .given .1)
 
 pub is-active-spec : {M : Type 1} → statement M
 is-active-spec = tie.close (tie.spec enum-told enum-told-2 returns returns-2)
