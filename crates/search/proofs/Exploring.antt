@@ -193,9 +193,10 @@ module _ (file types functions least : List ℕ) (label : ℕ) (w₀ : List ℕ)
       listable-one :
           (p : Program) → Begins (at-program p) label w₀ parameters from → (kind : Kind) {new : List Entry} → EntryIn (at-program p) w′ (m .walk) kind new
           → Listable file types w′ parameters (m .walk .cells)
-      listable-one p begins kind entry =
-          ((p .types, sourceTypes p, p .depth, entry .0, input-in p begins kind entry),
-            omega (arith, entry .2 .fits, makes p begins .same-length, same-length, begins .under .path .long, limit-few (begins .given)))
+      listable-one p begins kind entry = (
+        (p .types, sourceTypes p, p .depth, entry .0, input-in p begins kind entry),
+        omega (arith, entry .2 .fits, makes p begins .same-length, same-length, begins .under .path .long, limit-few (begins .given)),
+      )
 
       pub move-listable : SomeBegins file types functions least label w₀ limit base stack parameters from → ListableAs file types w′ parameters (m .walk .cells) (m .listing)
       move-listable (p, begins) = by-listing (m .listing) refl

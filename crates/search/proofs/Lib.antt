@@ -1,5 +1,6 @@
 pub mod Cutting
 pub mod Exploring
+pub mod Beginning
 pub mod Reading
 pub mod Refusals
 pub mod Called

@@ -4,12 +4,12 @@ use Prim.Native.Nat.{ℕ, _+_, _*_, _≤_, _<_}
 use mathlib.Core.Path.{_≡_}
 use mathlib.Core.Bool.{Bool, true, false}
 use mathlib.Core.List.{List, [], _∷_, _++_}
-use lib.ListN.{length, drop}
+use lib.ListN.{length, getD, drop}
 use Rattle.reach.specs.declared.Verdict.{Verdict}
 use Rattle.reach.specs.Syntax.{Program, sourceTypes}
-use Rattle.reach.specs.Types.{sourceSlots}
+use Rattle.reach.specs.Types.{sourceSlots, leastDepths}
 use Rattle.reach.specs.Eval.{start}
-use Rattle.reach.specs.Places.{bytesAt, goalAt}
+use Rattle.reach.specs.Places.{bytesAt, headAt, goalAt}
 use Rattle.reach.specs.Search.{RE, UN, Entry, openInput, entries, verdict}
 use Rattle.reach.specs.Lists.{entryBytes, listBytes, written}
 use Rattle.reach.specs.Answers.{check, accepted}
@@ -112,9 +112,10 @@ Explores file types functions least label w w′ limit base stack parameters r b
 pub record Searchable (file types functions least : List ℕ) (goal : ℕ) (w : List ℕ) (p : Program) : Type 0 where
   pub checked : check file ≡ accepted p
   pub file-of : FileOf file types functions p
-  pub least-are : least ≡ padded (Rattle.reach.specs.Types.leastDepths (p .types))
+  pub least-are : least ≡ padded (leastDepths (p .types))
   pub goal-is : goalAt file goal ≡ record { source = p .source; label = p .label; depth = p .depth; steps = p .steps }
   pub source-there : p .source < length functions
+  pub parameters-there : sourceTypes p ≡ (headAt file (getD functions (p .source) 0)) .parameters
   pub long : length w ≡ 64 * p .steps + 1024
 
 -- the setting of its search

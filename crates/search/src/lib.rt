@@ -5,12 +5,13 @@ ghost use mathlib.Core.Path.{_≡_};
 ghost use Prim.Native.Nat.{ℕ, _+_, _*_, _≤_};
 ghost use lib.ListN.{length};
 ghost use Rattle.reach.specs.Syntax.{Program};
-ghost use Rattle.reach.specs.Lists.{roomOf, written};
+ghost use Rattle.reach.specs.Lists.{written};
 ghost use Rattle.reach.specs.Answers.{searchAnswer, listed};
 ghost use Rattle.search.specs.Answering.{answerOf};
 ghost use Rattle.search.specs.Exploring.{Opened, GoesOn, verdictAfter, ListableAs, WroteAs, SomeBegins, Explores, Searchable, settingOf, Explored, WordsAfter};
 use cells::start_cells;
 use depths::Depths;
+use entries::room;
 use listing::Mark;
 use listing::Written;
 use listing::write_entry;
@@ -30,9 +31,6 @@ use rulefile::steps;
 use steps::Control;
 use steps::Registers;
 use steps::put_record;
-
-// Of a list slice only the first 16,777,216 bytes count.
-const LIST_LIMIT: usize = 16777216;
 
 // The answer: a refusal of 1 to 9 or 11; the length of a complete list with its verdict; or, with refusal 12, the length of the list
 // that was cut short.
@@ -235,17 +233,6 @@ pub fn search_checked<'a>(
     )
 }
 
-// How many bytes of a list slice count.
-pub fn room_of(length: usize) -> usize
-    ensures { λ r. ⌜ r ≡ roomOf length ⌝ }
-{
-    if length < LIST_LIMIT {
-        length
-    } else {
-        LIST_LIMIT
-    }
-}
-
 // The search of a rule file, in the lent words, its list written to the lent list slice.
 pub fn search<'a>(file: &'a [u8], work: &mut [u32], list: &mut [u8]) -> Answer
     ensures { λ r. ⌜ r ≡ answerOf (searchAnswer (now (file .entry)) (length (now (work .entry))) (length (now (list .entry)))) ⌝ }
@@ -267,7 +254,7 @@ pub fn search<'a>(file: &'a [u8], work: &mut [u32], list: &mut [u8]) -> Answer
     if work.len() < words {
         return Answer::Refused(Refusal::WorkTooShort);
     }
-    let room = room_of(list.len());
+    let counted = room(list.len());
     search_checked(
         file,
         &type_at[..types],
@@ -275,6 +262,6 @@ pub fn search<'a>(file: &'a [u8], work: &mut [u32], list: &mut [u8]) -> Answer
         Depths { of: least },
         goal,
         &mut work[..words],
-        &mut list[..room],
+        &mut list[..counted],
     )
 }

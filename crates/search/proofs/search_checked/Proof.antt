@@ -11,59 +11,59 @@ use Rattle.rulefile.proofs.steps.Reads as steps-reads
 use Rattle.search.proofs.explore.Reads as explore-reads
 use Rattle.search.proofs.open_input.Reads as open-input-reads
 
--- src/lib.rt:210:9
+-- src/lib.rt:208:9
 steps-requires : tie.Need-steps-requires
 steps-requires c κs = search needs
 
--- src/lib.rt:211:16
+-- src/lib.rt:209:16
 mul-base : tie.Need-mul-base
 mul-base c = ?
 
--- src/lib.rt:211:16
+-- src/lib.rt:209:16
 add-base : tie.Need-add-base
 add-base c = ?
 
--- src/lib.rt:212:17
+-- src/lib.rt:210:17
 mul-stack : tie.Need-mul-stack
 mul-stack c = ?
 
--- src/lib.rt:212:17
+-- src/lib.rt:210:17
 add-stack : tie.Need-add-stack
 add-stack c = ?
 
--- src/lib.rt:213:41
+-- src/lib.rt:211:41
 source-requires : tie.Need-source-requires
 source-requires c κs = search needs
 
--- src/lib.rt:213:9
+-- src/lib.rt:211:9
 head-of-requires : tie.Need-head-of-requires
 head-of-requires c κs = search needs
 
--- src/lib.rt:216:44
+-- src/lib.rt:214:44
 depth-requires : tie.Need-depth-requires
 depth-requires c κs = search needs
 
--- src/lib.rt:216:5
+-- src/lib.rt:214:5
 open-input-requires : tie.Need-open-input-requires
 open-input-requires c κs = ?
 
--- src/lib.rt:227:9
+-- src/lib.rt:225:9
 label-requires : tie.Need-label-requires
 label-requires c κs = search needs
 
--- src/lib.rt:222:5
+-- src/lib.rt:220:5
 explore-requires : tie.Need-explore-requires
 explore-requires c κs = ?
 
--- src/lib.rt:198:1
+-- src/lib.rt:196:1
 same-length : tie.Need-same-length
 same-length c = search needs
 
--- src/lib.rt:198:1
+-- src/lib.rt:196:1
 same-length-2 : tie.Need-same-length-2
 same-length-2 c = search needs
 
--- src/lib.rt:198:1
+-- src/lib.rt:196:1
 returns : tie.Need-returns
 returns c = ?
 
