@@ -1,13 +1,12 @@
 -- The answer of the whole run, by what the check, the reading of the input and the evaluation found.
--- Rests on specs/Running, on Files, on rulefile's Tabled and inputs' Closed.
+-- Rests on specs/Running, on loaded's Files and Loaded, on rulefile's Tabled and inputs' Closed.
 use Prim.Native.Nat.{ℕ, _+_, _*_, _≤_, _<_}
-use mathlib.Core.Path.{_≡_, sym, _∙_, ap, subst}
+use mathlib.Core.Path.{_≡_, sym, _∙_, subst}
 use mathlib.Core.Bool.{Bool, true, false, not}
 use mathlib.Core.List.{List, _++_}
 use mathlib.Core.Option.{some}
 use native.Mathlib.Omega.{arith}
-use lib.ListN.{length, getD, take, drop, length-take, length-append, List·getD-append}
-use lib.Seq.{drop-at}
+use lib.ListN.{length, getD, take, length-take, length-append, List·getD-append}
 use borrow.Author.Tests.{le-leb, lt-leb, not-true, not-false}
 use Rattle.reach.specs.declared.Refusal.{Refusal}
 use Rattle.reach.specs.declared.Refusal.the-variants.{BadInput, WorkTooShort}
@@ -16,33 +15,21 @@ use Rattle.reach.specs.Syntax.{Program}
 use Rattle.reach.specs.Parts.{Parts}
 use Rattle.reach.specs.Eval as Eval
 use Rattle.reach.specs.Input.{inputOf}
-use Rattle.reach.specs.RuleFile.{Goal}
 use Rattle.reach.specs.Places.{goalAt}
-use Rattle.reach.proofs.Limits.{accepted-keeps}
 use Rattle.reach.specs.Answers.{check, accepted, turnedBack, outcomeOf, runInput, runChecked, runAnswer}
 use Rattle.inputs.specs.Values.{fitsAt}
 use Rattle.inputs.proofs.Closed.{Placed, fits-exactly, unfit-exactly}
 use Rattle.rulefile.specs.declared.Checked.{Checked}
 use Rattle.rulefile.specs.declared.Checked.the-variants as Checked
 use Rattle.rulefile.specs.declared.Loaded.{Loaded}
-use Rattle.rulefile.specs.Loading.{typePlaces, functionPlaces, Tabled, LoadsAs, Loads}
+use Rattle.rulefile.specs.Loading.{typePlaces, functionPlaces, Tabled, Loads}
 use Rattle.rulefile.proofs.Tabled.{program-types, program-source, program-label, program-depth, program-steps, program-source-there, program-source-types}
 use Rattle.machine.proofs.Cells.{kept-cells}
+use Rattle.loaded.proofs.Files.{file-of}
+use Rattle.loaded.proofs.Loaded.{goal-of, loaded-accepted, goal-small}
 use Rattle.closed.specs.Running.{Given, Runnable, LookedAt, RunsAs, Leaves, answerOf}
 use Rattle.closed.specs.declared.Answer.{Answer}
 use Rattle.closed.specs.declared.Answer.the-variants as Answer
-use Rattle.closed.proofs.Files.{file-of}
-
--- a goal is its four numbers
-goal-of : (g : Goal) {a b c d : ℕ} → g .source ≡ a → g .label ≡ b → g .depth ≡ c → g .steps ≡ d → g ≡ record { source = a; label = b; depth = c; steps = d }
-goal-of g is-a is-b is-c is-d = rw (← is-a, ← is-b, ← is-c, ← is-d)
-
--- what a loaded file says, by its answer
-pub loaded-accepted : (file : List ℕ) (r : Loaded) → Loads file r → r .answer ≡ Checked.Accepted → (p : Program) × (check file ≡ accepted p) × Tabled file r p
-loaded-accepted file r loads is = subst (LoadsAs file r) is loads
-
-pub loaded-refused : (file : List ℕ) (r : Loaded) {why : Refusal} → Loads file r → r .answer ≡ Checked.Refused why → check file ≡ turnedBack why
-loaded-refused file r loads is = subst (LoadsAs file r) is loads
 
 -- a refused file
 pub answer-refused : (file input : List ℕ) (work : ℕ) {why : Refusal} → check file ≡ turnedBack why → Answer.Refused why ≡ answerOf (runAnswer file input work)
@@ -97,32 +84,10 @@ module _ {file : List ℕ} {r : Loaded} {p : Program} (checked : check file ≡ 
         let z : 64 * p .steps + 1024 ≤ work = omega (arith, program-steps t) in
         rw (checked, read, le-leb _ _ z, is)
 
--- a part that is there is as long as it says
-pub taken-length : (n : ℕ) (l : List ℕ) → n ≤ length l → length (take n l) ≡ n
-taken-length n l fits = omega (arith, length-take n l)
-
 -- The same for a file that was loaded and accepted, by the functions that `run` calls.
 module _ (file : List ℕ) (r : Loaded) (loads : Loads file r) (is : r .answer ≡ Checked.Accepted) where
   abbrev here : (p : Program) × (check file ≡ accepted p) × Tabled file r p
   here = loaded-accepted file r loads is
-
-  pub types-taken : r .types ≡ length (typePlaces r)
-  types-taken = sym (here .2 .types-count)
-
-  pub types-held : r .types ≤ length (r .«type_at»)
-  types-held = omega (arith, here .2 .types-count, length-take (r .types) (r .«type_at»))
-
-  pub functions-taken : r .functions ≡ length (functionPlaces r)
-  functions-taken = sym (here .2 .functions-count)
-
-  pub functions-held : r .functions ≤ length (r .«function_at»)
-  functions-held = omega (arith, here .2 .functions-count, length-take (r .functions) (r .«function_at»))
-
-  pub goal-small : r .«goal_at» ≤ 16384
-  goal-small = omega (arith, here .2 .goal-inside, here .2 .size)
-
-  pub steps-small : {limit : ℕ} → limit ≡ (goalAt file (r .«goal_at»)) .steps → limit ≤ 4096
-  steps-small same = omega (arith, program-steps (here .2), accepted-keeps file (here .0) (here .1) .steps-limit)
 
   module _ (input : List ℕ) (b : Bool) (told : b ≡ fitsAt file (typePlaces r) (functionPlaces r) (r .«goal_at») input) where
     pub run-bad : (work : ℕ) → not b ≡ true → Answer.Refused BadInput ≡ answerOf (runAnswer file input work)
@@ -141,7 +106,7 @@ module _ (file : List ℕ) (r : Loaded) (loads : Loads file r) (is : r .answer �
         whole (here .1) (here .2) input fits,
         given-of (here .1) (here .2) input fits,
         omega (arith, length-take (64 * limit + 1024) w, program-steps (here .2)),
-        goal-small,
+        goal-small file r loads is,
       )
 
       module _ {v : List ℕ} {o : Outcome} (runs : RunsAs file (typePlaces r) (functionPlaces r) input (r .«goal_at») v o) where
@@ -162,12 +127,3 @@ module _ (file : List ℕ) (r : Loaded) (loads : Loads file r) (is : r .answer �
             subst (λ q. LookedAt q j (q .steps) (v ++ behind)) one
             (subst (λ k. LookedAt (here .0) k (here .0 .steps) (v ++ behind)) two
             (record { cells = looked .cells; input = looked .input; stands = longer; below = looked .below; enough = looked .enough }))
-
-  -- the words behind those that were lent on are as before
-  pub behind-kept :
-      (v w : List ℕ) {limit : ℕ} → limit ≡ (goalAt file (r .«goal_at»)) .steps → length v ≡ 64 * limit + 1024 → (p : Program) → check file ≡ accepted p
-      → drop (64 * p .steps + 1024) (v ++ drop (64 * limit + 1024) w) ≡ drop (64 * p .steps + 1024) w
-  behind-kept v w {limit} read-limit same p checked =
-      let one : here .0 ≡ p = cc (here .1) in
-      let z : 64 * p .steps + 1024 ≡ 64 * limit + 1024 = omega (arith, program-steps (here .2), ap (λ (x : Program). x .steps) one) in
-      rw z (drop-at v (drop (64 * limit + 1024) w) (64 * limit + 1024) same)

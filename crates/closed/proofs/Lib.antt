@@ -1,5 +1,4 @@
 pub mod Reached
-pub mod Files
 pub mod Advancing
 pub mod Bound
 pub mod Looping

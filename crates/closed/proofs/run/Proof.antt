@@ -1,10 +1,11 @@
--- `closed::run` meets its contract, by the answer of the check, the reading of the input and the evaluation. Rests on Answering.
+-- `closed::run` meets its contract, by the answer of the check, the reading of the input and the evaluation. Rests on Answering and on loaded's Loaded.
 use Prim.Native.Nat.{_+_, _*_}
 use mathlib.Core.Path.{refl, _∙_}
 use native.Mathlib.Omega.{arith}
 use lib.ListN.{length-take}
 use borrow.Author.Needs.{needs}
-use Rattle.closed.proofs.Answering.{answer-refused, loaded-refused, types-taken, types-held, functions-taken, functions-held, goal-small, steps-small, run-bad, run-short, run-able, run-ran, run-leaves, taken-length, behind-kept}
+use Rattle.loaded.proofs.Loaded.{loaded-refused, types-taken, types-held, functions-taken, functions-held, goal-small, steps-small, taken-length, behind-kept}
+use Rattle.closed.proofs.Answering.{answer-refused, run-bad, run-short, run-able, run-ran, run-leaves}
 use Rattle.closed.proofs.run.Statement.{statement}
 use Rattle.closed.proofs.run.Tie as tie
 

@@ -1,0 +1,65 @@
+-- What a file that was loaded says of its tables, its goal and the words that a run asks for, by the answer of the check.
+-- Rests on reach's Limits and on rulefile's Tabled.
+use Prim.Native.Nat.{ℕ, _+_, _*_, _≤_}
+use mathlib.Core.Path.{_≡_, sym, ap, subst}
+use mathlib.Core.List.{List, _++_}
+use native.Mathlib.Omega.{arith}
+use lib.ListN.{length, take, drop, length-take}
+use lib.Seq.{drop-at}
+use Rattle.reach.specs.declared.Refusal.{Refusal}
+use Rattle.reach.specs.Syntax.{Program}
+use Rattle.reach.specs.RuleFile.{Goal}
+use Rattle.reach.specs.Places.{goalAt}
+use Rattle.reach.specs.Answers.{check, accepted, turnedBack}
+use Rattle.reach.proofs.Limits.{accepted-keeps}
+use Rattle.rulefile.specs.declared.Checked.the-variants as Checked
+use Rattle.rulefile.specs.declared.Loaded.{Loaded}
+use Rattle.rulefile.specs.Loading.{typePlaces, functionPlaces, Tabled, LoadsAs, Loads}
+use Rattle.rulefile.proofs.Tabled.{program-steps}
+
+-- a goal is its four numbers
+pub goal-of : (g : Goal) {a b c d : ℕ} → g .source ≡ a → g .label ≡ b → g .depth ≡ c → g .steps ≡ d → g ≡ record { source = a; label = b; depth = c; steps = d }
+goal-of g is-a is-b is-c is-d = rw (← is-a, ← is-b, ← is-c, ← is-d)
+
+-- what a loaded file says, by its answer
+pub loaded-accepted : (file : List ℕ) (r : Loaded) → Loads file r → r .answer ≡ Checked.Accepted → (p : Program) × (check file ≡ accepted p) × Tabled file r p
+loaded-accepted file r loads is = subst (LoadsAs file r) is loads
+
+pub loaded-refused : (file : List ℕ) (r : Loaded) {why : Refusal} → Loads file r → r .answer ≡ Checked.Refused why → check file ≡ turnedBack why
+loaded-refused file r loads is = subst (LoadsAs file r) is loads
+
+-- a part that is there is as long as it says
+pub taken-length : (n : ℕ) (l : List ℕ) → n ≤ length l → length (take n l) ≡ n
+taken-length n l fits = omega (arith, length-take n l)
+
+-- The tables and the goal of a file that was loaded and accepted.
+module _ (file : List ℕ) (r : Loaded) (loads : Loads file r) (is : r .answer ≡ Checked.Accepted) where
+  abbrev here : (p : Program) × (check file ≡ accepted p) × Tabled file r p
+  here = loaded-accepted file r loads is
+
+  pub types-taken : r .types ≡ length (typePlaces r)
+  types-taken = sym (here .2 .types-count)
+
+  pub types-held : r .types ≤ length (r .«type_at»)
+  types-held = omega (arith, here .2 .types-count, length-take (r .types) (r .«type_at»))
+
+  pub functions-taken : r .functions ≡ length (functionPlaces r)
+  functions-taken = sym (here .2 .functions-count)
+
+  pub functions-held : r .functions ≤ length (r .«function_at»)
+  functions-held = omega (arith, here .2 .functions-count, length-take (r .functions) (r .«function_at»))
+
+  pub goal-small : r .«goal_at» ≤ 16384
+  goal-small = omega (arith, here .2 .goal-inside, here .2 .size)
+
+  pub steps-small : {limit : ℕ} → limit ≡ (goalAt file (r .«goal_at»)) .steps → limit ≤ 4096
+  steps-small same = omega (arith, program-steps (here .2), accepted-keeps file (here .0) (here .1) .steps-limit)
+
+  -- the words behind those that were lent on are as before
+  pub behind-kept :
+      (v w : List ℕ) {limit : ℕ} → limit ≡ (goalAt file (r .«goal_at»)) .steps → length v ≡ 64 * limit + 1024 → (p : Program) → check file ≡ accepted p
+      → drop (64 * p .steps + 1024) (v ++ drop (64 * limit + 1024) w) ≡ drop (64 * p .steps + 1024) w
+  behind-kept v w {limit} read-limit same p checked =
+      let one : here .0 ≡ p = cc (here .1) in
+      let z : 64 * p .steps + 1024 ≡ 64 * limit + 1024 = omega (arith, program-steps (here .2), ap (λ (x : Program). x .steps) one) in
+      rw z (drop-at v (drop (64 * limit + 1024) w) (64 * limit + 1024) same)
