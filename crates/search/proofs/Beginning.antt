@@ -114,7 +114,7 @@ module _ {file types functions least : List ℕ} {goal : ℕ} {w : List ℕ} {p 
                 path = record { stands = stands; typed = typed; steps = no-step; few-cells = omega arith; few-records = omega arith; long = omega (arith, limit-is) };
                 in-time = omega arith;
                 no-higher = omega arith;
-                choices = no-choice (omega (arith, many), rw (open-is, ← many) (stands .input));
+                choices = no-choice {w = w′} {cells = head .count} {records = 2} (omega (arith, many), rw (open-is, ← many) (stands .input));
               });
             }
 

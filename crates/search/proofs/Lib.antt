@@ -1,6 +1,7 @@
 pub mod Cutting
 pub mod Exploring
 pub mod Beginning
+pub mod Answering
 pub mod Reading
 pub mod Refusals
 pub mod Called

@@ -1,95 +1,75 @@
+use Prim.Native.Nat.{_+_, _*_, _≤_}
+use mathlib.Core.Path.{_∙_, sym}
+use lib.ListN.{length-take}
+use Rattle.loaded.proofs.Loaded.{taken-length, types-taken, types-held, functions-taken, functions-held, steps-small}
+use Rattle.search.proofs.Answering.{room-taken, room-inside, search-refused, search-short, search-able, search-done}
+use native.Mathlib.Omega.{arith}
 use borrow.Author.Needs.{needs}
 use Rattle.search.proofs.search.Statement.{statement}
 use Rattle.search.proofs.search.Tie as tie
-use Rattle.search.proofs.search.Reads as reads
-use Rattle.search.proofs.search.Lts as lts
-use Rattle.entries.proofs.room.Reads as room-reads
-use Rattle.rulefile.proofs.load.Reads as load-reads
-use Rattle.rulefile.proofs.steps.Reads as steps-reads
-use Rattle.search.proofs.search_checked.Reads as search-checked-reads
 
--- src/lib.rt:242:9
 load-requires : tie.Need-load-requires
 load-requires c κs = search needs
 
--- src/lib.rt:244:29
 enum-known-answer : tie.Need-enum-known-answer
 enum-known-answer c = search needs
 
--- src/lib.rt:245:9
 returns : tie.Need-returns
-returns c = ?
+returns c = search-refused (c .before .before .before .before .before .before .before .args .file .now) (c .before .before .before .load .result) (c .before .before .before .load .ensures) (c .before .before .before .before .before .before .before .args .work .now) (c .before .before .before .before .before .before .before .args .list .now) (c .before .answer .given .1)
 
 enum-told : tie.Need-enum-told
 enum-told c = search needs
 
--- src/lib.rt:253:22
 steps-requires : tie.Need-steps-requires
 steps-requires c κs = search needs
 
--- src/lib.rt:253:17
 mul-words : tie.Need-mul-words
-mul-words c = ?
+mul-words c = omega (arith, steps-small (c .before .before .before .before .before .before .before .before .before .before .args .file .now) (c .before .before .before .before .before .before .load .result) (c .before .before .before .before .before .before .load .ensures) (c .before .before .before .before .enum-told .given .1) (c .steps .ensures))
 
--- src/lib.rt:253:17
 add-words : tie.Need-add-words
-add-words c = ?
+add-words c = omega (arith, steps-small (c .before .before .before .before .before .before .before .before .before .before .args .file .now) (c .before .before .before .before .before .before .load .result) (c .before .before .before .before .before .before .load .ensures) (c .before .before .before .before .enum-told .given .1) (c .steps .ensures))
 
--- src/lib.rt:255:9
 returns-2 : tie.Need-returns-2
-returns-2 c = ?
+returns-2 c = search-short (c .before .before .before .before .before .before .before .before .before .before .before .args .file .now) (c .before .before .before .before .before .before .before .load .result) (c .before .before .before .before .before .before .before .load .ensures) (c .before .before .before .before .before .enum-told .given .1) (c .before .steps .ensures) (c .before .before .before .before .before .before .before .before .before .before .before .args .work .now) (c .before .before .before .before .before .before .before .before .before .before .before .args .list .now) (c .if1 .taken)
 
--- src/lib.rt:257:9
 room-requires : tie.Need-room-requires
 room-requires c κs = search needs
 
--- src/lib.rt:260:9
 array-share-prefix-type-at : tie.Need-array-share-prefix-type-at
-array-share-prefix-type-at c = ?
+array-share-prefix-type-at c = types-held (c .before .before .before .before .before .before .before .before .before .before .before .before .args .file .now) (c .before .before .before .before .before .before .before .before .load .result) (c .before .before .before .before .before .before .before .before .load .ensures) (c .before .before .before .before .before .before .enum-told .given .1)
 
--- src/lib.rt:260:9
 slice-aggregate-search-checked : tie.Need-slice-aggregate-search-checked
-slice-aggregate-search-checked c = ?
+slice-aggregate-search-checked c = types-taken (c .before .before .before .before .before .before .before .before .before .before .before .before .before .args .file .now) (c .before .before .before .before .before .before .before .before .before .load .result) (c .before .before .before .before .before .before .before .before .before .load .ensures) (c .before .before .before .before .before .before .before .enum-told .given .1)
 
--- src/lib.rt:261:9
 array-share-prefix-function-at : tie.Need-array-share-prefix-function-at
-array-share-prefix-function-at c = ?
+array-share-prefix-function-at c = functions-held (c .before .before .before .before .before .before .before .before .before .before .before .before .before .args .file .now) (c .before .before .before .before .before .before .before .before .before .load .result) (c .before .before .before .before .before .before .before .before .before .load .ensures) (c .before .before .before .before .before .before .before .enum-told .given .1)
 
--- src/lib.rt:261:9
 slice-aggregate-search-checked-2 : tie.Need-slice-aggregate-search-checked-2
-slice-aggregate-search-checked-2 c = ?
+slice-aggregate-search-checked-2 c = functions-taken (c .before .before .before .before .before .before .before .before .before .before .before .before .before .before .args .file .now) (c .before .before .before .before .before .before .before .before .before .before .load .result) (c .before .before .before .before .before .before .before .before .before .before .load .ensures) (c .before .before .before .before .before .before .before .before .enum-told .given .1)
 
--- src/lib.rt:264:9
 slice-relend-prefix-search-checked : tie.Need-slice-relend-prefix-search-checked
 slice-relend-prefix-search-checked c = search needs
 
--- src/lib.rt:264:9
 slice-aggregate-search-checked-3 : tie.Need-slice-aggregate-search-checked-3
-slice-aggregate-search-checked-3 c = ?
+slice-aggregate-search-checked-3 c = omega (arith, length-take (64 * c .before .before .before .before .before .steps .result + 1024) (c .before .before .before .before .before .before .before .before .before .before .before .before .before .before .before .args .work .now))
 
--- src/lib.rt:265:9
 slice-relend-prefix-search-checked-2 : tie.Need-slice-relend-prefix-search-checked-2
-slice-relend-prefix-search-checked-2 c = ?
+slice-relend-prefix-search-checked-2 c = room-inside (c .before .before .before .before .before .before .before .before .before .before .before .before .before .before .before .args .list .now) (c .before .before .before .room .ensures)
 
--- src/lib.rt:265:9
 slice-aggregate-search-checked-4 : tie.Need-slice-aggregate-search-checked-4
-slice-aggregate-search-checked-4 c = ?
+slice-aggregate-search-checked-4 c = sym (room-taken (c .before .before .before .before .before .before .before .before .before .before .before .before .before .before .before .before .args .list .now) (c .before .before .before .before .room .ensures))
 
--- src/lib.rt:258:5
 search-checked-requires : tie.Need-search-checked-requires
-search-checked-requires c κs = ?
+search-checked-requires c κs = search-able (c .before .before .before .before .before .before .before .before .before .before .before .before .before .before .before .before .args .file .now) (c .before .before .before .before .before .before .before .before .before .before .before .before .load .result) (c .before .before .before .before .before .before .before .before .before .before .before .before .load .ensures) (c .before .before .before .before .before .before .before .before .before .before .enum-told .given .1) (c .before .before .before .before .before .before .steps .ensures) (c .before .before .before .before .before .before .before .before .before .before .before .before .before .before .before .before .args .work .now) (omega arith)
 
--- src/lib.rt:237:1
 same-length : tie.Need-same-length
 same-length c = search needs
 
--- src/lib.rt:237:1
 same-length-2 : tie.Need-same-length-2
 same-length-2 c = search needs
 
--- src/lib.rt:237:1
 returns-3 : tie.Need-returns-3
-returns-3 c = ?
+returns-3 c = search-done (c .before .before .before .before .before .before .before .before .before .before .before .before .before .before .before .before .before .before .before .before .before .args .file .now) (c .before .before .before .before .before .before .before .before .before .before .before .before .before .before .before .before .before .load .result) (c .before .before .before .before .before .before .before .before .before .before .before .before .before .before .before .before .before .load .ensures) (c .before .before .before .before .before .before .before .before .before .before .before .before .before .before .before .enum-told .given .1) (c .before .before .before .before .before .before .before .before .before .before .before .steps .ensures) (c .before .before .before .before .before .before .before .before .before .before .before .before .before .before .before .before .before .before .before .before .before .args .work .now) (c .before .before .before .before .before .before .before .before .before .before .before .before .before .before .before .before .before .before .before .before .before .args .list .now) (c .before .before .before .before .search-checked .last .1 .1 .1 .1 .1 .0) (c .before .before .before .before .search-checked .last .1 .1 .1 .1 .1 .1 .0) (omega arith) (c .before .before .before .before .before .before .before .before .before .room .ensures) (c .before .before .before .before .search-checked .kept .1 .1 .1 .1 .1 .0 ∙ taken-length (64 * c .before .before .before .before .before .before .before .before .before .before .before .steps .result + 1024) (c .before .before .before .before .before .before .before .before .before .before .before .before .before .before .before .before .before .before .before .before .before .args .work .now) (omega arith)) (c .before .before .before .before .search-checked .result) (c .before .before .before .before .search-checked .ensures)
 
 pub search-spec : {M : Type 1} → statement M
 search-spec =

@@ -1,71 +1,51 @@
+use Prim.Native.Nat.{_≤_, _+_, _*_}
+use Rattle.search.proofs.Beginning.{steps-is, limit-few, parameters-few, deep-small, begins, explored}
+use native.Mathlib.Omega.{arith}
 use borrow.Author.Needs.{needs}
 use Rattle.search.proofs.search_checked.Statement.{statement}
 use Rattle.search.proofs.search_checked.Tie as tie
-use Rattle.search.proofs.search_checked.Reads as reads
-use Rattle.search.proofs.search_checked.Lts as lts
-use Rattle.lookups.proofs.head_of.Reads as head-of-reads
-use Rattle.rulefile.proofs.depth.Reads as depth-reads
-use Rattle.rulefile.proofs.label.Reads as label-reads
-use Rattle.rulefile.proofs.source.Reads as source-reads
-use Rattle.rulefile.proofs.steps.Reads as steps-reads
-use Rattle.search.proofs.explore.Reads as explore-reads
-use Rattle.search.proofs.open_input.Reads as open-input-reads
 
--- src/lib.rt:208:9
 steps-requires : tie.Need-steps-requires
 steps-requires c κs = search needs
 
--- src/lib.rt:209:16
 mul-base : tie.Need-mul-base
-mul-base c = ?
+mul-base c = omega (arith, limit-few (c .before .before .before .before .before .before .pre .1) (c .steps .ensures))
 
--- src/lib.rt:209:16
 add-base : tie.Need-add-base
-add-base c = ?
+add-base c = omega (arith, limit-few (c .before .before .before .before .before .before .pre .1) (c .steps .ensures))
 
--- src/lib.rt:210:17
 mul-stack : tie.Need-mul-stack
-mul-stack c = ?
+mul-stack c = omega (arith, limit-few (c .before .before .before .before .before .before .pre .1) (c .steps .ensures))
 
--- src/lib.rt:210:17
 add-stack : tie.Need-add-stack
-add-stack c = ?
+add-stack c = omega (arith, limit-few (c .before .before .before .before .before .before .pre .1) (c .steps .ensures))
 
--- src/lib.rt:211:41
 source-requires : tie.Need-source-requires
 source-requires c κs = search needs
 
--- src/lib.rt:211:9
 head-of-requires : tie.Need-head-of-requires
 head-of-requires c κs = search needs
 
--- src/lib.rt:214:44
 depth-requires : tie.Need-depth-requires
 depth-requires c κs = search needs
 
--- src/lib.rt:214:5
 open-input-requires : tie.Need-open-input-requires
-open-input-requires c κs = ?
+open-input-requires c κs = let few = parameters-few (c .before .before .before .before .before .before .before .before .before .before .pre .1) (c .before .before .before .before .steps .ensures) (c .before .before .before .source .ensures) (c .before .before .head-of .result) (c .before .before .head-of .ensures .0) (c .depth .ensures) in let near = c .before .before .head-of .ensures .1 in (omega arith, omega (arith, c .before .before .before .before .before .before .before .before .before .before .pre .1 .long, c .before .before .before .before .steps .ensures, steps-is (c .before .before .before .before .before .before .before .before .before .before .pre .1)), omega arith, omega arith, deep-small (c .before .before .before .before .before .before .before .before .before .before .pre .1) (c .before .before .before .before .steps .ensures) (c .before .before .before .source .ensures) (c .before .before .head-of .result) (c .before .before .head-of .ensures .0) (c .depth .ensures))
 
--- src/lib.rt:225:9
 label-requires : tie.Need-label-requires
 label-requires c κs = search needs
 
--- src/lib.rt:220:5
 explore-requires : tie.Need-explore-requires
-explore-requires c κs = ?
+explore-requires c κs = (c .before .before .before .before .before .before .before .before .before .before .before .before .before .before .before .before .pre .0, begins (c .before .before .before .before .before .before .before .before .before .before .before .before .before .before .before .before .pre .1) (c .before .before .before .before .before .before .before .before .before .before .steps .ensures) (c .before .before .before .before .before .before .before .before .before .source .ensures) (c .before .before .before .before .before .before .before .before .head-of .result) (c .before .before .before .before .before .before .before .before .head-of .ensures .0) (c .before .before .before .before .before .before .depth .ensures) (c .before .before .label .ensures) (c .before .before .before .before .before .open-input .ensures))
 
--- src/lib.rt:196:1
 same-length : tie.Need-same-length
 same-length c = search needs
 
--- src/lib.rt:196:1
 same-length-2 : tie.Need-same-length-2
 same-length-2 c = search needs
 
--- src/lib.rt:196:1
 returns : tie.Need-returns
-returns c = ?
+returns c = λ p given. explored given (c .before .before .before .before .before .before .before .before .before .before .before .before .before .before .before .steps .ensures) (c .before .before .before .before .before .before .before .before .before .before .before .before .before .before .source .ensures) (c .before .before .before .before .before .before .before .before .before .before .before .before .before .head-of .result) (c .before .before .before .before .before .before .before .before .before .before .before .before .before .head-of .ensures .0) (c .before .before .before .before .before .before .before .before .before .before .before .depth .ensures) (c .before .before .before .before .explore .last .1 .1 .1 .1 .1 .0) (c .before .before .before .before .before .before .before .before .before .before .before .before .before .before .before .before .before .before .before .before .before .args .list .now) (c .before .before .before .before .explore .last .1 .1 .1 .1 .1 .1 .1 .1 .1 .1 .1 .0) (c .before .before .before .before .explore .result) (c .before .before .before .before .before .before .before .label .ensures) (c .before .before .before .before .before .before .before .before .before .before .open-input .ensures) (c .before .before .before .before .explore .ensures)
 
 pub search-checked-spec : {M : Type 1} → statement M
 search-checked-spec =
