@@ -21,14 +21,13 @@ from functools import lru_cache
 import rules
 from blind.build import call, con, go, random_rule, target, two, ty
 from blind.enumerate import OPEN, Listing, all_entries, count_inputs, fill, inputs
-from blind.evaluate import REACHED, UNFINISHED, evaluate
+from blind.evaluate import REACHED, UNFINISHED, bench, evaluate
 from blind.narrow import ERRORS, differs
-from blind.rulefile import BENCH, FULL, Program, check
+from blind.rulefile import BENCH, FULL, Program, Refused, check
 from make_boundary import file_of_size, random_damaged
+from rules import HOLLOW, P, changed
 from vectors import store
 
-P = bytes.fromhex("545902000100464E01000017000300000001020000010300000101020000010507020000474F0007041400")
-NO_VALUE = bytes.fromhex("5459010100464E0100000200000047" "4F0007041400")
 MOST_WORDS, MOST_BYTES = 300000, 100000  # the program's longest slices
 
 CASES = []  # group, rule file, words, bytes
@@ -51,7 +50,11 @@ def answer(rule_file, words, room):
     program = checked(rule_file)
     if not isinstance(program, Program):
         return program
-    return BENCH if words < needed(program) else fill(entries(rule_file), room)
+    try:
+        bench(program, words)
+    except Refused as refused:
+        return refused.number
+    return fill(entries(rule_file), room)
 
 
 def lines(given):
@@ -84,14 +87,11 @@ def add(group, rule_file, words=None, room=None):
 
 def examples():
     """The examples of the specification, and the edges of their slices."""
-    def changed(label=7, depth=4, steps=20):
-        return P[:-7] + go(0, label, depth, steps)
-
     for rule_file in (P, changed(depth=3), changed(steps=6), changed(depth=2), changed(depth=1), changed(steps=5),
                       changed(steps=2), changed(steps=0), changed(label=8, steps=6), changed(label=8, steps=7)):
         add("example", rule_file)
         add("example", rule_file, MOST_WORDS, 16384)
-    for rule_file in (b"", P[6:], NO_VALUE, P[:6] + ty((1,)) + P[6:], P[:6] + ty((2,)) + ty((0, 1), (1, 1)) + P[6:],
+    for rule_file in (b"", P[6:], HOLLOW, P[:6] + ty((1,)) + P[6:], P[:6] + ty((2,)) + ty((0, 1), (1, 1)) + P[6:],
                       changed(depth=65), changed(steps=4097), P + b"\0", file_of_size(16385)):
         add("example", rule_file)
         add("example", rule_file, MOST_WORDS, 100)
@@ -153,8 +153,7 @@ def sweeps():
 
 
 def wide_lists():
-    """4,096 entries, of which the list slice holds all, and all but the last; and 640 long ones in the room that
-    reachlist has."""
+    """4,096 entries, of which the list slice holds all, and all but the last; 640 long ones, cut short."""
     for room in (36864, 36863):
         add("room", rules.sixteens() + go(), None, room)
     add("room", rules.chains() + go(0, 7, 40, 240), None, 32768)
@@ -184,7 +183,9 @@ def kind(rule_file):
     if not listed:
         return "none, forks" if forks else "none, no fork"
     if ends == {UNFINISHED}:
-        return "unfinished more than once" if len(listed) > 1 else "unfinished once, forks" if forks else "unfinished once, no fork"
+        if len(listed) > 1:
+            return "unfinished more than once"
+        return "unfinished once, forks" if forks else "unfinished once, no fork"
     if ends == {REACHED}:
         return "reached more than once" if len(listed) > 1 else "reached once"
     return "reached and unfinished"
@@ -231,12 +232,14 @@ def other_limits(rng, files):
 
 
 def damaged(rng, files):
-    """Rule files with changes at random, some of which are still accepted; work slices that may be too short."""
+    """Rule files with changes at random, some of which are still accepted; work slices that may be too short. Where an
+    enumeration would take long, the case is left out."""
     for rule_file in random_damaged(rng, [rule_file for rule_file in files if len(rule_file) < 400], 240):
         program = checked(rule_file)
-        if isinstance(program, Program) and count_inputs(program) * program.steps > 40000:
+        if isinstance(program, Program) and count_inputs(program) * max(program.steps, 2) > 40000:
             continue
-        words = needed(program) if isinstance(program, Program) and rng.random() < 0.8 else rng.choice((0, 1023, MOST_WORDS))
+        enough = isinstance(program, Program) and rng.random() < 0.8
+        words = needed(program) if enough else rng.choice((0, 1023, MOST_WORDS))
         add("damaged", rule_file, words, rng.choice((0, 8, 400)))
 
 

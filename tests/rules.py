@@ -3,9 +3,18 @@
 The source is function 0 and the label sought is 7 unless the rule says otherwise.
 """
 
-from blind.build import call, case, con, fn, let, target, ty, var
+from blind.build import call, case, con, fn, go, let, target, ty, var
+
+# The examples of the specification: P, and the rule file with a type that has no closed value.
+P = bytes.fromhex("545902000100464E01000017000300000001020000010300000101020000010507020000474F0007041400")
+HOLLOW = bytes.fromhex("5459010100464E01000002000000474F0007041400")
 
 NAT, BOOL, UNIT = ty((), (0,)), ty((), ()), ty(())
+
+
+def changed(label=7, depth=4, steps=20):
+    """P with another label, D or S: a whole rule file."""
+    return P[:-7] + go(0, label, depth, steps)
 
 
 def equal_numbers():
@@ -64,6 +73,20 @@ def sixteens():
     return (ty(*[()] * 16) + fn((0, 0, 0), 0, case(0, var(0), *[call(1, var(1), var(2))] * 16))
             + fn((0, 0), 0, case(0, var(0), *[call(2, var(1))] * 16))
             + fn((0,), 0, case(0, var(0), *[target(7, var(0))] * 16)))
+
+
+def exact_list(last, one_more=False):
+    """16 * 16 * `last` entries of 16 bytes, through five parameters of which the first has six bytes; where wanted, the
+    last entry has a byte more."""
+    plain, third, deeper = target(7, con(4, 0)), call(4, var(1), var(2)), call(5, var(1), var(2))
+    final = case(4, var(1), con(4, 0), plain) if one_more else plain
+    return (ty(*[()] * 16) + ty(*[()] * last) + UNIT + ty((2,) * 5) + ty((), (4,))
+            + fn((3, 0, 0, 1, 4), 4, case(3, var(0), call(1, var(1), var(2), var(3), var(4))))
+            + fn((0, 0, 1, 4), 4, case(0, var(0), *[call(2, var(1), var(2), var(3))] * 15, call(3, var(1), var(2), var(3))))
+            + fn((0, 1, 4), 4, case(0, var(0), *[third] * 16))
+            + fn((0, 1, 4), 4, case(0, var(0), *[third] * 15, deeper))
+            + fn((1, 4), 4, case(1, var(0), *[plain] * last))
+            + fn((1, 4), 4, case(1, var(0), *[plain] * (last - 1), final)))
 
 
 def eight_parameters():

@@ -179,7 +179,8 @@ class BranchingBody(RandomBody):
         if form == "sought":
             return target(self.label, self.leaf(wanted, view))
         if form == "other":
-            return target((self.label + 1) % 256, self.ending(wanted, view) if self.rng.random() < 0.5 else self.leaf(wanted, view))
+            below = self.ending if self.rng.random() < 0.5 else self.leaf
+            return target((self.label + 1) % 256, below(wanted, view))
         return self.call(self.rng.choice(callable_), view) if form == "call" else self.leaf(wanted, view)
 
     def branch(self, wanted, view, type_, scrutinee, levels, nesting):
