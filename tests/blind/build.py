@@ -155,3 +155,76 @@ def random_program(rng, most_types=4, most_constructors=3, most_fields=3, most_f
     depth = max([rng.randint(1, most_depth)] + [depths[parameter] for parameter in heads[source][0]])
     return (b"".join(ty(*type_.constructors) for type_ in types) + b"".join(functions)
             + go(source, label, depth, rng.randint(0, most_steps)))
+
+
+class BranchingBody(RandomBody):
+    """Writes bodies that look deep into the variables in view, and calls on what they find there; `levels` bounds how
+    many expressions that are no ends lie below each other."""
+
+    def argument(self, wanted, view):
+        """A variable, the newest first, or a construction."""
+        numbers = [number for number, type_ in enumerate(view) if type_ == wanted]
+        if numbers and self.rng.random() < 0.8:
+            return var(numbers[-1] if self.rng.random() < 0.6 else self.rng.choice(numbers))
+        constructor = self.rng.randrange(len(self.types[wanted].constructors))
+        return con(wanted, constructor, *(self.leaf(field, view) for field in self.types[wanted].constructors[constructor]))
+
+    def call(self, function, view):
+        return call(function, *(self.argument(parameter, view) for parameter in self.heads[function][0]))
+
+    def ending(self, wanted, view):
+        """A target, a call, or a variable or construction."""
+        callable_ = [number for number, (_, result) in enumerate(self.heads) if result == wanted]
+        form = self.rng.choices(["sought", "other", "call", "leaf"], [4, 1, 3 if callable_ else 0, 4])[0]
+        if form == "sought":
+            return target(self.label, self.leaf(wanted, view))
+        if form == "other":
+            below = self.ending if self.rng.random() < 0.5 else self.leaf
+            return target((self.label + 1) % 256, below(wanted, view))
+        return self.call(self.rng.choice(callable_), view) if form == "call" else self.leaf(wanted, view)
+
+    def branch(self, wanted, view, type_, scrutinee, levels, nesting):
+        """A case with most of its alternatives."""
+        kept = [self.rng.random() < 0.85 and len(view + fields) <= 32 for fields in self.types[type_].constructors]
+        return case(type_, scrutinee, *(self.expression(wanted, view + fields, levels - 1, nesting + 1) if keep else None
+                                        for fields, keep in zip(self.types[type_].constructors, kept)))
+
+    def expression(self, wanted, view, levels, nesting=1):
+        rng = self.rng
+        if levels <= 0 or nesting > 12:
+            return self.ending(wanted, view)
+        form = rng.choices(["variable", "scrutinee", "let", "target", "end"], [12, 2, 2, 1, 1])[0]
+        if form == "variable" and view:
+            number = len(view) - 1 - min(int(rng.expovariate(0.4)), len(view) - 1)
+            return self.branch(wanted, view, view[number], var(number), levels, nesting)
+        if form == "scrutinee":
+            function = rng.randrange(len(self.heads))
+            if rng.random() < 0.6:
+                return self.branch(wanted, view, self.heads[function][1], self.call(function, view), levels, nesting)
+            type_ = rng.randrange(len(self.types))
+            return self.branch(wanted, view, type_, self.expression(type_, view, levels - 1, nesting + 1), levels, nesting)
+        if form == "let" and len(view) < 32:
+            type_ = rng.randrange(len(self.types))
+            return let(type_, self.expression(type_, view, levels - 2, nesting + 1),
+                       self.expression(wanted, view + (type_,), levels, nesting + 1))
+        if form == "target":
+            return target((self.label + 1) % 256, self.expression(wanted, view, levels - 1, nesting + 1))
+        return self.ending(wanted, view)
+
+
+def random_rule(rng, most_types=3, most_constructors=3, most_fields=2, most_functions=3, most_parameters=3, most_levels=4):
+    """A random rule file without its GO, whose bodies branch; with it the label that it marks most often, and the
+    number of its functions."""
+    types = random_types(rng, most_types, most_constructors, most_fields)
+    count = len(types)
+    heads = [(tuple(rng.randrange(count) for _ in range(rng.randint(0, most_parameters))), rng.randrange(count))
+             for _ in range(rng.randint(1, most_functions))]
+    label = rng.randrange(256)
+    writer = BranchingBody(rng, types, heads, label)
+    functions = []
+    for parameters, result in heads:
+        body = writer.expression(result, parameters, rng.randint(1, most_levels))
+        while len(body) > 1024:
+            body = writer.expression(result, parameters, 1)
+        functions.append(fn(parameters, result, body))
+    return b"".join(ty(*type_.constructors) for type_ in types) + b"".join(functions), label, len(heads)

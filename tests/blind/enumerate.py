@@ -135,7 +135,11 @@ def search(rule_file, work_words, list_length, most_inputs=MOST_INPUTS):
         bench(program, work_words)
     except Refused as refused:
         return refused.number
-    entries = all_entries(program, most_inputs)
+    return fill(all_entries(program, most_inputs), list_length)
+
+
+def fill(entries, list_length):
+    """The `Listing` of these entries in a list slice of this length."""
     room = min(list_length, ROOM)
     used = 0
     for number, entry in enumerate(entries):

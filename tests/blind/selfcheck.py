@@ -131,8 +131,84 @@ def further_examples():
     assert False
 
 
+def lists(rule_file, verdict, *entries, room=1000):
+    """The search lists exactly these bytes; the verdict is None where the next entry does not fit the room."""
+    listing = search(rule_file, WORK, room)
+    assert (listing.record(), listing.verdict) == (b"".join(entries), verdict), listing
+    assert listing.refusal == (12 if verdict is None else None)
+
+
+def re(steps, *parameters):
+    """The bytes of an entry of fewer than 256 steps; the same for `un`."""
+    return b"RE" + bytes([steps, 0, len(parameters), 0, *parameters])
+
+
+def un(steps, *parameters):
+    return b"UN" + bytes([steps, 0, len(parameters), 0, *parameters])
+
+
+def worked_lists():
+    """Lists in bytes, worked by hand; the number behind each step counts the steps done with it."""
+    zero, open_ = con(0, 0), 255
+
+    # f x y = case x of zero -> target; suc u -> case y of zero -> f u y; suc v -> zero.
+    # case 1, x 2; here the path forks over the first parameter. Zero: choose 3, target.
+    # Suc: choose 3, case 4, y 5; it forks over the second. Suc: choose 6, and zero with no case waiting ends.
+    # Zero: choose 6, call 7, case 8, x 9 stands for u, u 10; it forks over u. Zero: choose 11, target.
+    # Suc: choose 11, case 12, y 13 stands for the outer y, y 14, known to be zero: choose 15, call 16, case 17, x 18 stands for
+    # the inner u, u 19; it forks. Zero: choose 20, target.
+    pair = NAT + fn((0, 0), 0, case(0, var(0), target(7, zero), case(0, var(1), call(0, var(2), var(1)), zero)))
+    one, two_, three = re(3, 0, open_), re(11, 1, 0, 0), re(20, 1, 1, 0, 0)
+    # With D 1 only zero fits, with D 2 suc zero too, with D 3 suc suc zero.
+    lists(pair + go(depth=1), "found", one)
+    lists(pair + go(depth=2), "found", one, two_)
+    lists(pair + go(depth=3), "found", one, two_, three)
+    # S 2: x is waited on when 2 steps are done, so there is no fork. S 3: both branches are there.
+    lists(pair + go(depth=3, steps=2), "undecided", un(2, open_, open_))
+    lists(pair + go(depth=3, steps=3), "found", one, un(3, 1, open_, open_))
+    # S 5: y is waited on when 5 are done. S 6: it is bound; its suc ends at 6, also as S is used up, its zero does not.
+    lists(pair + go(depth=3, steps=5), "found", one, un(5, 1, open_, open_))
+    lists(pair + go(depth=3, steps=6), "found", one, un(6, 1, open_, 0))
+    # S 10 and 11: the same for u. S 19 and 20: the same for the inner u, whose suc does not fit D 3.
+    lists(pair + go(depth=3, steps=10), "found", one, un(10, 1, open_, 0))
+    lists(pair + go(depth=3, steps=11), "found", one, two_, un(11, 1, 1, open_, 0))
+    lists(pair + go(depth=3, steps=19), "found", one, two_, un(19, 1, 1, open_, 0))
+    # The three entries have 8, 9 and 10 bytes.
+    for room, verdict, entries in ((27, "found", (one, two_, three)), (26, None, (one, two_)), (17, None, (one, two_)),
+                                   (16, None, (one,)), (8, None, (one,)), (7, None, ()), (0, None, ())):
+        lists(pair + go(depth=3), verdict, *entries, room=room)
+
+    # A box of a number: case 1, b 2, choose 3, case 4, n 5, choose 6, target in the alternative for suc.
+    # With D 2 the number may have depth 1, so suc, whose field would have depth 0, is left out. With D 3 it is not.
+    box = NAT + ty((0,)) + fn((1,), 0, case(1, var(0), case(0, var(1), zero, target(7, zero))))
+    lists(box + go(depth=2), "none")
+    lists(box + go(depth=3), "found", re(6, 0, 1, open_))
+
+    # A constructor whose field has least depth 2 is left out at D 2, though nothing looks at that field.
+    deep = ty((), (1,)) + ty((2,)) + ty(()) + fn((0,), 0, case(0, var(0), zero, target(7, zero)))
+    lists(deep + go(depth=2), "none")
+    lists(deep + go(depth=3), "found", re(3, 1, open_))
+
+    # f x = case x of zero -> case x of suc v -> zero; suc u -> target. The inner case has no alternative for zero.
+    # case 1, x 2, fork; zero: choose 3, case 4, x 5, find that there is none 6. Suc: choose 3, target.
+    missing = NAT + fn((0,), 0, case(0, var(0), case(0, var(0), None, zero), target(7, zero)))
+    lists(missing + go(depth=2, steps=5), "found", un(5, 0), re(3, 1, open_))
+    lists(missing + go(depth=2, steps=6), "found", re(3, 1, open_))
+    # With D 1 suc is left out, and what is left is undecided with S 5, none with S 6.
+    lists(missing + go(depth=1, steps=5), "undecided", un(5, 0))
+    lists(missing + go(depth=1, steps=6), "none")
+
+    # A let whose bound expression loops and that nothing looks at: let 1, x 2, with no case waiting.
+    lazy = NAT + fn((0,), 0, let(0, call(1), var(0))) + fn((), 0, call(1))
+    lists(lazy + go(depth=64, steps=2), "none")
+    # Where it is looked at: let 1, case 2, the variable 3, then calls until S.
+    eager = NAT + fn((0,), 0, let(0, call(1), case(0, var(1), var(0), var(0)))) + fn((), 0, call(1))
+    lists(eager + go(depth=64, steps=9), "undecided", un(9, open_))
+
+
 if __name__ == "__main__":
     scope_examples()
     refusals_of_runs()
     further_examples()
+    worked_lists()
     print("blind side: all examples as expected")

@@ -1,0 +1,109 @@
+"""Makes the rule files on which the program reachlist is run, and the text that it must print for each.
+
+They lie in the folder tests/reachlist: NAME.rule is what it reads, NAME.out what it prints. With --check nothing is
+written, and the exit status is 1 where the stored files differ. Either way it is 1 where the set lacks a kind of last
+line. tests/check_reachlist.py runs the program on them.
+"""
+
+import os
+import sys
+
+import rules
+from blind.build import call, case, con, fn, go, target, two, ty, var
+from blind.enumerate import reachlist
+from make_boundary import file_of_size
+from rules import HOLLOW, P, changed
+
+FOLDER = os.path.join(os.path.dirname(os.path.abspath(__file__)), "reachlist")
+
+BOOL = ty((), ())
+
+
+def third(first, second):
+    """Three entries, of which the two given are the first and the second."""
+    return BOOL + fn((0, 0), 0, case(0, var(0), first, case(0, var(1), second, target(7, var(0))))) + go()
+
+
+def examples():
+    """The examples of the specification."""
+    return {
+        "p": P, "p_d3": changed(depth=3), "p_s6": changed(steps=6), "p_d2": changed(depth=2), "p_d1": changed(depth=1),
+        "p_s5": changed(steps=5), "p_s2": changed(steps=2), "p_s0": changed(steps=0),
+        "p_label8_s6": changed(label=8, steps=6), "p_label8_s7": changed(label=8, steps=7),
+        "empty": b"", "fn_first": P[6:], "hollow": HOLLOW,
+    }
+
+
+def refused():
+    """A rule file for every refusal that reachlist can give, and the edges of its buffers."""
+    return {
+        "short": P[:-1], "mark": P[:-7] + b"XX", "range": changed(depth=65), "stranger": P[:-5] + b"\1" + P[-4:],
+        "code": P[:13] + b"\6" + P[14:], "misfit": P[:6] + BOOL + P[6:9] + b"\1" + P[10:], "tail": P + b"\0",
+        "shallow": ty((1,)) + ty(()) + fn((0,), 0, var(0)) + go(depth=1),
+        "s240": changed(steps=240), "s241": changed(steps=241), "s4096": changed(steps=4096),
+        "size_16384": file_of_size(16384)[:-3] + b"\3" + two(20), "size_16385": file_of_size(16385),
+        "size_100000": P + bytes(100000 - len(P)),
+        # 2,048 entries of 16 bytes fill 32,768; one byte more does not fit, nor does a 2,049th.
+        "list_fills": rules.exact_list(8) + go(depth=2, steps=40),
+        "list_lacks_a_byte": rules.exact_list(8, True) + go(depth=2, steps=40),
+        "list_lacks_entries": rules.exact_list(9) + go(depth=2, steps=40),
+        "many_entries": rules.sixteens() + go(),
+        "long_entries": rules.chains() + go(0, 7, 60, 240),
+    }
+
+
+def lists():
+    """Lists of all kinds, and shares that are rounded down."""
+    again, reach = call(0, con(0, 1), con(0, 0)), target(7, var(0))
+    return {
+        "no_parameters_found": rules.without_parameters() + go(),
+        "no_parameters_at_once": rules.without_parameters(target(7, con(0, 1))) + go(steps=0),
+        "no_parameters_undecided": rules.without_parameters(call(0)) + go(),
+        "no_parameters_none": rules.without_parameters(con(0, 1)) + go(steps=0),
+        "share_33": third(reach, again), "share_66": third(again, call(0, con(0, 0), var(0))), "share_0": third(reach, reach),
+        "equal_numbers": rules.equal_numbers() + go(depth=6, steps=40),
+        "true_leaf": rules.true_leaf() + go(depth=4, steps=40),
+        "member": rules.member() + go(depth=5, steps=60),
+        "increasing": rules.increasing() + go(depth=4, steps=60),
+        "chain": rules.chain() + go(depth=64, steps=240),
+        "labels": rules.labels() + go(label=255),
+        "least_depth": rules.least_depth_three() + go(depth=7, steps=40),
+        "eight_parameters": rules.eight_parameters() + go(depth=1, steps=30),
+    }
+
+
+def lacking(texts):
+    """Kinds of last line, and shares, that no text has."""
+    last = [text.splitlines()[-1].split() for text in texts]
+    kinds = {" ".join(words) if words[0] == "refused" else words[4] for words in last}
+    shares = {words[3] for words in last if words[0] == "total"}
+    wanted = {f"refused {number}" for number in (*range(1, 10), 11, 12)} | {"found", "undecided", "none"}
+    return sorted(wanted - kinds) + [f"share {share}" for share in sorted({"0", "33", "66", "100"} - shares)]
+
+
+def main():
+    files = {**examples(), **refused(), **lists()}
+    made = {}
+    for name, rule_file in files.items():
+        made[name + ".rule"] = rule_file
+        made[name + ".out"] = reachlist(rule_file).encode()
+    wrong = [f"none has {kind}" for kind in lacking([made[name + ".out"].decode() for name in files])]
+    if sys.argv[1:] == ["--check"]:
+        stored = set(os.listdir(FOLDER))
+        wrong += [f"{name} is stored and not made" for name in sorted(stored - set(made))]
+        for name, data in made.items():
+            if name not in stored or open(os.path.join(FOLDER, name), "rb").read() != data:
+                wrong.append(f"the stored {name} differs from what is made")
+    else:
+        os.makedirs(FOLDER, exist_ok=True)
+        for name, data in made.items():
+            with open(os.path.join(FOLDER, name), "wb") as file:
+                file.write(data)
+        print(f"{len(files)} rule files, {sum(map(len, made.values()))} bytes")
+    for fault in wrong:
+        print(f"reachlist: {fault}", file=sys.stderr)
+    return 1 if wrong else 0
+
+
+if __name__ == "__main__":
+    sys.exit(main())

@@ -1,0 +1,386 @@
+"""Makes the searches that the program search_vectors runs, with the answers of the blind enumerator.
+
+Its stdin has per case the rule file behind its two-byte length, then the words of the work slice and the bytes of the
+list slice, in three bytes each, low byte first. Before the call every byte of both slices is 0xA5.
+
+Its stdout has per case two lines. The first is the answer: `found`, `undecided` or `none` and the list's length, or
+`refused` and the number, with 12 the list's length too. The second has the bytes of the list in decimal, then two words:
+whether the bytes of the slice behind the list are `kept` or `changed`, and the same for the words of the work slice from
+64 * S + 1,024 on, or from 0 on with a refusal 1 to 11.
+
+With --check nothing is written, and the exit status is 1 where the stored files differ. Either way it is 1 where the set
+lacks something: a kind of answer or an edge (`LEAST`), or cases whose answer changes by an error that `blind.narrow` can
+make; and where narrowing lists anything else than the enumerator.
+"""
+
+import random
+import sys
+from collections import Counter
+from functools import lru_cache
+
+import rules
+from blind.build import call, con, go, random_rule, target, two, ty
+from blind.enumerate import OPEN, Listing, all_entries, count_inputs, fill, inputs
+from blind.evaluate import REACHED, UNFINISHED, bench, evaluate
+from blind.narrow import ERRORS, differs
+from blind.rulefile import BENCH, FULL, Program, Refused, check
+from make_boundary import file_of_size, random_damaged
+from rules import HOLLOW, P, changed
+from vectors import store
+
+MOST_WORDS, MOST_BYTES = 300000, 100000  # the program's longest slices
+
+CASES = []  # group, rule file, words, bytes
+
+
+# Answers.
+
+@lru_cache(maxsize=None)
+def checked(rule_file):
+    return check(rule_file)
+
+
+@lru_cache(maxsize=None)
+def entries(rule_file):
+    return tuple(all_entries(checked(rule_file)))
+
+
+def answer(rule_file, words, room):
+    """A `Listing`, or the number of a refusal, 1 to 9 or 11."""
+    program = checked(rule_file)
+    if not isinstance(program, Program):
+        return program
+    try:
+        bench(program, words)
+    except Refused as refused:
+        return refused.number
+    return fill(entries(rule_file), room)
+
+
+def lines(given):
+    if not isinstance(given, Listing):
+        return f"refused {given}\nkept kept\n"
+    listed = given.record()
+    first = f"refused {FULL}" if given.refusal else given.verdict
+    return f"{first} {len(listed)}\n" + "".join(f"{byte} " for byte in listed) + "kept kept\n"
+
+
+def needed(program):
+    return 64 * program.steps + 1024
+
+
+def length(rule_file):
+    """The bytes of the complete list."""
+    return sum(len(entry.record()) for entry in entries(rule_file))
+
+
+# Cases.
+
+def add(group, rule_file, words=None, room=None):
+    """By default the work slice is just long enough, and the list slice has some bytes to spare."""
+    program = checked(rule_file)
+    if isinstance(program, Program):
+        words = needed(program) if words is None else words
+        room = length(rule_file) + 20 if room is None else room
+    CASES.append((group, rule_file, words or 0, room or 0))
+
+
+def examples():
+    """The examples of the specification, and the edges of their slices."""
+    for rule_file in (P, changed(depth=3), changed(steps=6), changed(depth=2), changed(depth=1), changed(steps=5),
+                      changed(steps=2), changed(steps=0), changed(label=8, steps=6), changed(label=8, steps=7)):
+        add("example", rule_file)
+        add("example", rule_file, MOST_WORDS, 16384)
+    for rule_file in (b"", P[6:], HOLLOW, P[:6] + ty((1,)) + P[6:], P[:6] + ty((2,)) + ty((0, 1), (1, 1)) + P[6:],
+                      changed(depth=65), changed(steps=4097), P + b"\0", file_of_size(16385)):
+        add("example", rule_file)
+        add("example", rule_file, MOST_WORDS, 100)
+    for depth in range(1, 7):
+        for steps in range(10):
+            add("example", changed(7, depth, steps))
+            add("example", changed(8, depth, steps))
+    for depth in (7, 63, 64):
+        add("example", changed(depth=depth))
+    for words in (0, 1, 1023, 1024, 2302, 2303, 2304, 2305, 4000, MOST_WORDS):
+        add("example", P, words)
+    for room in (0, 1, 5, 6, 8, 9, 10, 32768, MOST_BYTES):
+        add("example", P, None, room)
+        add("example", changed(depth=2), None, room)
+
+
+# Per rule written by hand: the depths and the step limits of which every pair is a case.
+SWEEPS = (
+    (rules.equal_numbers(), (1, 2, 4), range(0, 42)),
+    (rules.equal_numbers(), (12,), (0, 60, 105, 106, 150, 240)),
+    (rules.true_leaf(), (1, 2, 4), range(0, 50, 3)),
+    (rules.true_leaf(), (5,), (20, 60)),
+    (rules.member(), (2, 5), range(0, 60, 4)),
+    (rules.increasing(), (2, 3, 4), range(0, 60, 3)),
+    (rules.chain(), (1, 2, 3, 64), (0, 1, 2, 3, 4, 7, 8, 9, 13, 100, 200, 318, 319, 400)),
+    (rules.chain(2), (64,), (317, 318, 319, 4096)),
+    (rules.count_down(), (1, 3, 6), range(0, 70, 2)),
+    (rules.count_down(), (20, 30), (254, 255, 256, 257, 1000, 4095, 4096)),
+    (rules.eight_parameters(), (1, 3), range(0, 27)),
+    (rules.least_depth_three(), (2, 3, 4, 5, 6, 7), range(0, 17)),
+    (rules.both_trees(), (1, 2, 3, 4), range(0, 40, 2)),
+    (rules.missing_first(), (1, 2, 3), range(0, 9)),
+    (rules.missing_later(), (1, 2, 3), range(0, 8)),
+    (rules.looked_at_twice(), (1, 2, 3), range(0, 15)),
+    (rules.never_looked_at(), (1, 64), range(0, 7)),
+    (rules.boxes(), (31, 32, 33, 64), (0, 3, 155, 156, 157, 158, 159, 240)),
+    (rules.rotating(), (1,), (0, 3, 10, 40, 100, 400)),
+    (rules.thirty_two_in_view(), (1,), (0, 2, 3, 27, 28, 29, 30, 100, 500)),
+    (rules.waiting_cases(), (1, 3), (0, 1, 2, 3, 50, 4096)),
+    (rules.six_fields(), (1, 2, 3), range(0, 24)),
+    (rules.constructions(), (1, 2, 3), range(0, 40, 3)),
+    (rules.without_parameters(), (1, 64), range(0, 6)),
+    (rules.without_parameters(call(0)), (1,), (0, 1, 4096)),
+    (rules.without_parameters(con(0, 1)), (1,), (0, 1)),
+    (rules.without_parameters(target(7, con(0, 1))), (1,), (0, 1)),
+)
+
+
+def sweeps():
+    """The rules written by hand, with step limits and depths on both sides of every change of the answer."""
+    for rule, depths, limits in SWEEPS:
+        for depth in depths:
+            for steps in limits:
+                add("rule", rule + go(0, 7, depth, steps))
+    for label in (0, 1, 7, 254, 255):
+        for steps in range(12):
+            add("rule", rules.labels() + go(0, label, 1, steps))
+    add("rule", file_of_size(16384)[:-3] + bytes([3]) + two(20))
+
+
+def wide_lists():
+    """4,096 entries, of which the list slice holds all, and all but the last; 640 long ones, cut short."""
+    for room in (36864, 36863):
+        add("room", rules.sixteens() + go(), None, room)
+    add("room", rules.chains() + go(0, 7, 40, 240), None, 32768)
+
+
+# Random rule files, by what their list shows; the number is how many of each are kept.
+WANTED = {
+    "none, no fork": 15,
+    "none, forks": 65,
+    "unfinished once, no fork": 20,
+    "unfinished once, forks": 30,
+    "unfinished more than once": 60,
+    "reached once": 40,
+    "reached more than once": 60,
+    "reached and unfinished": 80,
+    "five entries or more": 50,
+}
+
+
+def kind(rule_file):
+    """The key in WANTED."""
+    listed = entries(rule_file)
+    ends = {entry.end for entry in listed}
+    forks = any(wait.steps < checked(rule_file).steps for wait in first_run(rule_file).waits)
+    if len(listed) >= 5:
+        return "five entries or more"
+    if not listed:
+        return "none, forks" if forks else "none, no fork"
+    if ends == {UNFINISHED}:
+        if len(listed) > 1:
+            return "unfinished more than once"
+        return "unfinished once, forks" if forks else "unfinished once, no fork"
+    if ends == {REACHED}:
+        return "reached more than once" if len(listed) > 1 else "reached once"
+    return "reached and unfinished"
+
+
+def first_run(rule_file):
+    """The run of the first closed input."""
+    program = checked(rule_file)
+    return evaluate(program, next(inputs(program)))
+
+
+def random_file(rng):
+    """A random rule file that is accepted and has few closed inputs within the depth, or None."""
+    rule, label, functions = random_rule(rng, most_fields=rng.choice((1, 2, 2, 3)), most_levels=rng.choice((2, 3, 4, 5)))
+    source = rng.randrange(functions)
+    steps = rng.choice((0, 1, rng.randint(2, 6), rng.randint(3, 12), rng.randint(7, 25), rng.randint(13, 60)))
+    for depth in rng.sample((1, 2, 3, 3, 4, 4, 5, 6), 8):
+        rule_file = rule + go(source, label, depth, steps)
+        program = check(rule_file)
+        if isinstance(program, Program) and count_inputs(program, 500) <= 500:
+            return rule_file
+    return None
+
+
+def random_accepted(rng):
+    """The random rule files, until there are enough of each kind."""
+    left = dict(WANTED)
+    files = []
+    while any(left.values()):
+        rule_file = random_file(rng)
+        if rule_file and rule_file not in files and left[kind(rule_file)]:
+            left[kind(rule_file)] -= 1
+            files.append(rule_file)
+            add("random", rule_file, needed(checked(rule_file)) + rng.choice((0, 0, 1, 500)))
+    return files
+
+
+def other_limits(rng, files):
+    """Some of the random rule files again, with every step limit up to where the list stays as it is."""
+    for rule_file in rng.sample([rule_file for rule_file in files if len(entries(rule_file)) > 1], 24):
+        most = max(entry.steps for entry in entries(rule_file))
+        for steps in range(min(most, 30) + 2):
+            add("limit", rule_file[:-2] + two(steps))
+
+
+def damaged(rng, files):
+    """Rule files with changes at random, some of which are still accepted; work slices that may be too short. Where an
+    enumeration would take long, the case is left out."""
+    for rule_file in random_damaged(rng, [rule_file for rule_file in files if len(rule_file) < 400], 240):
+        program = checked(rule_file)
+        if isinstance(program, Program) and count_inputs(program) * max(program.steps, 2) > 40000:
+            continue
+        enough = isinstance(program, Program) and rng.random() < 0.8
+        words = needed(program) if enough else rng.choice((0, 1023, MOST_WORDS))
+        add("damaged", rule_file, words, rng.choice((0, 8, 400)))
+
+
+def rooms(rng, files):
+    """List slices at the edges of entries: 0, 5 and 6 bytes, after each of some entries, a byte less and a byte more."""
+    several = [rule_file for rule_file in files if len(entries(rule_file)) > 2]
+    for rule_file in rng.sample(several, 30):
+        ends, end = [], 0
+        for entry in entries(rule_file):
+            end += len(entry.record())
+            ends.append(end)
+        chosen = {ends[0], ends[-2], ends[-1], rng.choice(ends)}
+        for room in sorted({0, 5, 6} | {end + more for end in chosen for more in (-1, 0, 1)} | {ends[-1] + 300}):
+            add("room", rule_file, None, room)
+    for rule_file in rng.sample([rule_file for rule_file in files if not entries(rule_file)], 5):
+        add("room", rule_file, None, 0)
+
+
+def benches(rng, files):
+    """Work slices of just enough words, with a word less and with a word more."""
+    for rule_file in rng.sample(files, 40):
+        for more in (-1, 0, 1):
+            add("bench", rule_file, needed(checked(rule_file)) + more)
+        add("bench", rule_file, rng.randrange(1024), 0)
+
+
+# What the set must hold.
+
+def nesting(program, parameters):
+    """The depth of the deepest place that an entry has bound."""
+    def part(type_, place):
+        constructor = parameters[place]
+        if constructor == OPEN:
+            return 0, place + 1
+        deepest, place = 0, place + 1
+        for field in program.types[type_].constructors[constructor]:
+            depth, place = part(field, place)
+            deepest = max(deepest, depth)
+        return deepest + 1, place
+
+    deepest, place = 0, 0
+    for parameter in program.parameters:
+        depth, place = part(parameter, place)
+        deepest = max(deepest, depth)
+    return deepest
+
+
+def caught(files):
+    """Per error the number of these files whose list it changes, as far as a number that is enough."""
+    found = dict.fromkeys(ERRORS, 0)
+    for rule_file in files:
+        for error in ERRORS:
+            if found[error] < ENOUGH and differs(checked(rule_file), entries(rule_file), error):
+                found[error] += 1
+    return found
+
+
+ENOUGH = 15  # lists that an error changes
+
+# How many the set has at least; where nothing is said, 5.
+LEAST = {
+    "example cases": 150, "rule cases": 500, "random cases": 300, "limit cases": 200, "damaged cases": 100,
+    "room cases": 200, "bench cases": 100, "verdict found": 300, "verdict undecided": 300, "verdict none": 200,
+    "refused 11": 50, "refused 12": 150, "entries": 5000, "lists with entries of both kinds": 200,
+    "lists of five entries or more": 200, "depth of the deepest bound place": 60, "most bound places in an entry": 60,
+    "longest entry": 300, "most steps": 4096, "longest list": 32769, "lists that fill their slice": 20,
+    "lists that lack one byte": 20, "cut lists with entries": 80, "cut lists without entries": 50,
+    "accepted with S 0": 30, "accepted with D 1": 50, "accepted without parameters": 15,
+}
+
+
+def counts(answers):
+    """What the set holds."""
+    cases = [(rule_file, room, given) for (_, rule_file, _, room), given in zip(CASES, answers) if isinstance(given, Listing)]
+    cut = [(rule_file, room, given) for rule_file, room, given in cases if given.refusal]
+    complete = [(rule_file, room, given) for rule_file, room, given in cases if not given.refusal]
+    programs = {rule_file: checked(rule_file) for rule_file, _, _ in cases}
+    listed = [(program, entry) for rule_file, program in programs.items() for entry in entries(rule_file)]
+    groups = Counter(group for group, _, _, _ in CASES)
+    verdicts = Counter(given.verdict for _, _, given in complete)
+    refusals = Counter(given for given in answers if not isinstance(given, Listing)) + Counter({FULL: len(cut)})
+    return {
+        **{f"{group} cases": groups[group] for group in ("example", "rule", "random", "limit", "damaged", "room", "bench")},
+        **{f"verdict {word}": verdicts[word] for word in ("found", "undecided", "none")},
+        **{f"refused {number}": refusals[number] for number in (*range(1, 10), BENCH, FULL)},
+        "entries": len(listed),
+        "lists with entries of both kinds": sum(len({entry.end for entry in given.entries}) == 2 for *_, given in complete),
+        "lists of five entries or more": sum(len(given.entries) >= 5 for *_, given in complete),
+        "depth of the deepest bound place": max(nesting(program, entry.parameters) for program, entry in listed),
+        "most bound places in an entry": max(sum(byte != OPEN for byte in entry.parameters) for _, entry in listed),
+        "longest entry": max(len(entry.record()) for _, entry in listed),
+        "most steps": max(entry.steps for _, entry in listed),
+        "longest list": max(len(given.record()) for *_, given in complete),
+        "lists that fill their slice": sum(len(given.record()) == room > 0 for _, room, given in complete),
+        "lists that lack one byte": sum(length(rule_file) == room + 1 for rule_file, room, _ in cut),
+        "cut lists with entries": sum(len(given.entries) > 0 for *_, given in cut),
+        "cut lists without entries": sum(not given.entries for *_, given in cut),
+        "accepted with S 0": sum(program.steps == 0 for program in programs.values()),
+        "accepted with D 1": sum(program.depth == 1 for program in programs.values()),
+        "accepted without parameters": sum(not program.parameters for program in programs.values()),
+    }
+
+
+def faults(answers, counted):
+    """What the set lacks, and what is wrong with its answers."""
+    files = list(dict.fromkeys(rule_file for (_, rule_file, _, _), given in zip(CASES, answers) if isinstance(given, Listing)))
+    small = [rule_file for rule_file in files if len(entries(rule_file)) <= 60 and checked(rule_file).steps <= 120]
+    return ([f"too few: {name}" for name, number in counted.items() if number < LEAST.get(name, 5)]
+            + [f"narrowing lists otherwise: {rule_file.hex()}" for rule_file in files
+               if differs(checked(rule_file), entries(rule_file), None)]
+            + [f"changes {number} lists: {error}" for error, number in caught(small).items() if number < ENOUGH])
+
+
+def make():
+    """All cases, and their answers."""
+    rng = random.Random(3)
+    examples()
+    sweeps()
+    wide_lists()
+    files = random_accepted(rng)
+    other_limits(rng, files)
+    damaged(rng, files)
+    rooms(rng, files)
+    benches(rng, files)
+    assert all(words <= MOST_WORDS and room <= MOST_BYTES for _, _, words, room in CASES)
+    return [answer(rule_file, words, room) for _, rule_file, words, room in CASES]
+
+
+def main():
+    answers = make()
+    counted = counts(answers)
+    wrong = faults(answers, counted)
+    if sys.argv[1:] != ["--check"]:
+        for name, number in counted.items():
+            print(f"{number:6}  {name}")
+    for fault in wrong:
+        print(f"search_vectors: {fault}", file=sys.stderr)
+    stdin = b"".join(two(len(rule_file)) + rule_file + words.to_bytes(3, "little") + room.to_bytes(3, "little")
+                     for _, rule_file, words, room in CASES)
+    return 1 if wrong else store("search_vectors", stdin, "".join(map(lines, answers)).encode(), sys.argv[1:])
+
+
+if __name__ == "__main__":
+    sys.exit(main())
