@@ -18,7 +18,7 @@ use Rattle.reach.specs.Syntax.{Program}
 use Rattle.reach.specs.Parts.{prefix}
 use Rattle.reach.specs.Places.{wordAt}
 use Rattle.reach.specs.Search.{Kind, RE, UN, Entry, entries}
-use Rattle.reach.specs.Lists.{wordBytes, kindBytes, entryBytes, listBytes, onSize, roomOf, written, knownMark, entrySize, entrySpan, entryPart}
+use Rattle.reach.specs.Lists.{wordBytes, kindBytes, entryBytes, listBytes, onSize, roomOf, written, knownMark, entrySize, entrySpan, entryPart, Decoded, decoded}
 use Rattle.reach.specs.Answers.{accepted, check, SearchAnswer, noSearch, complete, cutShort, searchAnswer, listed}
 use Rattle.reach.proofs.Base.{clash, picked}
 use Rattle.reach.proofs.Limits.{accepted-keeps}
@@ -297,15 +297,6 @@ written-beyond file work list p h k beyond =
     beyond-end (listed (searchAnswer file work list)) (listed-small file work list p h) (listed-fits file work list p h) k beyond
 
 -- Decoding: what the bytes of an entry say.
-
-pub record Decoded : Type 0 where
-  pub kind : Kind
-  pub steps : ℕ
-  pub parameters : List ℕ
-
--- the kind by the first byte of the mark, the steps by their two bytes, and the parameters in prefix form behind the header
-unfoldable pub decoded : List ℕ → Decoded
-decoded l = record { kind = pick (eqb (getD l 0 0) 0x52) RE UN; steps = wordAt l 2; parameters = drop 6 l }
 
 decoded-marked : (k : Kind) (s : ℕ) (p : List ℕ) → s < 65536 → decoded (bytesOf k s p) ≡ record { kind = k; steps = s; parameters = p }
 unfolding decoded kindBytes wordBytes wordAt
