@@ -20,3 +20,4 @@ pub mod Encoding
 pub mod Accepted
 pub mod Demands
 pub mod ReadBack
+pub mod Text

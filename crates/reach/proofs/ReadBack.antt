@@ -85,7 +85,7 @@ abbrev pub partWithin : ℕ → List ℕ → ℕ → List ℕ
 partWithin n list k = onSize [] (λ span. take (span .1) (drop (span .0) list)) (entrySpan (take n list) k 0)
 
 -- to take n bytes is to take as many of them as there are
-counted : (n : ℕ) (l : List ℕ) → take n l ≡ take (min (length l) n) l
+pub counted : (n : ℕ) (l : List ℕ) → take n l ≡ take (min (length l) n) l
 counted n l = go (leb (length l) n) refl
   where
     go : (t : Bool) → leb (length l) n ≡ t → take n l ≡ take (min (length l) n) l
@@ -317,7 +317,7 @@ bytes-determine e f small small′ same =
     (ap (λ (d : Decoded). d .kind) both, ap (λ (d : Decoded). d .steps) both, ap (λ (d : Decoded). d .parameters) both)
 
 -- the steps of an entry of an accepted file fit their two bytes
-entry-steps : (file : List ℕ) (p : Program) → check file ≡ accepted p → (e : Entry) → e ∈ entries p → e .steps < 65536
+pub entry-steps : (file : List ℕ) (p : Program) → check file ≡ accepted p → (e : Entry) → e ∈ entries p → e .steps < 65536
 entry-steps file p h e m = omega (arith, (entry-within file p h e m) .1, (accepted-keeps file p h) .steps-limit)
 
 -- as of any two entries of an accepted file

@@ -1,5 +1,5 @@
 -- What `reachlist` prints: 01, "The program `reachlist`". A line is its items, parted by single spaces, and a line feed; text is in ASCII.
--- At the end the same text as a function of the bytes of a list; proofs/Text.antt shows that the two agree on the list that a search wrote.
+-- At the end the same text as a function of the bytes of a list; proofs/Text.antt shows that the two agree on what a search wrote.
 -- Rests on Search, Lists, Words and Answers.
 use Prim.Native.Nat.{ℕ, zero, suc, _+_, _*_, _/_, _%_}
 use mathlib.Core.Bool.{Bool, true, false}

@@ -1,0 +1,45 @@
+use borrow.Author.Tests.{eq-eqb, ne-eqb}
+use Rattle.reach.specs.Text.{kindWord}
+use native.Mathlib.Omega.{arith}
+use borrow.Author.Needs.{needs}
+use Rattle.printing.proofs.put_kind.Statement.{statement}
+use Rattle.printing.proofs.put_kind.Tie as tie
+
+slice-aggregate-put-word : tie.Need-slice-aggregate-put-word
+slice-aggregate-put-word c = search needs
+
+put-word-requires : tie.Need-put-word-requires
+put-word-requires c κs = search needs
+
+same-length : tie.Need-same-length
+same-length c = search needs
+
+returns : tie.Need-returns
+unfolding kindWord
+returns c = rw (eq-eqb (c .before .before .before .before .before .before .before .args .mark) 82 (c .before .before .before .before .before .if1 .taken)) (c .before .before .put-word .ensures)
+
+slice-aggregate-put-word-2 : tie.Need-slice-aggregate-put-word-2
+slice-aggregate-put-word-2 c = search needs
+
+put-word-requires-2 : tie.Need-put-word-requires-2
+put-word-requires-2 c κs = search needs
+
+same-length-2 : tie.Need-same-length-2
+same-length-2 c = search needs
+
+returns-2 : tie.Need-returns-2
+unfolding kindWord
+returns-2 c = rw (ne-eqb (c .before .before .before .before .before .before .before .args .mark) 82 (c .before .before .before .before .before .if1 .left)) (c .before .before .put-word2 .ensures)
+
+pub put-kind-spec : {M : Type 1} → statement M
+put-kind-spec =
+    tie.close
+    (tie.spec
+    slice-aggregate-put-word
+    put-word-requires
+    same-length
+    returns
+    slice-aggregate-put-word-2
+    put-word-requires-2
+    same-length-2
+    returns-2)
