@@ -1,45 +1,36 @@
+-- `printing::put_kind` meets its contract: the mark's first byte is tried as the definition tries it.
+-- Rests on nothing of this crate.
 use borrow.Author.Tests.{eq-eqb, ne-eqb}
-use Rattle.reach.specs.Text.{kindWord}
-use native.Mathlib.Omega.{arith}
 use borrow.Author.Needs.{needs}
-use Rattle.printing.proofs.put_kind.Statement.{statement}
+use Rattle.reach.specs.Text.{kindWord}
 use Rattle.printing.proofs.put_kind.Tie as tie
-
-slice-aggregate-put-word : tie.Need-slice-aggregate-put-word
-slice-aggregate-put-word c = search needs
-
-put-word-requires : tie.Need-put-word-requires
-put-word-requires c κs = search needs
-
-same-length : tie.Need-same-length
-same-length c = search needs
+use Rattle.printing.proofs.put_kind.Statement.{statement}
 
 returns : tie.Need-returns
 unfolding kindWord
-returns c = rw (eq-eqb (c .before .before .before .before .before .before .before .args .mark) 82 (c .before .before .before .before .before .if1 .taken)) (c .before .before .put-word .ensures)
-
-slice-aggregate-put-word-2 : tie.Need-slice-aggregate-put-word-2
-slice-aggregate-put-word-2 c = search needs
-
-put-word-requires-2 : tie.Need-put-word-requires-2
-put-word-requires-2 c κs = search needs
-
-same-length-2 : tie.Need-same-length-2
-same-length-2 c = search needs
+returns c =
+    let a = c .before .before .before .before .before .before .before .args in
+    let if1 = c .before .before .before .before .before .if1 in
+    let put-word = c .before .before .put-word in
+    rw (eq-eqb (a .mark) 82 (if1 .taken)) (put-word .ensures)
 
 returns-2 : tie.Need-returns-2
 unfolding kindWord
-returns-2 c = rw (ne-eqb (c .before .before .before .before .before .before .before .args .mark) 82 (c .before .before .before .before .before .if1 .left)) (c .before .before .put-word2 .ensures)
+returns-2 c =
+    let a = c .before .before .before .before .before .before .before .args in
+    let if1 = c .before .before .before .before .before .if1 in
+    let put-word2 = c .before .before .put-word2 in
+    rw (ne-eqb (a .mark) 82 (if1 .left)) (put-word2 .ensures)
 
 pub put-kind-spec : {M : Type 1} → statement M
 put-kind-spec =
     tie.close
     (tie.spec
-    slice-aggregate-put-word
-    put-word-requires
-    same-length
+    (λ c. search needs)
+    (λ c κs. search needs)
+    (λ c. search needs)
     returns
-    slice-aggregate-put-word-2
-    put-word-requires-2
-    same-length-2
+    (λ c. search needs)
+    (λ c κs. search needs)
+    (λ c. search needs)
     returns-2)

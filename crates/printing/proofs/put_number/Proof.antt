@@ -1,20 +1,15 @@
-use Rattle.printing.proofs.Writing.{puts-then}
-use native.Mathlib.Omega.{arith}
+-- `printing::put_number` meets its contract: the space, then the digits.
+-- Rests on Writing.
 use borrow.Author.Needs.{needs}
-use Rattle.printing.proofs.put_number.Statement.{statement}
+use Rattle.printing.proofs.Writing.{puts-then}
 use Rattle.printing.proofs.put_number.Tie as tie
-
-put-byte-requires : tie.Need-put-byte-requires
-put-byte-requires c κs = search needs
-
-put-decimal-requires : tie.Need-put-decimal-requires
-put-decimal-requires c κs = search needs
-
-same-length : tie.Need-same-length
-same-length c = search needs
+use Rattle.printing.proofs.put_number.Statement.{statement}
 
 returns : tie.Need-returns
-returns c = puts-then (c .before .before .before .before .before .before .put-byte .ensures) (c .before .before .put-decimal .ensures)
+returns c =
+    let put-byte = c .before .before .before .before .before .before .put-byte in
+    let put-decimal = c .before .before .put-decimal in
+    puts-then (put-byte .ensures) (put-decimal .ensures)
 
 pub put-number-spec : {M : Type 1} → statement M
-put-number-spec = tie.close (tie.spec put-byte-requires put-decimal-requires same-length returns)
+put-number-spec = tie.close (tie.spec (λ c κs. search needs) (λ c κs. search needs) (λ c. search needs) returns)

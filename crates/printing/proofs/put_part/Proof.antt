@@ -1,45 +1,37 @@
+-- `printing::put_part` meets its contract: an open part is tried first, as in the definition.
+-- Rests on nothing of this crate.
 use borrow.Author.Tests.{eq-eqb, ne-eqb}
-use Rattle.reach.specs.Text.{partWord}
-use native.Mathlib.Omega.{arith}
 use borrow.Author.Needs.{needs}
-use Rattle.printing.proofs.put_part.Statement.{statement}
+use Rattle.reach.specs.Text.{partWord}
 use Rattle.printing.proofs.put_part.Tie as tie
-
-slice-aggregate-put-word : tie.Need-slice-aggregate-put-word
-slice-aggregate-put-word c = search needs
-
-put-word-requires : tie.Need-put-word-requires
-put-word-requires c κs = search needs
-
-same-length : tie.Need-same-length
-same-length c = search needs
+use Rattle.printing.proofs.put_part.Statement.{statement}
 
 returns : tie.Need-returns
 unfolding partWord
-returns c = rw (eq-eqb (c .before .before .before .before .before .before .before .args .b) 255 (c .before .before .before .before .before .if1 .taken)) (c .before .before .put-word .ensures)
-
-wide-requires : tie.Need-wide-requires
-wide-requires c κs = search needs
-
-put-number-requires : tie.Need-put-number-requires
-put-number-requires c κs = search needs
-
-same-length-2 : tie.Need-same-length-2
-same-length-2 c = search needs
+returns c =
+    let a = c .before .before .before .before .before .before .before .args in
+    let if1 = c .before .before .before .before .before .if1 in
+    let put-word = c .before .before .put-word in
+    rw (eq-eqb (a .b) 255 (if1 .taken)) (put-word .ensures)
 
 returns-2 : tie.Need-returns-2
 unfolding partWord
-returns-2 c = rw (ne-eqb (c .before .before .before .before .before .before .before .args .b) 255 (c .before .before .before .before .before .if1 .left), ← c .before .before .before .wide .ensures) (c .before .before .put-number .ensures)
+returns-2 c =
+    let a = c .before .before .before .before .before .before .before .args in
+    let if1 = c .before .before .before .before .before .if1 in
+    let wide = c .before .before .before .wide in
+    let put-number = c .before .before .put-number in
+    rw (ne-eqb (a .b) 255 (if1 .left), ← wide .ensures) (put-number .ensures)
 
 pub put-part-spec : {M : Type 1} → statement M
 put-part-spec =
     tie.close
     (tie.spec
-    slice-aggregate-put-word
-    put-word-requires
-    same-length
+    (λ c. search needs)
+    (λ c κs. search needs)
+    (λ c. search needs)
     returns
-    wide-requires
-    put-number-requires
-    same-length-2
+    (λ c κs. search needs)
+    (λ c κs. search needs)
+    (λ c. search needs)
     returns-2)

@@ -1,13 +1,15 @@
+-- `printing::put_parts` meets its contract. The invariant: what is left of the parameters gives what all of them give, and no byte takes more
+-- than 257 bytes of text.
+-- Rests on Writing and Lines.
 use Prim.Native.Nat.{_+_, _*_, _-_, _≤_}
 use mathlib.Core.List.{map}
+use native.Mathlib.Omega.{arith}
 use lib.ListN.{length, getD, drop}
 use Rattle.reach.specs.Text.{spaced, partWord}
 use Rattle.printing.proofs.Writing.{Left, left-whole, puts-length}
 use Rattle.printing.proofs.Lines.{parts-next, parts-done, part-end}
-use native.Mathlib.Omega.{arith}
-use borrow.Author.Needs.{needs}
-use Rattle.printing.proofs.put_parts.Statement.{statement}
 use Rattle.printing.proofs.put_parts.Tie as tie
+use Rattle.printing.proofs.put_parts.Statement.{statement}
 
 abbrev Inv-loop : tie.InvT-loop
 Inv-loop entry text₀ at i₀ to₀ text i to = (6 ≤ i) × (i ≤ length entry) × (to + 257 * 6 ≤ at + 257 * i)
@@ -32,18 +34,27 @@ loop-less : tie.Need-loop-less Inv-loop μ-loop
 loop-less c = omega arith
 
 loop-again : tie.Need-loop-again Inv-loop μ-loop
-loop-again c = (
-  omega arith,
-  omega arith,
-  omega (arith, part-end (getD (c .before .before .before .before .before .before .before .before .before .args .entry .now) (c .before .before .before .before .before .before .loop .i) 0) (omega (arith, c .before .before .before .shared-slice-known2 .given (c .before .before .before .before .before .before .loop .i))) (c .before .before .put-part .ensures)),
-  parts-next _ _ (c .before .before .before .before .before .before .loop .inv .3) (c .before .before .before .before .before .loop-test .taken) (c .before .before .put-part .ensures),
-)
+loop-again c =
+    let a = c .before .before .before .before .before .before .before .before .before .args in
+    let turn = c .before .before .before .before .before .before .loop in
+    let loop-test = c .before .before .before .before .before .loop-test in
+    let shared-slice-known2 = c .before .before .before .shared-slice-known2 in
+    let put-part = c .before .before .put-part in (
+      omega arith,
+      omega arith,
+      omega (arith, part-end (getD (a .entry .now) (turn .i) 0) (omega (arith, shared-slice-known2 .given (turn .i))) (put-part .ensures)),
+      parts-next _ _ (turn .inv .3) (loop-test .taken) (put-part .ensures),
+    )
 
 same-length : tie.Need-same-length Inv-loop μ-loop
-same-length c = puts-length (parts-done (c .before .before .before .before .args .entry .now) (c .before .loop .i) (c .before .loop .inv .3) (omega arith))
+same-length c =
+    let a = c .before .before .before .before .args in
+    puts-length (parts-done (a .entry .now) (c .before .loop .i) (c .before .loop .inv .3) (omega arith))
 
 returns : tie.Need-returns Inv-loop μ-loop
-returns c = (parts-done (c .before .before .before .before .args .entry .now) (c .before .loop .i) (c .before .loop .inv .3) (omega arith), omega arith)
+returns c =
+    let a = c .before .before .before .before .args in
+    (parts-done (a .entry .now) (c .before .loop .i) (c .before .loop .inv .3) (omega arith), omega arith)
 
 pub put-parts-spec : {M : Type 1} → statement M
 put-parts-spec =

@@ -1,17 +1,12 @@
-use Rattle.printing.proofs.Writing.{puts-front}
-use native.Mathlib.Omega.{arith}
+-- `printing::refusal_text` meets its contract: the line is written from the front on.
+-- Rests on Writing.
 use borrow.Author.Needs.{needs}
-use Rattle.printing.proofs.refusal_text.Statement.{statement}
+use Rattle.printing.proofs.Writing.{puts-front}
 use Rattle.printing.proofs.refusal_text.Tie as tie
-
-put-refusal-requires : tie.Need-put-refusal-requires
-put-refusal-requires c κs = search needs
-
-same-length : tie.Need-same-length
-same-length c = search needs
+use Rattle.printing.proofs.refusal_text.Statement.{statement}
 
 returns : tie.Need-returns
 returns c = puts-front (c .before .before .put-refusal .ensures)
 
 pub refusal-text-spec : {M : Type 1} → statement M
-refusal-text-spec = tie.close (tie.spec put-refusal-requires same-length returns)
+refusal-text-spec = tie.close (tie.spec (λ c κs. search needs) (λ c. search needs) returns)
