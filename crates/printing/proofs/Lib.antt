@@ -3,3 +3,4 @@ pub mod Writing
 pub mod Digits
 pub mod Lines
 pub mod Walk
+pub mod Lengths

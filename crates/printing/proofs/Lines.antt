@@ -71,12 +71,12 @@ module _ {t u v w : List ℕ} {at m n r : ℕ} where
 
 -- How long they are, and where they end.
 
-kind-few : (k : Kind) → length (kindWord k) ≤ 10
+pub kind-few : (k : Kind) → length (kindWord k) ≤ 10
 unfolding kindWord
 kind-few RE = omega arith
 kind-few UN = omega arith
 
-verdict-few : (v : Verdict) → length (verdictWord v) ≤ 9
+pub verdict-few : (v : Verdict) → length (verdictWord v) ≤ 9
 verdict-few Found = omega arith
 verdict-few Undecided = omega arith
 verdict-few None = omega arith

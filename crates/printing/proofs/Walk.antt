@@ -25,7 +25,7 @@ use Rattle.printing.specs.Writing.{Puts, Fronts}
 use Rattle.printing.proofs.Writing.{Left, left-next, left-last, puts-front}
 
 -- an entry has a whole header
-size-least : (l : List ℕ) (i n : ℕ) → entrySize l i ≡ some n → 6 ≤ n
+pub size-least : (l : List ℕ) (i n : ℕ) → entrySize l i ≡ some n → 6 ≤ n
 unfolding entrySize
 size-least l i n =
     picked (λ (o : Option ℕ). o ≡ some n → 6 ≤ n)
