@@ -103,7 +103,7 @@ entry-short e six h =
 
 -- The lines of a list, and how many there are.
 
-part-bytes : (l : List ℕ) (i n : ℕ) → Bytes l → Bytes (take n (drop i l))
+pub part-bytes : (l : List ℕ) (i n : ℕ) → Bytes l → Bytes (take n (drop i l))
 part-bytes l i n h j = go (ltb j n) refl
   where
     go : (t : Bool) → ltb j n ≡ t → getD (take n (drop i l)) j 0 < 256
