@@ -1,16 +1,16 @@
 -- How long the text of a list is: at most four times the list, and a last line of at most 64 bytes.
 -- Rests on Digits, Lines and Walk, and on Text of crate reach.
-use Prim.Native.Nat.{ℕ, zero, suc, _+_, _*_, _-_, _/_, _≤_, _<_, min}
-use mathlib.Core.Path.{_≡_, refl, sym, ap, subst, _∙_}
+use Prim.Native.Nat.{ℕ, zero, suc, _+_, _*_, _-_, _/_, _≤_, _<_}
+use mathlib.Core.Path.{_≡_, refl, sym, ap, subst}
 use mathlib.Core.Bool.{Bool, true, false}
-use mathlib.Core.List.{List, [], _∷_, _++_, map, flatMap}
+use mathlib.Core.List.{List, [], _∷_, map, flatMap}
 use mathlib.Core.Option.{Option, none, some}
 use native.Mathlib.Nat.{div-le-of-le-mul}
 use native.Mathlib.Omega.{arith}
 use lib.ListN.{length, getD, take, drop, length-append, length-take, length-drop, List·getD-eq-default}
 use lib.Seq.{getD-take, getD-drop}
-use lib.Dec.{ltb, leb, eqb}
-use borrow.Author.Tests.{ltb-true, ltb-false, leb-true, leb-false}
+use lib.Dec.{ltb, eqb}
+use borrow.Author.Tests.{ltb-true, ltb-false}
 use Rattle.reach.specs.declared.Refusal.{Refusal}
 use Rattle.reach.specs.declared.Refusal.the-variants.{ListFull}
 use Rattle.reach.specs.declared.Verdict.{Verdict}
@@ -20,7 +20,7 @@ use Rattle.reach.specs.Words.{numberOf, verdictWord}
 use Rattle.reach.specs.Places.{wordAt}
 use Rattle.reach.specs.Search.{Kind, RE, UN}
 use Rattle.reach.specs.Lists.{onSize, entrySize, Decoded, decoded, decodedFrom}
-use Rattle.reach.specs.Text.{space, lineFeed, spaced, lineFrom, decimal, kindWord, partWord, lineSaying, oneMore, count, share, totalSaying, refusalLine, verdictBy, lastLine, textFrom, listText}
+use Rattle.reach.specs.Text.{spaced, lineFrom, decimal, kindWord, partWord, lineSaying, oneMore, count, share, totalSaying, refusalLine, verdictBy, lastLine, textFrom, listText}
 use Rattle.reach.proofs.ReadBack.{size-inside}
 use Rattle.printing.proofs.Digits.{decimal-one, decimal-more}
 use Rattle.printing.proofs.Lines.{kind-few, verdict-few, number-few}

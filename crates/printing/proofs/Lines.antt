@@ -1,9 +1,8 @@
 -- The pieces of a line behind one another, and how long they are.
 -- Rests on Writing, Digits, and Text of crate reach.
-use Prim.Native.Nat.{ℕ, zero, suc, _+_, _*_, _/_, _≤_, _<_}
-use mathlib.Core.Path.{_≡_, refl, sym, ap, _∙_}
+use Prim.Native.Nat.{ℕ, suc, _+_, _*_, _/_, _≤_, _<_}
 use mathlib.Core.Bool.{Bool, true, false}
-use mathlib.Core.List.{List, [], _∷_, _++_, map, flatMap}
+use mathlib.Core.List.{List, [], _∷_, map, flatMap}
 use native.Mathlib.Nat.{div-le-self}
 use native.Mathlib.Omega.{arith}
 use native.Mathlib.Numerals.{add-one}
@@ -17,8 +16,7 @@ use Rattle.reach.specs.declared.Verdict.the-variants.{Found, Undecided, None}
 use Rattle.reach.specs.Base.{pick}
 use Rattle.reach.specs.Words.{numberOf, verdictWord}
 use Rattle.reach.specs.Search.{Kind, RE, UN}
-use Rattle.reach.specs.Lists.{Decoded}
-use Rattle.reach.specs.Text.{space, lineFeed, spaced, lineFrom, decimal, kindWord, partWord, lineSaying, count, share, totalSaying, refusalLine}
+use Rattle.reach.specs.Text.{space, lineFeed, spaced, lineFrom, decimal, kindWord, partWord, lineSaying, share, totalSaying, refusalLine}
 use Rattle.printing.specs.Writing.{Puts}
 use Rattle.printing.proofs.Writing.{puts-none, puts-then, Left, left-next, left-none}
 use Rattle.printing.proofs.Digits.{decimal-few, part-few}

@@ -1,11 +1,10 @@
 -- Text behind text, what is left of a text to write, and text at the front of a slice.
 -- Rests on Writing of specs/.
-use Prim.Native.Nat.{ℕ, zero, suc, _+_, _≤_, _<_}
+use Prim.Native.Nat.{ℕ, suc, _+_, _≤_}
 use mathlib.Core.Path.{_≡_, refl, sym, ap, _∙_}
 use mathlib.Core.List.{List, [], _∷_, _++_}
 use native.Mathlib.Omega.{arith}
-use native.Mathlib.Numerals.{add-one}
-use lib.ListN.{length, getD, take, drop, set, length-append}
+use lib.ListN.{length, set, length-append}
 use lib.Seq.{sets, set-out, length-sets, take-nil}
 use Rattle.printing.specs.Writing.{fronted, Fronts, Puts}
 

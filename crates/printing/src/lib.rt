@@ -2,15 +2,15 @@
 // slice is too short for it: so a caller sees by the place whether all of it was written. Rests on crates reach, records, rulefile and
 // entries.
 ghost use mathlib.Core.Path.{_≡_};
-ghost use mathlib.Core.List.{List, [], _∷_, map};
+ghost use mathlib.Core.List.{[], _∷_, map};
 ghost use Prim.Native.Nat.{_+_, _*_, _≤_, _<_};
-ghost use lib.ListN.{length, drop, getD};
+ghost use lib.ListN.{length, drop};
 ghost use lib.Dec.{eqb};
 ghost use Rattle.reach.specs.Base.{pick};
 ghost use Rattle.reach.specs.Search.{RE, UN};
 ghost use Rattle.reach.specs.Lists.{decoded, decodedFrom};
 ghost use Rattle.reach.specs.Words.{verdictWord};
-ghost use Rattle.reach.specs.Text.{space, spaced, decimal, kindWord, partWord, lineSaying, count, share, totalSaying, refusalLine, verdictBy, lastLine, textFrom, listText};
+ghost use Rattle.reach.specs.Text.{space, spaced, digit, decimal, kindWord, partWord, lineSaying, count, share, totalSaying, refusalLine, verdictBy, lastLine, textFrom, listText};
 ghost use Rattle.printing.specs.Writing.{Fronts, Puts};
 use entries::Size;
 use entries::room;
@@ -48,7 +48,7 @@ fn put_word(word: &[u8], text: &mut [u8], at: usize) -> usize
 
 // The last digit of a number, in ASCII.
 fn last_digit(n: u64) -> u8
-    ensures { λ r. ⌜ r ≡ Rattle.reach.specs.Text.digit n ⌝ }
+    ensures { λ r. ⌜ r ≡ digit n ⌝ }
 {
     48 + (n % 10) as u8
 }

@@ -10,9 +10,9 @@ use mathlib.Core.List.{List, [], _∷_, _++_, flatMap, append-assoc, append-nil,
 use mathlib.Core.Option.{Option, none, some, Option·none-ne-some, Option·some-injective}
 use lib.ListN.{length, getD, getElem?, take, drop, length-append}
 use lib.Seq.{take-append-seam, drop-append-seam, take-append-add, getD-append-add, take-all, take-length, take-nil}
-use lib.Dec.{leb, eqb}
+use lib.Dec.{leb}
 use borrow.Author.Tests.{leb-true, leb-false, le-leb, lt-leb}
-use Rattle.reach.specs.Base.{_∈_, pick}
+use Rattle.reach.specs.Base.{_∈_}
 use Rattle.reach.specs.Limits.{listLimit}
 use Rattle.reach.specs.Syntax.{Program}
 use Rattle.reach.specs.Parts.{prefix}
@@ -20,7 +20,7 @@ use Rattle.reach.specs.Places.{wordAt}
 use Rattle.reach.specs.Search.{Kind, RE, UN, Entry, entries}
 use Rattle.reach.specs.Lists.{wordBytes, kindBytes, entryBytes, listBytes, onSize, roomOf, written, knownMark, entrySize, entrySpan, entryPart, Decoded, decoded}
 use Rattle.reach.specs.Answers.{accepted, check, SearchAnswer, noSearch, complete, cutShort, searchAnswer, listed}
-use Rattle.reach.proofs.Base.{clash, picked}
+use Rattle.reach.proofs.Base.{picked}
 use Rattle.reach.proofs.Limits.{accepted-keeps}
 use Rattle.reach.proofs.EntryLength.{entry-within}
 use Rattle.reach.proofs.Answers.{Means, search-means, listed-in}

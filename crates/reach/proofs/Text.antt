@@ -3,24 +3,21 @@
 -- Rests on Text of specs/ and on ReadBack (an entry is read back from its bytes).
 use Prim.Native.Nat.{ℕ, zero, suc, _+_, _≤_, _<_}
 use native.Mathlib.Omega.{arith}
-use mathlib.Core.Path.{_≡_, refl, sym, ap, _∙_}
+use mathlib.Core.Path.{_≡_, refl, ap, _∙_}
 use mathlib.Core.Bool.{Bool, true, false}
 use mathlib.Core.List.{List, [], _∷_, _++_, map, flatMap, append-assoc, List·Memᴰ·head, List·Memᴰ·tail}
-use mathlib.Core.Option.{none, some}
-use lib.ListN.{length, take, drop, length-append}
+use mathlib.Core.Option.{none}
+use lib.ListN.{length, take, length-append}
 use lib.Seq.{take-append-seam, drop-append-seam, take-all}
 use lib.Dec.{ltb}
 use borrow.Author.Tests.{lt-ltb}
 use Rattle.reach.specs.declared.Refusal.{Refusal}
 use Rattle.reach.specs.declared.Refusal.the-variants.{ListFull}
-use Rattle.reach.specs.declared.Verdict.{Verdict}
 use Rattle.reach.specs.declared.Verdict.the-variants.{Found, Undecided, None}
 use Rattle.reach.specs.Base.{_∈_, pick}
 use Rattle.reach.specs.Limits.{listLimit}
-use Rattle.reach.specs.Syntax.{Program}
-use Rattle.reach.specs.Parts.{prefix}
 use Rattle.reach.specs.Search.{Kind, RE, UN, Entry, withEntry, verdict}
-use Rattle.reach.specs.Lists.{kindBytes, entryBytes, listBytes, entrySize, Decoded, decoded, decodedFrom}
+use Rattle.reach.specs.Lists.{kindBytes, entryBytes, listBytes, entrySize, Decoded, decodedFrom}
 use Rattle.reach.specs.Answers.{Checked, accepted, turnedBack, check, SearchAnswer, noSearch, complete, cutShort, searchChecked, searchAnswer, listed}
 use Rattle.reach.specs.Text.{lineSaying, sayingOf, lineOf, oneMore, count, totalLine, refusalLine, text, verdictBy, lastLine, textFrom, listText}
 use Rattle.reach.proofs.Answers.{listed-in}

@@ -2,7 +2,7 @@
 -- At the end the same text as a function of the bytes of a list; proofs/Text.antt shows that the two agree on what a search wrote.
 -- Rests on Search, Lists, Words and Answers.
 use Prim.Native.Nat.{ℕ, zero, suc, _+_, _*_, _/_, _%_}
-use mathlib.Core.Bool.{Bool, true, false}
+use mathlib.Core.Bool.{Bool}
 use mathlib.Core.List.{List, [], _∷_, _++_, map, flatMap}
 use lib.ListN.{length, take}
 use lib.Dec.{ltb, eqb}

@@ -3,7 +3,6 @@
 use Prim.Native.Nat.{_+_, _-_, _≤_}
 use native.Mathlib.Omega.{arith}
 use lib.ListN.{length, drop}
-use borrow.Author.Needs.{needs}
 use Rattle.printing.proofs.Writing.{Left, left-whole, puts-length}
 use Rattle.printing.proofs.Lines.{word-next, word-done}
 use Rattle.printing.proofs.put_word.Statement.{statement}
