@@ -149,9 +149,8 @@ def fill(entries, list_length):
     return Listing(tuple(entries), verdict(entries))
 
 
-def reachlist(rule_file, most_inputs=MOST_INPUTS):
-    """The text that the program `reachlist` prints for a rule file."""
-    answer = search(rule_file, 16384, 32768, most_inputs)
+def printed(answer):
+    """The text that the program `reachlist` prints for what a search returned."""
     if not isinstance(answer, Listing):
         return f"refused {answer}\n"
     text = "".join(entry.line() for entry in answer.entries)
@@ -161,3 +160,8 @@ def reachlist(rule_file, most_inputs=MOST_INPUTS):
     unfinished = len(answer.entries) - reach
     share = 100 * unfinished // (reach + unfinished) if answer.entries else 0
     return text + f"total {reach} {unfinished} {share} {answer.verdict}\n"
+
+
+def reachlist(rule_file, most_inputs=MOST_INPUTS):
+    """The text that the program `reachlist` prints for a rule file."""
+    return printed(search(rule_file, 16384, 32768, most_inputs))

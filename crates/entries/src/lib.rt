@@ -34,7 +34,7 @@ pub fn known_mark(a: u8, b: u8) -> bool
 }
 
 // The two-byte number at a place.
-fn word_at(s: &[u8], at: usize) -> usize
+pub fn word_at(s: &[u8], at: usize) -> usize
     requires { ⌜ at + 1 < length (now s) ⌝ }
     ensures { λ r. ⌜ r ≡ wordAt (now (s .entry)) at ⌝ }
 {

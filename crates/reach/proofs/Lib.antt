@@ -21,3 +21,4 @@ pub mod Encoding
 pub mod Accepted
 pub mod Demands
 pub mod ReadBack
+pub mod Text

@@ -10,17 +10,17 @@ use mathlib.Core.List.{List, [], _∷_, _++_, flatMap, append-assoc, append-nil,
 use mathlib.Core.Option.{Option, none, some, Option·none-ne-some, Option·some-injective}
 use lib.ListN.{length, getD, getElem?, take, drop, length-append}
 use lib.Seq.{take-append-seam, drop-append-seam, take-append-add, getD-append-add, take-all, take-length, take-nil}
-use lib.Dec.{leb, eqb}
+use lib.Dec.{leb}
 use borrow.Author.Tests.{leb-true, leb-false, le-leb, lt-leb}
-use Rattle.reach.specs.Base.{_∈_, pick}
+use Rattle.reach.specs.Base.{_∈_}
 use Rattle.reach.specs.Limits.{listLimit}
 use Rattle.reach.specs.Syntax.{Program}
 use Rattle.reach.specs.Parts.{prefix}
 use Rattle.reach.specs.Places.{wordAt}
 use Rattle.reach.specs.Search.{Kind, RE, UN, Entry, entries}
-use Rattle.reach.specs.Lists.{wordBytes, kindBytes, entryBytes, listBytes, onSize, roomOf, written, knownMark, entrySize, entrySpan, entryPart}
+use Rattle.reach.specs.Lists.{wordBytes, kindBytes, entryBytes, listBytes, onSize, roomOf, written, knownMark, entrySize, entrySpan, entryPart, Decoded, decoded}
 use Rattle.reach.specs.Answers.{accepted, check, SearchAnswer, noSearch, complete, cutShort, searchAnswer, listed}
-use Rattle.reach.proofs.Base.{clash, picked}
+use Rattle.reach.proofs.Base.{picked}
 use Rattle.reach.proofs.Limits.{accepted-keeps}
 use Rattle.reach.proofs.EntryLength.{entry-within}
 use Rattle.reach.proofs.Answers.{Means, search-means, listed-in}
@@ -85,7 +85,7 @@ abbrev pub partWithin : ℕ → List ℕ → ℕ → List ℕ
 partWithin n list k = onSize [] (λ span. take (span .1) (drop (span .0) list)) (entrySpan (take n list) k 0)
 
 -- to take n bytes is to take as many of them as there are
-counted : (n : ℕ) (l : List ℕ) → take n l ≡ take (min (length l) n) l
+pub counted : (n : ℕ) (l : List ℕ) → take n l ≡ take (min (length l) n) l
 counted n l = go (leb (length l) n) refl
   where
     go : (t : Bool) → leb (length l) n ≡ t → take n l ≡ take (min (length l) n) l
@@ -298,15 +298,6 @@ written-beyond file work list p h k beyond =
 
 -- Decoding: what the bytes of an entry say.
 
-pub record Decoded : Type 0 where
-  pub kind : Kind
-  pub steps : ℕ
-  pub parameters : List ℕ
-
--- the kind by the first byte of the mark, the steps by their two bytes, and the parameters in prefix form behind the header
-unfoldable pub decoded : List ℕ → Decoded
-decoded l = record { kind = pick (eqb (getD l 0 0) 0x52) RE UN; steps = wordAt l 2; parameters = drop 6 l }
-
 decoded-marked : (k : Kind) (s : ℕ) (p : List ℕ) → s < 65536 → decoded (bytesOf k s p) ≡ record { kind = k; steps = s; parameters = p }
 unfolding decoded kindBytes wordBytes wordAt
 decoded-marked RE s p small = rw (two-bytes s small)
@@ -326,7 +317,7 @@ bytes-determine e f small small′ same =
     (ap (λ (d : Decoded). d .kind) both, ap (λ (d : Decoded). d .steps) both, ap (λ (d : Decoded). d .parameters) both)
 
 -- the steps of an entry of an accepted file fit their two bytes
-entry-steps : (file : List ℕ) (p : Program) → check file ≡ accepted p → (e : Entry) → e ∈ entries p → e .steps < 65536
+pub entry-steps : (file : List ℕ) (p : Program) → check file ≡ accepted p → (e : Entry) → e ∈ entries p → e .steps < 65536
 entry-steps file p h e m = omega (arith, (entry-within file p h e m) .1, (accepted-keeps file p h) .steps-limit)
 
 -- as of any two entries of an accepted file

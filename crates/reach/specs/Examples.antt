@@ -1,6 +1,6 @@
 -- The starred examples of 01 as one table. The checker computes each row from the bytes of P, with its label, D and S changed, and finds what
 -- stands beside it: the lines of the list and the verdict, or the end of a closed run. A second table has what P cannot show, a missing
--- alternative, and a third P in buffers that are just long enough and one too short.
+-- alternative, a third P in buffers that are just long enough and one too short, and a fourth what `reachlist` prints.
 -- Rests on the definitions alone.
 use Prim.Native.Nat.{ℕ, _+_, _*_}
 use mathlib.Core.Path.{_≡_, refl}
@@ -25,6 +25,8 @@ use Rattle.reach.specs.Input
 use Rattle.reach.specs.Lists
 use Rattle.reach.specs.Lists.{listBytes}
 use Rattle.reach.specs.Answers
+use Rattle.reach.specs.Text
+use Rattle.reach.specs.Text.{decimal, share, text}
 use Rattle.reach.specs.Answers.{RunAnswer, noRun, ran, searchAnswer, listed, refusalOf, verdictOf, runAnswer}
 
 -- P with this label, D and S; P itself has 7, 4 and 20. (S is below 256.)
@@ -40,11 +42,12 @@ Line = Kind × ℕ × List ℕ
 abbrev pub shown : Entry → Line
 shown e = (e .kind, e .steps, prefix (e .input))
 
--- What a row asks: the search of a file, the bytes of its list, or the closed run of a file on an input; and, where the buffers are not those
+-- What a row asks: the search of a file, the bytes of its list, its printed text, or the closed run of a file on an input; and, where the buffers are not those
 -- of `reachlist`, with which.
 pub data Asked : Type 0 where
   search-of : List ℕ → Asked
   bytes-of : List ℕ → Asked
+  text-of : List ℕ → Asked
   run-of : List ℕ → List ℕ → Asked
   -- with a work slice of so many words
   _with-work_ : Asked → ℕ → Asked
@@ -72,6 +75,7 @@ given work list (search-of file) =
     let a = searchAnswer file work list in
     searched (map shown (listed a)) (verdictOf a) (Option·map numberOf (refusalOf a))
 given work list (bytes-of file) = bytes (listBytes (listed (searchAnswer file work list)))
+given work list (text-of file) = bytes (text (searchAnswer file work list))
 given work list (run-of file input) = answers (runAnswer file input work)
 given work list (a with-work n) = given n list a
 given work list (a with-list n) = given work n a
@@ -145,6 +149,21 @@ rooms =
     ∷ run-of (p-with 7 4 20) (0 ∷ []) with-work (64 * 20 + 1023) ⇒ answers (noRun WorkTooShort)
     ∷ []
 
+-- what `reachlist` prints of P, of P with S 5 and with D 2, of P with a list slice that is one too short, and of an empty file:
+-- "reach 6 1 1 _" / "total 1 0 0 found"
+-- "unfinished 5 1 _" / "total 0 1 100 undecided"
+-- "total 0 0 0 none"
+-- "refused 12"
+-- "refused 1"
+abbrev pub printed : List Row
+printed =
+    text-of (p-with 7 4 20) ⇒ bytes (0x72 ∷ 0x65 ∷ 0x61 ∷ 0x63 ∷ 0x68 ∷ 0x20 ∷ 0x36 ∷ 0x20 ∷ 0x31 ∷ 0x20 ∷ 0x31 ∷ 0x20 ∷ 0x5f ∷ 0x0a ∷ 0x74 ∷ 0x6f ∷ 0x74 ∷ 0x61 ∷ 0x6c ∷ 0x20 ∷ 0x31 ∷ 0x20 ∷ 0x30 ∷ 0x20 ∷ 0x30 ∷ 0x20 ∷ 0x66 ∷ 0x6f ∷ 0x75 ∷ 0x6e ∷ 0x64 ∷ 0x0a ∷ [])
+    ∷ text-of (p-with 7 4 5) ⇒ bytes (0x75 ∷ 0x6e ∷ 0x66 ∷ 0x69 ∷ 0x6e ∷ 0x69 ∷ 0x73 ∷ 0x68 ∷ 0x65 ∷ 0x64 ∷ 0x20 ∷ 0x35 ∷ 0x20 ∷ 0x31 ∷ 0x20 ∷ 0x5f ∷ 0x0a ∷ 0x74 ∷ 0x6f ∷ 0x74 ∷ 0x61 ∷ 0x6c ∷ 0x20 ∷ 0x30 ∷ 0x20 ∷ 0x31 ∷ 0x20 ∷ 0x31 ∷ 0x30 ∷ 0x30 ∷ 0x20 ∷ 0x75 ∷ 0x6e ∷ 0x64 ∷ 0x65 ∷ 0x63 ∷ 0x69 ∷ 0x64 ∷ 0x65 ∷ 0x64 ∷ 0x0a ∷ [])
+    ∷ text-of (p-with 7 2 20) ⇒ bytes (0x74 ∷ 0x6f ∷ 0x74 ∷ 0x61 ∷ 0x6c ∷ 0x20 ∷ 0x30 ∷ 0x20 ∷ 0x30 ∷ 0x20 ∷ 0x30 ∷ 0x20 ∷ 0x6e ∷ 0x6f ∷ 0x6e ∷ 0x65 ∷ 0x0a ∷ [])
+    ∷ text-of (p-with 7 4 20) with-list 8 ⇒ bytes (0x72 ∷ 0x65 ∷ 0x66 ∷ 0x75 ∷ 0x73 ∷ 0x65 ∷ 0x64 ∷ 0x20 ∷ 0x31 ∷ 0x32 ∷ 0x0a ∷ [])
+    ∷ text-of [] ⇒ bytes (0x72 ∷ 0x65 ∷ 0x66 ∷ 0x75 ∷ 0x73 ∷ 0x65 ∷ 0x64 ∷ 0x20 ∷ 0x31 ∷ 0x0a ∷ [])
+    ∷ []
+
 -- all the definitions that an answer is made of: to unfold this is to unfold them
 definitions : Unit {0}
 unfolding
@@ -166,6 +185,8 @@ unfolding
     Lists.wordBytes Lists.kindBytes Lists.entryBytes Lists.listBytes Lists.cut Lists.roomOf
     Answers.check Answers.cutAnswer Answers.searchChecked Answers.searchAnswer Answers.listed Answers.refusalOf Answers.verdictOf Answers.outcomeOf
     Answers.runInput Answers.runChecked Answers.runAnswer
+    Text.spaced Text.lineFrom Text.digitsBy Text.decimal Text.kindWord Text.partWord Text.lineSaying Text.lineOf Text.count Text.share
+    Text.totalSaying Text.totalLine Text.refusalLine Text.text
     List.flatMap List.zipWith
 definitions = tt
 
@@ -183,3 +204,18 @@ missing-alternative = refl
 pub just-enough : AsExpected rooms
 unfolding definitions
 just-enough = refl
+
+-- the printed text of 01's example, and of the other ends of a search
+pub printed-text : AsExpected printed
+unfolding definitions
+printed-text = refl
+
+-- numbers of one digit and more, and the share of 0 of 0, of 1 of 3 and of 2 of 3
+pub decimals : map decimal (0 ∷ 9 ∷ 10 ∷ 4096 ∷ [])
+    ≡ (0x30 ∷ []) ∷ (0x39 ∷ []) ∷ (0x31 ∷ 0x30 ∷ []) ∷ (0x34 ∷ 0x30 ∷ 0x39 ∷ 0x36 ∷ []) ∷ []
+unfolding definitions
+decimals = refl
+
+pub shares : share 0 0 ∷ share 2 1 ∷ share 1 2 ∷ [] ≡ 0 ∷ 33 ∷ 66 ∷ []
+unfolding definitions
+shares = refl

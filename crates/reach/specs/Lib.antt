@@ -12,6 +12,7 @@ pub mod RuleFile
 pub mod Input
 pub mod Lists
 pub mod Answers
+pub mod Text
 pub mod Examples
 pub mod Encoding
 pub mod Places

@@ -74,3 +74,18 @@ entrySpan l (suc k) i = onSize none (λ n. entrySpan l k (i + n)) (entrySize l i
 -- 01: the entry of a given number is the part of the list that it fills, from mark to last byte; else the empty part at the list's end
 unfoldable pub entryPart : List ℕ → ℕ → List ℕ
 entryPart list k = onSize [] (λ span. take (span .1) (drop (span .0) list)) (entrySpan (take listLimit list) k 0)
+
+-- What the bytes of an entry say.
+pub record Decoded : Type 0 where
+  pub kind : Kind
+  pub steps : ℕ
+  pub parameters : List ℕ
+
+-- the kind by the first byte of the mark, the steps by their two bytes, and the parameters in prefix form behind the header
+unfoldable pub decoded : List ℕ → Decoded
+decoded l = record { kind = pick (eqb (getD l 0 0) 0x52) RE UN; steps = wordAt l 2; parameters = drop 6 l }
+
+-- the entries that stand one behind the other from place i on, at most so many, up to the first place where none stands
+unfoldable pub decodedFrom : ℕ → List ℕ → ℕ → List Decoded
+decodedFrom zero l i = []
+decodedFrom (suc more) l i = onSize [] (λ n. decoded (take n (drop i l)) ∷ decodedFrom more l (i + n)) (entrySize l i)

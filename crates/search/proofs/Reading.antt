@@ -17,7 +17,7 @@ use Rattle.reach.specs.Types.{Typed, sourceSlots, leastDepths}
 use Rattle.reach.specs.Eval.{State}
 use Rattle.reach.specs.Search.{Entry, branches, openInput, entries}
 use Rattle.reach.specs.RuleFile.{deepEnough}
-use Rattle.reach.specs.Lists.{entryBytes, listBytes, entryPart}
+use Rattle.reach.specs.Lists.{entryBytes, listBytes, entryPart, Decoded, decoded}
 use Rattle.reach.specs.Answers.{accepted, check}
 use Rattle.reach.proofs.Base.{clash, nth-member}
 use Rattle.reach.proofs.WellTyped.{at-getD}
@@ -26,7 +26,7 @@ use Rattle.reach.proofs.Depths.{Fit, open-fit, bind-fit, fit-typed}
 use Rattle.reach.proofs.Evaluation.{waits-free}
 use Rattle.reach.proofs.EntryLength.{entry-within}
 use Rattle.reach.proofs.Entries.{Finds, at-target, at-limit, at-limit-waiting, by-step, by-fork, entry-found}
-use Rattle.reach.proofs.ReadBack.{Decoded, decoded, decoded-entry, entry-read-back, beyond-end}
+use Rattle.reach.proofs.ReadBack.{decoded-entry, entry-read-back, beyond-end}
 use Rattle.listing.proofs.Bytes.{entry-length}
 use Rattle.search.specs.Listing.{ReadsAs}
 

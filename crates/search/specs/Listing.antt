@@ -1,5 +1,5 @@
 -- The verdict while entries are listed one by one; and what a caller takes from an answer and from the bytes of its list.
--- Rests on reach's Search and Lists, on its ReadBack for the decoding of an entry's bytes, and on the enum of src/lib.rt.
+-- Rests on reach's Search and Lists, and on the enum of src/lib.rt.
 use Prim.Native.Nat.{ℕ}
 use mathlib.Core.Path.{_≡_}
 use mathlib.Core.List.{List, []}
@@ -12,8 +12,7 @@ use Rattle.reach.specs.Syntax.{Program, sourceTypes}
 use Rattle.reach.specs.Parts.{prefix}
 use Rattle.reach.specs.Types.{Typed}
 use Rattle.reach.specs.Search.{Kind, RE, UN, Entry}
-use Rattle.reach.specs.Lists.{entryPart}
-use Rattle.reach.proofs.ReadBack.{decoded}
+use Rattle.reach.specs.Lists.{entryPart, decoded}
 use Rattle.search.specs.declared.Answer.{Answer}
 use Rattle.search.specs.declared.Answer.the-variants as Answer
 

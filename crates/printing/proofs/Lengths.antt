@@ -1,0 +1,211 @@
+-- How long the text of a list is: at most four times the list, and a last line of at most 64 bytes.
+-- Rests on Digits, Lines and Walk, and on Text of crate reach.
+use Prim.Native.Nat.{ℕ, zero, suc, _+_, _*_, _-_, _/_, _≤_, _<_}
+use mathlib.Core.Path.{_≡_, refl, sym, ap, subst}
+use mathlib.Core.Bool.{Bool, true, false}
+use mathlib.Core.List.{List, [], _∷_, map, flatMap}
+use mathlib.Core.Option.{Option, none, some}
+use native.Mathlib.Nat.{div-le-of-le-mul}
+use native.Mathlib.Omega.{arith}
+use lib.ListN.{length, getD, take, drop, length-append, length-take, length-drop, List·getD-eq-default}
+use lib.Seq.{getD-take, getD-drop}
+use lib.Dec.{ltb, eqb}
+use borrow.Author.Tests.{ltb-true, ltb-false}
+use Rattle.reach.specs.declared.Refusal.{Refusal}
+use Rattle.reach.specs.declared.Refusal.the-variants.{ListFull}
+use Rattle.reach.specs.declared.Verdict.{Verdict}
+use Rattle.reach.specs.Base.{pick}
+use Rattle.reach.specs.Limits.{listLimit}
+use Rattle.reach.specs.Words.{numberOf, verdictWord}
+use Rattle.reach.specs.Places.{wordAt}
+use Rattle.reach.specs.Search.{Kind, RE, UN}
+use Rattle.reach.specs.Lists.{onSize, entrySize, Decoded, decoded, decodedFrom}
+use Rattle.reach.specs.Text.{spaced, lineFrom, decimal, kindWord, partWord, lineSaying, oneMore, count, share, totalSaying, refusalLine, verdictBy, lastLine, textFrom, listText}
+use Rattle.reach.proofs.ReadBack.{size-inside}
+use Rattle.printing.proofs.Digits.{decimal-one, decimal-more}
+use Rattle.printing.proofs.Lines.{kind-few, verdict-few, number-few}
+use Rattle.printing.proofs.Walk.{size-least}
+
+-- one digit, or one more than the tenth has
+digit-one : (n : ℕ) → n < 10 → length (decimal n) ≤ 1
+digit-one n h = omega (arith, ap length (decimal-one n h))
+
+digit-more : (k n : ℕ) → length (decimal (n / 10)) ≤ k → length (decimal n) ≤ k + 1
+digit-more k n h = go (ltb n 10) refl
+  where
+    go : (t : Bool) → ltb n 10 ≡ t → length (decimal n) ≤ k + 1
+    go true e = omega (arith, digit-one n (ltb-true n 10 e))
+    go false e = omega (arith, simp length-append at (ap length (decimal-more n (ltb-false n 10 e))))
+
+digits-three : (n : ℕ) → n < 1000 → length (decimal n) ≤ 3
+digits-three n h = digit-more 2 n (digit-more 1 (n / 10) (digit-one (n / 10 / 10) (omega arith)))
+
+digits-five : (n : ℕ) → n < 100000 → length (decimal n) ≤ 5
+digits-five n h = digit-more 4 n (digit-more 3 (n / 10) (digits-three (n / 10 / 10) (omega arith)))
+
+digits-eight : (n : ℕ) → n < 100000000 → length (decimal n) ≤ 8
+digits-eight n h = digit-more 7 n (digit-more 6 (n / 10) (digit-more 5 (n / 10 / 10) (digits-five (n / 10 / 10 / 10) (omega arith))))
+
+-- every element is a byte
+abbrev pub Bytes : List ℕ → Type 0
+Bytes l = (i : ℕ) → getD l i 0 < 256
+
+-- A line: four bytes for a byte.
+
+part-short : (b : ℕ) → b < 256 → length (partWord b) ≤ 3
+unfolding partWord
+part-short b h = go (eqb b 0xff)
+  where
+    go : (t : Bool) → length (pick t (0x5f ∷ []) (decimal b)) ≤ 3
+    go true = omega arith
+    go false = digits-three b (omega arith)
+
+parts-short : (ps : List ℕ) → Bytes ps → length (spaced (map partWord ps)) ≤ 4 * length ps
+unfolding spaced flatMap
+parts-short [] h = omega arith
+parts-short (p ∷ ps) h =
+    omega (arith, part-short p (h 0), parts-short ps (λ i. h (suc i)), length-append (partWord p) (spaced (map partWord ps)))
+
+line-length : (first : List ℕ) (others : List (List ℕ)) → length (lineFrom first others) ≡ length first + length (spaced others) + 1
+unfolding lineFrom
+line-length first others = simp length-append (omega arith)
+
+spaced-more : (w : List ℕ) (ws : List (List ℕ)) → length (spaced (w ∷ ws)) ≡ length w + length (spaced ws) + 1
+unfolding spaced flatMap
+spaced-more w ws = omega (arith, length-append w (spaced ws))
+
+spaced-none : length (spaced []) ≡ 0
+unfolding spaced flatMap
+spaced-none = refl
+
+saying-short : (k : Kind) (s : ℕ) (ps : List ℕ) → s < 65536 → Bytes ps
+    → length (lineSaying (record { kind = k; steps = s; parameters = ps })) ≤ 17 + 4 * length ps
+unfolding lineSaying
+saying-short k s ps small h =
+    omega (
+      arith,
+      line-length (kindWord k) (decimal s ∷ map partWord ps),
+      spaced-more (decimal s) (map partWord ps),
+      kind-few k,
+      digits-five s (omega arith),
+      parts-short ps h,
+    )
+
+entry-short : (e : List ℕ) → 6 ≤ length e → Bytes e → length (lineSaying (decoded e)) ≤ 4 * length e
+unfolding decoded wordAt
+entry-short e six h =
+    omega (
+      arith,
+      saying-short (pick (eqb (getD e 0 0) 0x52) RE UN) (getD e 2 0 + 256 * getD e 3 0) (drop 6 e) (omega (arith, h 2, h 3))
+          (λ i. subst (λ (b : ℕ). b < 256) (sym (getD-drop 6 e i 0)) (h (6 + i))),
+      length-drop 6 e,
+    )
+
+-- The lines of a list, and how many there are.
+
+pub part-bytes : (l : List ℕ) (i n : ℕ) → Bytes l → Bytes (take n (drop i l))
+part-bytes l i n h j = go (ltb j n) refl
+  where
+    go : (t : Bool) → ltb j n ≡ t → getD (take n (drop i l)) j 0 < 256
+    go true e = rw (getD-take n (drop i l) j 0 (ltb-true j n e), getD-drop i l j 0) (h (i + j))
+    go false e =
+        let out : length (take n (drop i l)) ≤ j = simp length-take (omega (arith, ltb-false j n e)) in
+        rw (List·getD-eq-default (take n (drop i l)) 0 out) (omega arith)
+
+lines-short : (more : ℕ) (l : List ℕ) (i : ℕ) → Bytes l
+    → (length (flatMap lineSaying (decodedFrom more l i)) ≤ 4 * (length l - i)) × (length (decodedFrom more l i) ≤ length l - i)
+unfolding decodedFrom flatMap
+lines-short zero l i h = (omega arith, omega arith)
+lines-short (suc more) l i h = go (λ n. lines-short more l (i + n) h) (entrySize l i) refl
+  where
+    go : ((n : ℕ) → (length (flatMap lineSaying (decodedFrom more l (i + n))) ≤ 4 * (length l - (i + n)))
+        × (length (decodedFrom more l (i + n)) ≤ length l - (i + n)))
+        → (o : Option ℕ) → entrySize l i ≡ o
+        → (length (flatMap lineSaying (onSize [] (λ n. decoded (take n (drop i l)) ∷ decodedFrom more l (i + n)) o)) ≤ 4 * (length l - i))
+        × (length (onSize [] (λ n. decoded (take n (drop i l)) ∷ decodedFrom more l (i + n)) o) ≤ length l - i)
+    go later none e = (omega arith, omega arith)
+    go later (some n) e =
+        let inside = size-inside l i n e in
+        let least = size-least l i n e in
+        let full : length (take n (drop i l)) ≡ n = simp (length-take, length-drop) (omega arith) in
+        let line = entry-short (take n (drop i l)) (omega arith) (part-bytes l i n h) in
+        let rest = later n in (
+          omega (arith, length-append (lineSaying (decoded (take n (drop i l)))) (flatMap lineSaying (decodedFrom more l (i + n)))),
+          omega arith,
+        )
+
+count-few : (k : Kind) (ks : List Kind) → count k ks ≤ length ks
+unfolding count
+count-few k [] = omega arith
+count-few k (l ∷ ks) = go k l (count-few k ks)
+  where
+    go : (j i : Kind) → count k ks ≤ length ks → oneMore j i (count k ks) ≤ suc (length ks)
+    go RE RE h = omega arith
+    go RE UN h = omega arith
+    go UN RE h = omega arith
+    go UN UN h = omega arith
+
+-- The last line.
+
+share-short : (a b : ℕ) → share a b ≤ 100
+unfolding share
+share-short a b = go (eqb (a + b) 0)
+  where
+    go : (t : Bool) → pick t 0 (100 * b / (a + b)) ≤ 100
+    go true = omega arith
+    go false = div-le-of-le-mul (a + b) (omega arith)
+
+pub refusal-short : (why : Refusal) → length (refusalLine why) ≤ 64
+unfolding refusalLine
+refusal-short why =
+    omega (
+      arith,
+      line-length (0x72 ∷ 0x65 ∷ 0x66 ∷ 0x75 ∷ 0x73 ∷ 0x65 ∷ 0x64 ∷ []) (decimal (numberOf why) ∷ []),
+      spaced-more (decimal (numberOf why)) [],
+      spaced-none,
+      digits-three (numberOf why) (omega (arith, number-few why)),
+    )
+
+total-short : (a b : ℕ) (v : Verdict) → a ≤ 16777216 → b ≤ 16777216 → length (totalSaying a b v) ≤ 64
+unfolding totalSaying
+total-short a b v ha hb =
+    omega (
+      arith,
+      line-length (0x74 ∷ 0x6f ∷ 0x74 ∷ 0x61 ∷ 0x6c ∷ []) (decimal a ∷ decimal b ∷ decimal (share a b) ∷ verdictWord v ∷ []),
+      spaced-more (decimal a) (decimal b ∷ decimal (share a b) ∷ verdictWord v ∷ []),
+      spaced-more (decimal b) (decimal (share a b) ∷ verdictWord v ∷ []),
+      spaced-more (decimal (share a b)) (verdictWord v ∷ []),
+      spaced-more (verdictWord v) [],
+      spaced-none,
+      digits-eight a (omega arith),
+      digits-eight b (omega arith),
+      digits-three (share a b) (omega (arith, share-short a b)),
+      verdict-few v,
+    )
+
+last-short : (full : Bool) (a b : ℕ) → a ≤ 16777216 → b ≤ 16777216 → length (lastLine full a b) ≤ 64
+unfolding lastLine
+last-short true a b ha hb = refusal-short ListFull
+last-short false a b ha hb = total-short a b (verdictBy a b) ha hb
+
+-- the whole text, for any limit of the bytes that count up to 16,777,216
+text-within : (n : ℕ) (full : Bool) (l : List ℕ) → n ≤ 16777216 → Bytes l
+    → length (textFrom full 0 0 (decodedFrom (length (take n l)) (take n l) 0)) ≤ 4 * length l + 64
+unfolding textFrom
+text-within n full l limit h =
+    let bytes : Bytes (take n l) = part-bytes l 0 n h in
+    let ds = decodedFrom (length (take n l)) (take n l) 0 in
+    let kinds = map (λ (d : Decoded). d .kind) ds in
+    let short = lines-short (length (take n l)) (take n l) 0 bytes in
+    let few = length-kinds ds in
+    let taken = length-take n l in
+    let last = last-short full (0 + count RE kinds) (0 + count UN kinds) (omega (arith, count-few RE kinds)) (omega (arith, count-few UN kinds)) in
+    omega (arith, length-append (flatMap lineSaying ds) (lastLine full (0 + count RE kinds) (0 + count UN kinds)))
+  where
+    length-kinds : (ds : List Decoded) → length (map (λ (d : Decoded). d .kind) ds) ≡ length ds
+    length-kinds [] = refl
+    length-kinds (d ∷ ds) = ap suc (length-kinds ds)
+
+pub text-short : (full : Bool) (l : List ℕ) → Bytes l → length (listText full l) ≤ 4 * length l + 64
+unfolding listText
+text-short full l h = text-within listLimit full l (omega arith) h

@@ -1,0 +1,115 @@
+-- The pieces of a line behind one another, and how long they are.
+-- Rests on Writing, Digits, and Text of crate reach.
+use Prim.Native.Nat.{ℕ, suc, _+_, _*_, _/_, _≤_, _<_}
+use mathlib.Core.Bool.{Bool, true, false}
+use mathlib.Core.List.{List, [], _∷_, map, flatMap}
+use native.Mathlib.Nat.{div-le-self}
+use native.Mathlib.Omega.{arith}
+use native.Mathlib.Numerals.{add-one}
+use lib.ListN.{length, getD, drop, drop-of-length-le}
+use lib.Seq.{drop-cons}
+use lib.Dec.{eqb}
+use Rattle.reach.specs.declared.Refusal.{Refusal}
+use Rattle.reach.specs.declared.Refusal.the-variants as refusal
+use Rattle.reach.specs.declared.Verdict.{Verdict}
+use Rattle.reach.specs.declared.Verdict.the-variants.{Found, Undecided, None}
+use Rattle.reach.specs.Base.{pick}
+use Rattle.reach.specs.Words.{numberOf, verdictWord}
+use Rattle.reach.specs.Search.{Kind, RE, UN}
+use Rattle.reach.specs.Text.{space, lineFeed, spaced, lineFrom, decimal, kindWord, partWord, lineSaying, share, totalSaying, refusalLine}
+use Rattle.printing.specs.Writing.{Puts}
+use Rattle.printing.proofs.Writing.{puts-none, puts-then, Left, left-next, left-none}
+use Rattle.printing.proofs.Digits.{decimal-few, part-few}
+
+-- A word, byte by byte.
+module _ (w : List ℕ) (i : ℕ) {t whole u : List ℕ} {at to : ℕ} where
+  pub word-next : {v : List ℕ} {m : ℕ} → Left t at whole u to (drop i w) → i < length w → Puts u to (getD w i 0 ∷ []) v m
+      → Left t at whole v m (drop (i + 1) w)
+  word-next l h p = rw add-one (left-next {a = getD w i 0 ∷ []} {b = drop (suc i) w} (rw (drop-cons w i 0 h) at l) p)
+
+  pub word-done : Left t at whole u to (drop i w) → length w ≤ i → Puts t at whole u to
+  word-done l h = left-none (rw (drop-of-length-le w h) at l)
+
+-- The parameters of an entry, byte by byte.
+module _ (e : List ℕ) (i : ℕ) {t whole u : List ℕ} {at to : ℕ} where
+  pub parts-next : {v : List ℕ} {m : ℕ} → Left t at whole u to (spaced (map partWord (drop i e))) → i < length e
+      → Puts u to (space ∷ partWord (getD e i 0)) v m → Left t at whole v m (spaced (map partWord (drop (i + 1) e)))
+  unfolding spaced flatMap
+  parts-next l h p =
+      rw add-one
+      (left-next {a = space ∷ partWord (getD e i 0)} {b = spaced (map partWord (drop (suc i) e))} (rw (drop-cons e i 0 h) at l) p)
+
+  pub parts-done : Left t at whole u to (spaced (map partWord (drop i e))) → length e ≤ i → Puts t at whole u to
+  unfolding spaced flatMap
+  parts-done l h = left-none (rw (drop-of-length-le e h) at l)
+
+-- The line of an entry: its kind, its steps, its parameters, a line feed.
+module _ {t u v w x : List ℕ} {at m n o r : ℕ} where
+  pub line-put : (k : Kind) (s : ℕ) (ps : List ℕ) → Puts t at (kindWord k) u m → Puts u m (space ∷ decimal s) v n
+      → Puts v n (spaced (map partWord ps)) w o → Puts w o (lineFeed ∷ []) x r
+      → Puts t at (lineSaying (record { kind = k; steps = s; parameters = ps })) x r
+  unfolding lineSaying lineFrom spaced flatMap
+  line-put k s ps a b c d = puts-then a (puts-then (puts-then b c) d)
+
+-- The total line: the word, the two counts, the share, the verdict, a line feed.
+module _ {t u v w x y z : List ℕ} {at m n o p q r : ℕ} where
+  pub total-put : (a b : ℕ) (g : Verdict) → Puts t at (0x74 ∷ 0x6f ∷ 0x74 ∷ 0x61 ∷ 0x6c ∷ []) u m → Puts u m (space ∷ decimal a) v n
+      → Puts v n (space ∷ decimal b) w o → Puts w o (space ∷ decimal (share a b)) x p → Puts x p (space ∷ verdictWord g) y q
+      → Puts y q (lineFeed ∷ []) z r → Puts t at (totalSaying a b g) z r
+  unfolding totalSaying lineFrom spaced flatMap
+  total-put a b g word one two three four end =
+      puts-then word (puts-then (puts-then one (puts-then two (puts-then three (puts-then four (puts-none y q))))) end)
+
+-- The line of a refusal: the word, the number, a line feed.
+module _ {t u v w : List ℕ} {at m n r : ℕ} where
+  pub refusal-put : (why : Refusal) → Puts t at (0x72 ∷ 0x65 ∷ 0x66 ∷ 0x75 ∷ 0x73 ∷ 0x65 ∷ 0x64 ∷ []) u m
+      → Puts u m (space ∷ decimal (numberOf why)) v n → Puts v n (lineFeed ∷ []) w r → Puts t at (refusalLine why) w r
+  unfolding refusalLine lineFrom spaced flatMap
+  refusal-put why word number end = puts-then word (puts-then (puts-then number (puts-none v n)) end)
+
+-- How long they are, and where they end.
+
+pub kind-few : (k : Kind) → length (kindWord k) ≤ 10
+unfolding kindWord
+kind-few RE = omega arith
+kind-few UN = omega arith
+
+pub verdict-few : (v : Verdict) → length (verdictWord v) ≤ 9
+verdict-few Found = omega arith
+verdict-few Undecided = omega arith
+verdict-few None = omega arith
+
+pub share-few : (a b : ℕ) → share a b ≤ 100 * b
+unfolding share
+share-few a b = go (eqb (a + b) 0)
+  where
+    go : (t : Bool) → pick t 0 (100 * b / (a + b)) ≤ 100 * b
+    go true = omega arith
+    go false = div-le-self (100 * b) (a + b)
+
+pub number-few : (why : Refusal) → numberOf why ≤ 12
+number-few refusal.Truncated = omega arith
+number-few refusal.UnexpectedMark = omega arith
+number-few refusal.OutOfRange = omega arith
+number-few refusal.UnknownNumber = omega arith
+number-few refusal.UnknownCode = omega arith
+number-few refusal.TypeMismatch = omega arith
+number-few refusal.TrailingBytes = omega arith
+number-few refusal.EmptyType = omega arith
+number-few refusal.DepthTooSmall = omega arith
+number-few refusal.BadInput = omega arith
+number-few refusal.WorkTooShort = omega arith
+number-few refusal.ListFull = omega arith
+
+module _ {t u : List ℕ} {at r : ℕ} where
+  pub number-end : (n : ℕ) → Puts t at (space ∷ decimal n) u r → r ≤ at + (n + 2)
+  number-end n p = omega (arith, p .place, decimal-few n)
+
+  pub part-end : (b : ℕ) → b < 256 → Puts t at (space ∷ partWord b) u r → r ≤ at + 257
+  part-end b h p = omega (arith, p .place, part-few b h)
+
+  pub kind-end : (k : Kind) → Puts t at (kindWord k) u r → r ≤ at + 10
+  kind-end k p = omega (arith, p .place, kind-few k)
+
+  pub verdict-end : (v : Verdict) → Puts t at (space ∷ verdictWord v) u r → r ≤ at + 10
+  verdict-end v p = omega (arith, p .place, verdict-few v)

@@ -1,0 +1,104 @@
+-- `printing::put_total` meets its contract: the pieces stand in the definition's order.
+-- Rests on Lines.
+use native.Mathlib.Omega.{arith}
+use borrow.Author.Needs.{needs}
+use Rattle.reach.specs.Text.{verdictBy}
+use Rattle.printing.proofs.Lines.{total-put, number-end, verdict-end, share-few}
+use Rattle.printing.proofs.put_total.Tie as tie
+use Rattle.printing.proofs.put_total.Statement.{statement}
+
+put-number-requires : tie.Need-put-number-requires
+put-number-requires c κs = omega (arith, c .before .before .before .put-word .ensures .place)
+
+put-number-requires-2 : tie.Need-put-number-requires-2
+put-number-requires-2 c κs =
+    let put-word = c .before .before .before .before .before .before .before .put-word in
+    let put-number = c .before .before .before .put-number in
+    omega (arith, put-word .ensures .place, number-end _ (put-number .ensures))
+
+put-number-requires-3 : tie.Need-put-number-requires-3
+put-number-requires-3 c κs =
+    let a = c .before .before .before .before .before .before .before .before .before .before .before .before .before .before .before .before .args in
+    let pre = c .before .before .before .before .before .before .before .before .before .before .before .before .before .before .before .before .pre in
+    let put-word = c .before .before .before .before .before .before .before .before .before .before .before .before .put-word in
+    let put-number = c .before .before .before .before .before .before .before .before .put-number in
+    let put-number2 = c .before .before .before .before .put-number2 in
+    omega (
+      arith,
+      pre,
+      put-word .ensures .place,
+      number-end _ (put-number .ensures),
+      number-end _ (put-number2 .ensures),
+      c .share-of .ensures,
+      share-few (a .reach) (a .unfinished),
+    )
+
+put-verdict-requires : tie.Need-put-verdict-requires
+put-verdict-requires c κs =
+    let a = c .before .before .before .before .before .before .before .before .before .before .before .before .before .before .before .before .before .before .before .before .args in
+    let pre = c .before .before .before .before .before .before .before .before .before .before .before .before .before .before .before .before .before .before .before .before .pre in
+    let put-word = c .before .before .before .before .before .before .before .before .before .before .before .before .before .before .before .before .put-word in
+    let put-number = c .before .before .before .before .before .before .before .before .before .before .before .before .put-number in
+    let put-number2 = c .before .before .before .before .before .before .before .before .put-number2 in
+    let share-of = c .before .before .before .before .share-of in
+    let put-number3 = c .before .before .before .put-number3 in
+    omega (
+      arith,
+      pre,
+      put-word .ensures .place,
+      number-end _ (put-number .ensures),
+      number-end _ (put-number2 .ensures),
+      number-end _ (put-number3 .ensures),
+      share-of .ensures,
+      share-few (a .reach) (a .unfinished),
+    )
+
+put-byte-requires : tie.Need-put-byte-requires
+put-byte-requires c κs =
+    let a = c .before .before .before .before .before .before .before .before .before .before .before .before .before .before .before .before .before .before .before .before .before .before .before .before .args in
+    let pre = c .before .before .before .before .before .before .before .before .before .before .before .before .before .before .before .before .before .before .before .before .before .before .before .before .pre in
+    let put-word = c .before .before .before .before .before .before .before .before .before .before .before .before .before .before .before .before .before .before .before .before .put-word in
+    let put-number = c .before .before .before .before .before .before .before .before .before .before .before .before .before .before .before .before .put-number in
+    let put-number2 = c .before .before .before .before .before .before .before .before .before .before .before .before .put-number2 in
+    let share-of = c .before .before .before .before .before .before .before .before .share-of in
+    let put-number3 = c .before .before .before .before .before .before .before .put-number3 in
+    let put-verdict = c .before .before .before .put-verdict in
+    omega (
+      arith,
+      pre,
+      put-word .ensures .place,
+      number-end _ (put-number .ensures),
+      number-end _ (put-number2 .ensures),
+      number-end _ (put-number3 .ensures),
+      share-of .ensures,
+      share-few (a .reach) (a .unfinished),
+      verdict-end (verdictBy (a .reach) (a .unfinished)) (put-verdict .ensures),
+    )
+
+returns : tie.Need-returns
+returns c =
+    let a = c .before .before .before .before .before .before .before .before .before .before .before .before .before .before .before .before .before .before .before .before .before .before .before .before .before .before .before .args in
+    let put-word = c .before .before .before .before .before .before .before .before .before .before .before .before .before .before .before .before .before .before .before .before .before .before .before .put-word in
+    let put-number = c .before .before .before .before .before .before .before .before .before .before .before .before .before .before .before .before .before .before .before .put-number in
+    let put-number2 = c .before .before .before .before .before .before .before .before .before .before .before .before .before .before .before .put-number2 in
+    let share-of = c .before .before .before .before .before .before .before .before .before .before .before .share-of in
+    let put-number3 = c .before .before .before .before .before .before .before .before .before .before .put-number3 in
+    let put-verdict = c .before .before .before .before .before .before .put-verdict in
+    let put-byte = c .before .before .put-byte in
+    total-put (a .reach) (a .unfinished) (verdictBy (a .reach) (a .unfinished)) (put-word .ensures) (put-number .ensures) (put-number2 .ensures)
+    (rw (share-of .ensures) at (put-number3 .ensures)) (put-verdict .ensures) (put-byte .ensures)
+
+pub put-total-spec : {M : Type 1} → statement M
+put-total-spec =
+    tie.close
+    (tie.spec
+    (λ c. search needs)
+    (λ c κs. search needs)
+    put-number-requires
+    put-number-requires-2
+    (λ c κs. search needs)
+    put-number-requires-3
+    put-verdict-requires
+    put-byte-requires
+    (λ c. search needs)
+    returns)

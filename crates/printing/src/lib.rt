@@ -1,0 +1,242 @@
+// The printed text of a list, written into a lent slice. Every function that writes answers with the place behind its text, also where the
+// slice is too short for it: so a caller sees by the place whether all of it was written. Rests on crates reach, records, rulefile and
+// entries.
+ghost use mathlib.Core.Path.{_≡_};
+ghost use mathlib.Core.List.{[], _∷_, map};
+ghost use Prim.Native.Nat.{_+_, _*_, _≤_, _<_};
+ghost use lib.ListN.{length, drop};
+ghost use lib.Dec.{eqb};
+ghost use Rattle.reach.specs.Base.{pick};
+ghost use Rattle.reach.specs.Search.{RE, UN};
+ghost use Rattle.reach.specs.Lists.{decoded, decodedFrom};
+ghost use Rattle.reach.specs.Words.{verdictWord};
+ghost use Rattle.reach.specs.Text.{space, spaced, digit, decimal, kindWord, partWord, lineSaying, count, share, totalSaying, refusalLine, verdictBy, lastLine, textFrom, listText};
+ghost use Rattle.printing.specs.Writing.{Fronts, Puts};
+use entries::Size;
+use entries::room;
+use entries::size_at;
+use entries::word_at;
+use reach::Refusal;
+use records::wide;
+use rulefile::number;
+
+// Writes one byte.
+fn put_byte(text: &mut [u8], at: usize, b: u8) -> usize
+    requires { ⌜ at < 9223372036854775808 ⌝ }
+    ensures { λ r. ⌜ Puts (now (text .entry)) at (b ∷ []) (now (text .exit)) r ⌝ }
+{
+    if text.len() <= at {
+        return at + 1;
+    }
+    text[at] = b;
+    at + 1
+}
+
+// Writes the bytes of a word.
+fn put_word(word: &[u8], text: &mut [u8], at: usize) -> usize
+    requires { ⌜ (length (now word) ≤ 4096) × (at < 4611686018427387904) ⌝ }
+    ensures { λ r. ⌜ Puts (now (text .entry)) at (now (word .entry)) (now (text .exit)) r ⌝ }
+{
+    let mut i: usize = 0;
+    let mut to = at;
+    while i < word.len() {
+        to = put_byte(text, to, word[i]);
+        i += 1;
+    }
+    to
+}
+
+// The last digit of a number, in ASCII.
+fn last_digit(n: u64) -> u8
+    ensures { λ r. ⌜ r ≡ digit n ⌝ }
+{
+    48 + (n % 10) as u8
+}
+
+// Writes a number in decimal: the digits before the last one, if there are any, and the last.
+fn put_decimal(text: &mut [u8], at: usize, n: u64) -> usize
+    requires { ⌜ at + n < 9223372036854775808 ⌝ }
+    ensures { λ r. ⌜ Puts (now (text .entry)) at (decimal n) (now (text .exit)) r ⌝ }
+{
+    if n < 10 {
+        return put_byte(text, at, last_digit(n));
+    }
+    let last = put_decimal(text, at, n / 10);
+    put_byte(text, last, last_digit(n))
+}
+
+// Writes a space and a number.
+fn put_number(text: &mut [u8], at: usize, n: u64) -> usize
+    requires { ⌜ at + n < 4611686018427387904 ⌝ }
+    ensures { λ r. ⌜ Puts (now (text .entry)) at (space ∷ decimal n) (now (text .exit)) r ⌝ }
+{
+    let digits = put_byte(text, at, b' ');
+    put_decimal(text, digits, n)
+}
+
+// Writes a space and a byte of the prefix form.
+fn put_part(text: &mut [u8], at: usize, b: u8) -> usize
+    requires { ⌜ at < 2305843009213693952 ⌝ }
+    ensures { λ r. ⌜ Puts (now (text .entry)) at (space ∷ partWord b) (now (text .exit)) r ⌝ }
+{
+    if b == 255 {
+        return put_word(b" _", text, at);
+    }
+    put_number(text, at, wide(b) as u64)
+}
+
+// Writes the parameters of an entry, each byte behind a space.
+fn put_parts(entry: &[u8], text: &mut [u8], at: usize) -> usize
+    requires { ⌜ (6 ≤ length (now entry)) × (length (now entry) ≤ 16777216) × (at < 1152921504606846976) ⌝ }
+    ensures { λ r. ⌜ Puts (now (text .entry)) at (spaced (map partWord (drop 6 (now (entry .entry))))) (now (text .exit)) r × (r ≤ at + 257 * length (now (entry .entry))) ⌝ }
+{
+    let mut i: usize = 6;
+    let mut to = at;
+    while i < entry.len() {
+        to = put_part(text, to, entry[i]);
+        i += 1;
+    }
+    to
+}
+
+// Writes the word for the kind that a mark's first byte stands for.
+fn put_kind(mark: u8, text: &mut [u8], at: usize) -> usize
+    requires { ⌜ at < 4611686018427387904 ⌝ }
+    ensures { λ r. ⌜ Puts (now (text .entry)) at (kindWord (pick (eqb mark 0x52) RE UN)) (now (text .exit)) r ⌝ }
+{
+    if mark == b'R' {
+        return put_word(b"reach", text, at);
+    }
+    put_word(b"unfinished", text, at)
+}
+
+// Writes the line of an entry.
+fn put_line(entry: &[u8], text: &mut [u8], at: usize) -> usize
+    requires { ⌜ (6 ≤ length (now entry)) × (length (now entry) ≤ 16777216) × (at < 576460752303423488) ⌝ }
+    ensures { λ r. ⌜ Puts (now (text .entry)) at (lineSaying (decoded (now (entry .entry)))) (now (text .exit)) r × (r ≤ at + 70000 * length (now (entry .entry))) ⌝ }
+{
+    let steps = put_kind(entry[0], text, at);
+    let parts = put_number(text, steps, word_at(entry, 2) as u64);
+    let end = put_parts(entry, text, parts);
+    put_byte(text, end, b'\n')
+}
+
+// The unfinished share of both counts in whole per cent, rounded down.
+fn share_of(reach: u64, unfinished: u64) -> u64
+    requires { ⌜ (reach ≤ 16777216) × (unfinished ≤ 16777216) ⌝ }
+    ensures { λ r. ⌜ r ≡ share reach unfinished ⌝ }
+{
+    let both = reach + unfinished;
+    if both == 0 {
+        return 0;
+    }
+    100 * unfinished / both
+}
+
+// Writes a space and the verdict that the counts give.
+fn put_verdict(text: &mut [u8], at: usize, reach: u64, unfinished: u64) -> usize
+    requires { ⌜ at < 4611686018427387904 ⌝ }
+    ensures { λ r. ⌜ Puts (now (text .entry)) at (space ∷ verdictWord (verdictBy reach unfinished)) (now (text .exit)) r ⌝ }
+{
+    if 0 < reach {
+        return put_word(b" found", text, at);
+    }
+    if 0 < unfinished {
+        return put_word(b" undecided", text, at);
+    }
+    put_word(b" none", text, at)
+}
+
+// Writes the total line.
+fn put_total(text: &mut [u8], at: usize, reach: u64, unfinished: u64) -> usize
+    requires { ⌜ (at < 1152921504606846976) × (reach ≤ 16777216) × (unfinished ≤ 16777216) ⌝ }
+    ensures { λ r. ⌜ Puts (now (text .entry)) at (totalSaying reach unfinished (verdictBy reach unfinished)) (now (text .exit)) r ⌝ }
+{
+    let first = put_word(b"total", text, at);
+    let second = put_number(text, first, reach);
+    let third = put_number(text, second, unfinished);
+    let verdict = put_number(text, third, share_of(reach, unfinished));
+    let end = put_verdict(text, verdict, reach, unfinished);
+    put_byte(text, end, b'\n')
+}
+
+// Writes the line of a refusal.
+fn put_refusal(text: &mut [u8], at: usize, why: Refusal) -> usize
+    requires { ⌜ at < 1152921504606846976 ⌝ }
+    ensures { λ r. ⌜ Puts (now (text .entry)) at (refusalLine why) (now (text .exit)) r ⌝ }
+{
+    let refusal = put_word(b"refused", text, at);
+    let end = put_number(text, refusal, number(why));
+    put_byte(text, end, b'\n')
+}
+
+// Writes the last line of a list's text: refusal 12 where the list was cut short, else the total line.
+fn put_last(full: bool, text: &mut [u8], at: usize, reach: u64, unfinished: u64) -> usize
+    requires { ⌜ (at < 1152921504606846976) × (reach ≤ 16777216) × (unfinished ≤ 16777216) ⌝ }
+    ensures { λ r. ⌜ Puts (now (text .entry)) at (lastLine full reach unfinished) (now (text .exit)) r ⌝ }
+{
+    if full {
+        return put_refusal(text, at, Refusal::ListFull);
+    }
+    put_total(text, at, reach, unfinished)
+}
+
+// 1 for the mark of an entry that is reached, else 0.
+fn reach_one(mark: u8) -> u64
+    ensures { λ r. ⌜ r ≡ count RE (pick (eqb mark 0x52) RE UN ∷ []) ⌝ }
+{
+    if mark == b'R' {
+        return 1;
+    }
+    0
+}
+
+// 1 for the mark of an entry that is unfinished, else 0.
+fn unfinished_one(mark: u8) -> u64
+    ensures { λ r. ⌜ r ≡ count UN (pick (eqb mark 0x52) RE UN ∷ []) ⌝ }
+{
+    if mark == b'R' {
+        return 0;
+    }
+    1
+}
+
+// Writes the text of a list of at most 16,777,216 bytes. Each turn of the loop writes the line of an entry.
+fn put_list(full: bool, list: &[u8], text: &mut [u8]) -> usize
+    requires { ⌜ length (now list) ≤ 16777216 ⌝ }
+    ensures { λ r. ⌜ Puts (now (text .entry)) 0 (textFrom full 0 0 (decodedFrom (length (now (list .entry))) (now (list .entry)) 0)) (now (text .exit)) r ⌝ }
+{
+    let mut at: usize = 0;
+    let mut to: usize = 0;
+    let mut reach: u64 = 0;
+    let mut unfinished: u64 = 0;
+    let mut more = list.len();
+    while 0 < more {
+        let Size::Bytes(n) = size_at(list, at) else {
+            return put_last(full, text, to, reach, unfinished);
+        };
+        let stop = at + n;
+        to = put_line(&list[at..stop], text, to);
+        reach += reach_one(list[at]);
+        unfinished += unfinished_one(list[at]);
+        at = stop;
+        more -= 1;
+    }
+    put_last(full, text, to, reach, unfinished)
+}
+
+// Writes the text of a list to the front of a slice, and answers with the text's length: the lines of its entries, and the total line, or
+// refusal 12 for a list that was cut short. A slice that is too short has as many bytes of the text as it holds.
+pub fn list_text(list: &[u8], full: bool, text: &mut [u8]) -> usize
+    ensures { λ r. ⌜ Fronts (now (text .entry)) (listText full (now (list .entry))) (now (text .exit)) r ⌝ }
+{
+    let end = room(list.len());
+    put_list(full, &list[..end], text)
+}
+
+// Writes the line of a refusal to the front of a slice, and answers with its length.
+pub fn refusal_text(why: Refusal, text: &mut [u8]) -> usize
+    ensures { λ r. ⌜ Fronts (now (text .entry)) (refusalLine why) (now (text .exit)) r ⌝ }
+{
+    put_refusal(text, 0, why)
+}
