@@ -30,7 +30,7 @@ pub struct View {
 }
 
 // The view with one more variable.
-pub fn with_one(view: View, t: usize) -> View
+fn with_one(view: View, t: usize) -> View
     requires { ⌜ (view .count ≤ 39) × (t ≤ 255) ⌝ }
     ensures { λ r. ⌜ (viewOf r ≡ viewOf view ++ (t ∷ [])) × (r .count ≡ view .count + 1) ⌝ }
 {
@@ -42,7 +42,7 @@ pub fn with_one(view: View, t: usize) -> View
 }
 
 // The view with n more variables, whose types stand from a place on.
-pub fn extended(view: View, s: &[u8], at: usize, n: usize) -> View
+fn extended(view: View, s: &[u8], at: usize, n: usize) -> View
     requires { ⌜ (view .count + n ≤ 40) × (at ≤ 1000000) ⌝ }
     ensures { λ r. ⌜ (viewOf r ≡ viewOf view ++ bytesAt (now (s .entry)) at n) × (r .count ≡ view .count + n) ⌝ }
 {
@@ -59,7 +59,7 @@ pub fn extended(view: View, s: &[u8], at: usize, n: usize) -> View
 }
 
 // The expression's own nesting and view are within their limits.
-pub fn in_limits(left: usize, view: View) -> bool
+fn in_limits(left: usize, view: View) -> bool
     requires { ⌜ view .count ≤ 38 ⌝ }
     ensures { λ r. ⌜ Limits left view r ⌝ }
 {
@@ -71,7 +71,7 @@ pub fn in_limits(left: usize, view: View) -> bool
 }
 
 // A variable: its number; its type is that of the view.
-pub fn variable(body: &[u8], at: usize, left: usize, view: View, expected: usize) -> Step
+fn variable(body: &[u8], at: usize, left: usize, view: View, expected: usize) -> Step
     requires { ⌜ view .count ≤ 38 ⌝ }
     ensures { λ r. ⌜ r ≡ stepOf (variableAt left (viewOf view) expected (now (body .entry)) at) ⌝ }
 {
@@ -92,7 +92,7 @@ pub fn variable(body: &[u8], at: usize, left: usize, view: View, expected: usize
 }
 
 // An expression, which may nest so many deep: its code, and what its kind reads behind it.
-pub fn expression<'a>(
+fn expression<'a>(
     file: &'a [u8],
     body: &'a [u8],
     types: &'a [u16],
@@ -120,7 +120,7 @@ pub fn expression<'a>(
 }
 
 // A call: the function's number, and an operand for each of its parameters.
-pub fn call<'a>(
+fn call<'a>(
     file: &'a [u8],
     body: &'a [u8],
     types: &'a [u16],
@@ -161,7 +161,7 @@ pub fn call<'a>(
 }
 
 // A construction: the type's and the constructor's number, and an operand for each field.
-pub fn construct<'a>(
+fn construct<'a>(
     file: &'a [u8],
     body: &'a [u8],
     types: &'a [u16],
@@ -204,7 +204,7 @@ pub fn construct<'a>(
 }
 
 // A case: the type's number, the subject, and an alternative or none for each constructor of the type.
-pub fn case<'a>(
+fn case<'a>(
     file: &'a [u8],
     body: &'a [u8],
     types: &'a [u16],
@@ -247,7 +247,7 @@ pub fn case<'a>(
 }
 
 // A let: the type's number, the bound expression, and the body, which sees one more variable.
-pub fn bind<'a>(
+fn bind<'a>(
     file: &'a [u8],
     body: &'a [u8],
     types: &'a [u16],
@@ -287,7 +287,7 @@ pub fn bind<'a>(
 }
 
 // A target: the label, and the expression inside.
-pub fn target<'a>(
+fn target<'a>(
     file: &'a [u8],
     body: &'a [u8],
     types: &'a [u16],
@@ -310,7 +310,7 @@ pub fn target<'a>(
 }
 
 // An expression for each of the n types that stand from a place of the file on.
-pub fn operands<'a>(
+fn operands<'a>(
     file: &'a [u8],
     body: &'a [u8],
     types: &'a [u16],
@@ -349,7 +349,7 @@ pub fn operands<'a>(
 }
 
 // An alternative or none for each of the n constructors whose records stand from a place of the file on.
-pub fn alternatives<'a>(
+fn alternatives<'a>(
     file: &'a [u8],
     body: &'a [u8],
     types: &'a [u16],
@@ -392,7 +392,7 @@ pub fn alternatives<'a>(
 }
 
 // A byte: 0 for no alternative, or 1 and an expression that sees the n fields too.
-pub fn alternative<'a>(
+fn alternative<'a>(
     file: &'a [u8],
     body: &'a [u8],
     types: &'a [u16],
@@ -429,7 +429,7 @@ pub fn alternative<'a>(
 }
 
 // The body of function f, and nothing behind its expression.
-pub fn body_of<'a>(file: &'a [u8], types: &'a [u16], functions: &'a [u16], f: usize) -> Step
+fn body_of<'a>(file: &'a [u8], types: &'a [u16], functions: &'a [u16], f: usize) -> Step
     requires { ⌜ Small (now file) (now types) (now functions) × (f < length (now functions)) × BodyThere (now file) (getD (now functions) f 0) ⌝ }
     ensures { λ r. ⌜ r ≡ stepOf (bodyAt (now (file .entry)) (now (types .entry)) (now (functions .entry)) (getD (now (functions .entry)) f 0)) ⌝ }
 {

@@ -19,7 +19,7 @@ pub fn word_or_zero(work: &[u32], at: usize) -> usize
 }
 
 // Makes k open cells from cell `first` on: their types stand from a place of the file on, and each may be so deep.
-pub fn open_cells(file: &[u8], work: &mut [u32], first: usize, fields: usize, k: usize, room: usize)
+fn open_cells(file: &[u8], work: &mut [u32], first: usize, fields: usize, k: usize, room: usize)
     requires { ⌜ (5 * (first + k) ≤ length (now work)) × (k ≤ 255) × (fields ≤ 1000000) × (room ≤ 255) ⌝ }
     ensures { λ _. ⌜ Opens (now (work .entry)) (now (work .exit)) first k (bytesAt (now (file .entry)) fields k) room ⌝ }
 {
@@ -44,7 +44,7 @@ pub fn start_cells(file: &[u8], work: &mut [u32], parameters: usize, n: usize, d
 }
 
 // Makes one open cell.
-pub fn open_cell(work: &mut [u32], cell: usize, t: usize, room: usize)
+fn open_cell(work: &mut [u32], cell: usize, t: usize, room: usize)
     requires { ⌜ (5 * cell + 5 ≤ length (now work)) × (t ≤ 255) × (room ≤ 255) ⌝ }
     ensures { λ _. ⌜ now (work .exit) ≡ openCell (now (work .entry)) cell t room ⌝ }
 {

@@ -55,7 +55,7 @@ pub fn push_choice(
 }
 
 // The cell of choice point h is opened again, as it was before it was bound.
-pub fn reopen(work: &mut [u32], stack: usize, h: usize)
+fn reopen(work: &mut [u32], stack: usize, h: usize)
     requires { ⌜ (stack ≤ 1000000) × (h ≤ 1000000) × (5 * choiceWord stack (now work) h 0 + 1 < length (now work)) ⌝ }
     ensures { λ _. ⌜ now (work .exit) ≡ reopened stack (now (work .entry)) h ⌝ }
 {
@@ -66,7 +66,7 @@ pub fn reopen(work: &mut [u32], stack: usize, h: usize)
 }
 
 // The next constructor of choice point h: the head of its cell is its number, or that of one before it.
-pub fn candidate<'a>(
+fn candidate<'a>(
     file: &'a [u8],
     types: &'a [u16],
     least: Depths,

@@ -43,7 +43,7 @@ pub struct Advanced {
 
 // Binds the open cell x to the constructor that stands at its noted place in the input, and notes where its fields' values stand;
 // the new cells are from `cells` on. Answers how many are in use then.
-pub fn bind_asked<'a>(
+fn bind_asked<'a>(
     file: &'a [u8],
     types: &'a [u16],
     input: &'a [u8],
@@ -77,7 +77,7 @@ pub fn bind_asked<'a>(
 }
 
 // One step; a part that a case looks at is bound first.
-pub fn advance<'a>(
+fn advance<'a>(
     file: &'a [u8],
     types: &'a [u16],
     functions: &'a [u16],
@@ -114,7 +114,7 @@ pub fn advance<'a>(
 }
 
 // The end of a run after so many steps, by what comes next where no step is left.
-pub fn last(next: Next, done: usize) -> Outcome
+fn last(next: Next, done: usize) -> Outcome
     requires { ⌜ done ≤ 4096 ⌝ }
     ensures { λ o. ⌜ o ≡ endedAs next done ⌝ }
 {
@@ -127,7 +127,7 @@ pub fn last(next: Next, done: usize) -> Outcome
 }
 
 // At most so many steps from the registers on.
-pub fn go_on<'a>(
+fn go_on<'a>(
     file: &'a [u8],
     types: &'a [u16],
     functions: &'a [u16],
@@ -164,7 +164,7 @@ pub fn go_on<'a>(
 
 // The words at the beginning: open cells for the n parameters of the source, whose types stand from place `first` of the file on, with
 // their values' places noted, and the records of the empty environment and of the parameters' group.
-pub fn begin<'a>(
+fn begin<'a>(
     file: &'a [u8],
     types: &'a [u16],
     input: &'a [u8],
@@ -184,7 +184,7 @@ pub fn begin<'a>(
 }
 
 // The run of a checked file's rule on a closed input that fits.
-pub fn evaluate<'a>(
+fn evaluate<'a>(
     file: &'a [u8],
     types: &'a [u16],
     functions: &'a [u16],

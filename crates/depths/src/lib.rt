@@ -20,14 +20,14 @@ pub struct Depths {
 }
 
 // The least depth of a type; 0 for a number that is no type's.
-pub fn depth_of(table: Depths, t: usize) -> usize
+fn depth_of(table: Depths, t: usize) -> usize
     ensures { λ r. ⌜ r ≡ getD (table .of) t 0 ⌝ }
 {
     if t < 32 { table.of[t] as usize } else { 0 }
 }
 
 // A depth is known for each of the n types that stand from a place on.
-pub fn all_known(s: &[u8], at: usize, n: usize, table: Depths) -> bool
+fn all_known(s: &[u8], at: usize, n: usize, table: Depths) -> bool
     requires { ⌜ (at ≤ 1000000) × (n ≤ 255) ⌝ }
     ensures { λ r. ⌜ r ≡ known (table .of) (bytesAt (now (s .entry)) at n) ⌝ }
 {
@@ -44,7 +44,7 @@ pub fn all_known(s: &[u8], at: usize, n: usize, table: Depths) -> bool
 }
 
 // One of the n constructors from a place on has fields of known types only.
-pub fn is_inhabited(s: &[u8], at: usize, n: usize, table: Depths) -> bool
+fn is_inhabited(s: &[u8], at: usize, n: usize, table: Depths) -> bool
     requires { ⌜ (at ≤ 65536) × (n ≤ 255) ⌝ }
     ensures { λ r. ⌜ r ≡ inhabited (table .of) (constructorsAt (now (s .entry)) at n) ⌝ }
 {
@@ -82,7 +82,7 @@ pub struct Round {
 }
 
 // The round after so many rounds.
-pub fn next_round<'a>(s: &'a [u8], types: &'a [u16], made: u8, old: Depths) -> Round
+fn next_round<'a>(s: &'a [u8], types: &'a [u16], made: u8, old: Depths) -> Round
     requires { ⌜ RoundsMade (now s) (now types) made (old .of) ⌝ }
     ensures { λ r. ⌜ RoundMade (now (s .entry)) (now (types .entry)) made (old .of) (r .table .of) (r .changed) ⌝ }
 {

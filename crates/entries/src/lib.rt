@@ -24,7 +24,7 @@ pub enum Span {
 }
 
 // Two bytes are the mark of an entry.
-pub fn known_mark(a: u8, b: u8) -> bool
+fn known_mark(a: u8, b: u8) -> bool
     ensures { λ r. ⌜ r ≡ knownMark a b ⌝ }
 {
     if is_mark(a, b, b"RE") {

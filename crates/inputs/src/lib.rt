@@ -19,7 +19,7 @@ pub enum Behind {
 }
 
 // A closed value for each of the n types that stand from a place of the file on, each at most so deep.
-pub fn values<'a>(
+fn values<'a>(
     file: &'a [u8],
     types: &'a [u16],
     input: &'a [u8],

@@ -72,7 +72,7 @@ pub fn constructors_of<'a>(s: &'a [u8], types: &'a [u16], t: usize) -> Construct
 }
 
 // Where the fields of constructor c stand, of the n constructors from a place on.
-pub fn fields_at(s: &[u8], at: usize, n: usize, c: usize) -> Fields
+fn fields_at(s: &[u8], at: usize, n: usize, c: usize) -> Fields
     requires { ⌜ (at ≤ 65536) × (n ≤ 255) ⌝ }
     ensures { λ r. ⌜ fieldsOf (now (s .entry)) r ≡ getElem? (constructorsAt (now (s .entry)) at n) c ⌝ }
     ensures near { λ r. ⌜ Near r ⌝ }

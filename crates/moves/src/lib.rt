@@ -42,7 +42,7 @@ pub struct Moved {
 }
 
 // Behind the end of a path.
-pub fn over(cells: usize, done: usize, height: usize, listing: Listing) -> Moved
+fn over(cells: usize, done: usize, height: usize, listing: Listing) -> Moved
     ensures { λ m. ⌜ m ≡ record { walk = record { position = Position.Over; cells = cells; done = done; height = height }; listing = listing } ⌝ }
 {
     Moved {
@@ -57,7 +57,7 @@ pub fn over(cells: usize, done: usize, height: usize, listing: Listing) -> Moved
 }
 
 // The path arrives at its state: one step more, or the end of the path, or a choice point where a case waits.
-pub fn arrive<'a>(
+fn arrive<'a>(
     file: &'a [u8],
     types: &'a [u16],
     functions: &'a [u16],
@@ -103,7 +103,7 @@ pub fn arrive<'a>(
 }
 
 // The registers to which a step goes on, or else those from which it began.
-pub fn registers_after(next: Next, from: Registers) -> Registers
+fn registers_after(next: Next, from: Registers) -> Registers
     ensures { λ r. ⌜ r ≡ registersAfter next from ⌝ }
 {
     match next {
@@ -116,7 +116,7 @@ pub fn registers_after(next: Next, from: Registers) -> Registers
 
 // Choice point h takes constructor c, whose k fields' types stand from a place of the file on: its cell is bound to it, and the
 // path goes on behind the case.
-pub fn take_fork<'a>(
+fn take_fork<'a>(
     file: &'a [u8],
     types: &'a [u16],
     functions: &'a [u16],
@@ -163,7 +163,7 @@ pub fn take_fork<'a>(
 }
 
 // Behind the end of a path: the return to the last choice point with a constructor left, or the end of the search.
-pub fn go_back<'a>(
+fn go_back<'a>(
     file: &'a [u8],
     types: &'a [u16],
     functions: &'a [u16],

@@ -11,7 +11,7 @@ use lookups::head_of;
 use records::byte_or_zero;
 
 // The n bytes from a place on are all below a limit.
-pub fn all_below(s: &[u8], at: usize, n: usize, limit: usize) -> bool
+fn all_below(s: &[u8], at: usize, n: usize, limit: usize) -> bool
     requires { ⌜ (at ≤ 1000000) × (n ≤ 255) ⌝ }
     ensures { λ r. ⌜ r ≡ allBelow limit (bytesAt (now (s .entry)) at n) ⌝ }
 {
@@ -28,7 +28,7 @@ pub fn all_below(s: &[u8], at: usize, n: usize, limit: usize) -> bool
 }
 
 // The field types of n constructors from a place on all exist.
-pub fn constructors_exist(s: &[u8], at: usize, n: usize, limit: usize) -> bool
+fn constructors_exist(s: &[u8], at: usize, n: usize, limit: usize) -> bool
     requires { ⌜ (at ≤ 65536) × (n ≤ 255) ⌝ }
     ensures { λ r. ⌜ r ≡ constructorsExist limit (constructorsAt (now (s .entry)) at n) ⌝ }
 {
@@ -46,7 +46,7 @@ pub fn constructors_exist(s: &[u8], at: usize, n: usize, limit: usize) -> bool
 }
 
 // The field types of all types exist.
-pub fn types_exist<'a>(s: &'a [u8], types: &'a [u16], limit: usize) -> bool
+fn types_exist<'a>(s: &'a [u8], types: &'a [u16], limit: usize) -> bool
     ensures { λ r. ⌜ r ≡ typesExist limit (map (typeAt (now (s .entry))) (now (types .entry))) ⌝ }
 {
     let mut t: usize = 0;
@@ -61,7 +61,7 @@ pub fn types_exist<'a>(s: &'a [u8], types: &'a [u16], limit: usize) -> bool
 }
 
 // The parameter and result types of all functions exist.
-pub fn heads_exist<'a>(s: &'a [u8], functions: &'a [u16], limit: usize) -> bool
+fn heads_exist<'a>(s: &'a [u8], functions: &'a [u16], limit: usize) -> bool
     ensures { λ r. ⌜ r ≡ headsExist limit (map (headAt (now (s .entry))) (now (functions .entry))) ⌝ }
 {
     let mut f: usize = 0;

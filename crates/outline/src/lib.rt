@@ -53,7 +53,7 @@ pub struct Outlined {
 }
 
 // The mark behind a type, where so many more types may come.
-pub fn turn_after_type(s: &[u8], at: usize, more: usize) -> Turn
+fn turn_after_type(s: &[u8], at: usize, more: usize) -> Turn
     ensures { λ r. ⌜ moreTypes more (now (s .entry)) at ≡ typesTurn (now (s .entry)) more r ⌝ }
     ensures room { λ r. ⌜ Room more r ⌝ }
 {
@@ -75,7 +75,7 @@ pub fn turn_after_type(s: &[u8], at: usize, more: usize) -> Turn
 }
 
 // The mark behind a function, where so many more functions may come.
-pub fn turn_after_function(s: &[u8], at: usize, more: usize) -> Turn
+fn turn_after_function(s: &[u8], at: usize, more: usize) -> Turn
     ensures { λ r. ⌜ moreFunctions more (now (s .entry)) at ≡ functionsTurn (now (s .entry)) more r ⌝ }
     ensures room { λ r. ⌜ Room more r ⌝ }
 {
@@ -97,7 +97,7 @@ pub fn turn_after_function(s: &[u8], at: usize, more: usize) -> Turn
 }
 
 // The types from behind the first mark to behind the mark of the first function.
-pub fn read_types(s: &[u8], first: usize) -> TypeTable
+fn read_types(s: &[u8], first: usize) -> TypeTable
     requires { ⌜ length (now s) ≤ 16384 ⌝ }
     ensures { λ r. ⌜ typesFrom 31 (now (s .entry)) first ≡ typesOf (now (s .entry)) r ⌝ }
     ensures limit { λ r. ⌜ r .count ≤ typeLimit ⌝ }
@@ -137,7 +137,7 @@ pub fn read_types(s: &[u8], first: usize) -> TypeTable
 }
 
 // The functions from behind the first mark to behind the mark GO.
-pub fn read_functions(s: &[u8], first: usize) -> FunctionTable
+fn read_functions(s: &[u8], first: usize) -> FunctionTable
     requires { ⌜ length (now s) ≤ 16384 ⌝ }
     ensures { λ r. ⌜ functionsFrom 63 (now (s .entry)) first ≡ functionsOf (now (s .entry)) r ⌝ }
     ensures limit { λ r. ⌜ r .count ≤ functionLimit ⌝ }
@@ -177,7 +177,7 @@ pub fn read_functions(s: &[u8], first: usize) -> FunctionTable
 }
 
 // The place behind the first mark, which must be that of a type.
-pub fn first_mark(s: &[u8]) -> Step
+fn first_mark(s: &[u8]) -> Step
     ensures { λ r. ⌜ r ≡ stepOf (firstMark (now (s .entry)) 0) ⌝ }
 {
     let Marked::Mark(mark, next) = mark_at_start(s) else {
@@ -192,7 +192,7 @@ pub fn first_mark(s: &[u8]) -> Step
 }
 
 // An outline that was not read.
-pub fn not_read(step: Step) -> Outlined
+fn not_read(step: Step) -> Outlined
     ensures { λ r. ⌜ r .step ≡ step ⌝ }
     ensures nothing { λ r. ⌜ (r .types ≡ 0) × (r .functions ≡ 0) × (r .«goal_at» ≡ 0) ⌝ }
 {
@@ -207,7 +207,7 @@ pub fn not_read(step: Step) -> Outlined
 }
 
 // The goal and the end of the file.
-pub fn last_record(s: &[u8], at: usize) -> Step
+fn last_record(s: &[u8], at: usize) -> Step
     ensures { λ r. ⌜ r ≡ stepOf (lastRecord (now (s .entry)) at) ⌝ }
 {
     let step = skip_goal(s, at);

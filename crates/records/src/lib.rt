@@ -79,7 +79,7 @@ pub fn take_byte(s: &[u8], at: usize) -> Taken
     }
 }
 
-pub fn take_word(s: &[u8], at: usize) -> TakenWord
+fn take_word(s: &[u8], at: usize) -> TakenWord
     ensures { λ r. ⌜ r ≡ wordOf (word (now (s .entry)) at) ⌝ }
 {
     let Taken::Byte(low, middle) = take_byte(s, at) else {
@@ -98,7 +98,7 @@ pub fn is_mark(a: u8, b: u8, mark: &[u8; 2]) -> bool
     if a == mark[0] { b == mark[1] } else { false }
 }
 
-pub fn mark_of(a: u8, b: u8) -> Mark
+fn mark_of(a: u8, b: u8) -> Mark
     ensures { λ r. ⌜ r ≡ markNamed (Rattle.reach.specs.RuleFile.markOf a b) ⌝ }
 {
     if is_mark(a, b, b"TY") {
@@ -126,7 +126,7 @@ pub fn take_mark(s: &[u8], at: usize) -> Marked
 }
 
 // So many bytes passed over.
-pub fn pass(s: &[u8], at: usize, n: usize) -> Step
+fn pass(s: &[u8], at: usize, n: usize) -> Step
     ensures { λ r. ⌜ r ≡ stepOf (passed n (now (s .entry)) at) ⌝ }
 {
     if s.len() < at {
@@ -139,7 +139,7 @@ pub fn pass(s: &[u8], at: usize, n: usize) -> Step
 }
 
 // So many single bytes read.
-pub fn skip_bytes(s: &[u8], at: usize, n: usize) -> Step
+fn skip_bytes(s: &[u8], at: usize, n: usize) -> Step
     ensures { λ r. ⌜ r ≡ stepOf (times n byte (now (s .entry)) at) ⌝ }
 {
     if n == 0 {
@@ -148,7 +148,7 @@ pub fn skip_bytes(s: &[u8], at: usize, n: usize) -> Step
     pass(s, at, n)
 }
 
-pub fn skip_constructor(s: &[u8], at: usize) -> Step
+fn skip_constructor(s: &[u8], at: usize) -> Step
     ensures { λ r. ⌜ r ≡ stepOf (constructorRecord (now (s .entry)) at) ⌝ }
 {
     let Taken::Byte(n, next) = take_byte(s, at) else {
@@ -161,7 +161,7 @@ pub fn skip_constructor(s: &[u8], at: usize) -> Step
 }
 
 // So many constructors, one after the other.
-pub fn skip_constructors(s: &[u8], at: usize, n: usize) -> Step
+fn skip_constructors(s: &[u8], at: usize, n: usize) -> Step
     ensures { λ r. ⌜ r ≡ stepOf (times n constructorRecord (now (s .entry)) at) ⌝ }
 {
     let mut place = at;
@@ -194,7 +194,7 @@ pub fn skip_type(s: &[u8], at: usize) -> Step
 }
 
 // A body's length and the body, passed over.
-pub fn skip_body(s: &[u8], at: usize) -> Step
+fn skip_body(s: &[u8], at: usize) -> Step
     ensures { λ r. ⌜ r ≡ stepOf (Rattle.records.specs.Steps.bodyPart (now (s .entry)) at) ⌝ }
 {
     let TakenWord::Word(n, next) = take_word(s, at) else {
@@ -230,7 +230,7 @@ pub fn skip_function(s: &[u8], at: usize) -> Step
 }
 
 // The depth D and the step limit S.
-pub fn skip_limits(s: &[u8], at: usize) -> Step
+fn skip_limits(s: &[u8], at: usize) -> Step
     ensures { λ r. ⌜ r ≡ stepOf (Rattle.records.specs.Steps.limitsPart (now (s .entry)) at) ⌝ }
 {
     let Taken::Byte(d, next) = take_byte(s, at) else {
@@ -272,21 +272,21 @@ pub struct Reader<'a> {
 }
 
 // A reader at the beginning of a file.
-pub fn begin<'a>(file: &'a [u8]) -> Reader<'a>
+fn begin<'a>(file: &'a [u8]) -> Reader<'a>
     ensures { λ r. ⌜ (r .file ≡ file .entry) × (r .at ≡ 0) ⌝ }
 {
     Reader { file, at: 0 }
 }
 
 // The reader at another place of its file.
-pub fn moved<'a>(r: Reader<'a>, at: usize) -> Reader<'a>
+fn moved<'a>(r: Reader<'a>, at: usize) -> Reader<'a>
     ensures { λ q. ⌜ (q .file ≡ r .entry .file) × (q .at ≡ at) ⌝ }
 {
     Reader { file: r.file, at }
 }
 
 // The mark where a reader stands.
-pub fn read_mark<'a>(r: Reader<'a>) -> Marked
+fn read_mark<'a>(r: Reader<'a>) -> Marked
     ensures { λ m. ⌜ m ≡ markedOf (mark (now (r .entry .file)) (r .entry .at)) ⌝ }
 {
     take_mark(r.file, r.at)

@@ -62,7 +62,7 @@ pub fn number(why: Refusal) -> u64
 }
 
 // A file that was refused.
-pub fn turned_back(why: Refusal) -> Loaded
+fn turned_back(why: Refusal) -> Loaded
     ensures { λ r. ⌜ r .answer ≡ Checked.Refused why ⌝ }
 {
     Loaded {
@@ -77,7 +77,7 @@ pub fn turned_back(why: Refusal) -> Loaded
 }
 
 // Each parameter of the source has a closed value that is at most D deep.
-pub fn source_shallow<'a>(file: &'a [u8], functions: &'a [u16], goal: usize, least: Depths) -> bool
+fn source_shallow<'a>(file: &'a [u8], functions: &'a [u16], goal: usize, least: Depths) -> bool
     ensures { λ r. ⌜ r ≡ sourceShallow (now (file .entry)) (now (functions .entry)) goal (least .of) ⌝ }
 {
     let head = head_of(file, functions, source(file, goal));
@@ -85,7 +85,7 @@ pub fn source_shallow<'a>(file: &'a [u8], functions: &'a [u16], goal: usize, lea
 }
 
 // The tests of depth, of a file whose passes found nothing.
-pub fn with_depths(file: &[u8], o: Outlined) -> Loaded
+fn with_depths(file: &[u8], o: Outlined) -> Loaded
     requires { ⌜ Reads (now file) o ⌝ }
     ensures { λ r. ⌜ Loads (now (file .entry)) r ⌝ }
 {
@@ -114,7 +114,7 @@ pub fn with_depths(file: &[u8], o: Outlined) -> Loaded
 }
 
 // The second and third pass, of a file whose first pass found nothing.
-pub fn with_outline(file: &[u8], o: Outlined) -> Loaded
+fn with_outline(file: &[u8], o: Outlined) -> Loaded
     requires { ⌜ Outlines (now file) o ⌝ }
     ensures { λ r. ⌜ Loads (now (file .entry)) r ⌝ }
 {

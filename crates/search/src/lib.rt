@@ -41,7 +41,7 @@ pub enum Answer {
 }
 
 // Whether the search goes on: a path is under way, or there is a choice point.
-pub fn is_active(walk: Walk) -> bool
+fn is_active(walk: Walk) -> bool
     ensures { λ r. ⌜ GoesOn walk r ⌝ }
 {
     let position = walk.position;
@@ -52,7 +52,7 @@ pub fn is_active(walk: Walk) -> bool
 }
 
 // The verdict after a move.
-pub fn verdict_after(verdict: Verdict, listing: Listing) -> Verdict
+fn verdict_after(verdict: Verdict, listing: Listing) -> Verdict
     ensures { λ r. ⌜ r ≡ verdictAfter verdict listing ⌝ }
 {
     match listing {
@@ -63,7 +63,7 @@ pub fn verdict_after(verdict: Verdict, listing: Listing) -> Verdict
 }
 
 // The verdict when an unfinished entry is listed.
-pub fn with_unfinished(verdict: Verdict) -> Verdict
+fn with_unfinished(verdict: Verdict) -> Verdict
     ensures { λ r. ⌜ r ≡ verdictAfter verdict Listing.Unfinished ⌝ }
 {
     match verdict {
@@ -74,7 +74,7 @@ pub fn with_unfinished(verdict: Verdict) -> Verdict
 }
 
 // What a move lists is written to the list from a place on, if it fits.
-pub fn write_listing<'a>(
+fn write_listing<'a>(
     file: &'a [u8],
     types: &'a [u16],
     work: &'a [u32],
@@ -120,7 +120,7 @@ pub fn write_listing<'a>(
 }
 
 // The moves of a search, from the registers at its beginning on, and the list that they give.
-pub fn explore<'a>(
+fn explore<'a>(
     file: &'a [u8],
     types: &'a [u16],
     functions: &'a [u16],
@@ -183,7 +183,7 @@ pub fn explore<'a>(
 
 // The words at the beginning: open cells for the n parameters of the source, whose types stand from a place of the file on, and the
 // records of the empty environment and of the parameters' group.
-pub fn open_input(file: &[u8], work: &mut [u32], base: usize, first: usize, n: usize, deep: usize)
+fn open_input(file: &[u8], work: &mut [u32], base: usize, first: usize, n: usize, deep: usize)
     requires { ⌜ (5 * n ≤ base) × (base + 12 ≤ length (now work)) × (n ≤ 255) × (first ≤ 1000000) × (deep ≤ 255) ⌝ }
     ensures { λ _. ⌜ Opened (now (file .entry)) (now (work .entry)) (now (work .exit)) base first n deep ⌝ }
 {
@@ -193,7 +193,7 @@ pub fn open_input(file: &[u8], work: &mut [u32], base: usize, first: usize, n: u
 }
 
 // The search of a checked file, in as many words as it needs.
-pub fn search_checked<'a>(
+fn search_checked<'a>(
     file: &'a [u8],
     types: &'a [u16],
     functions: &'a [u16],

@@ -40,7 +40,7 @@ pub fn skip_expression<'a>(
 }
 
 // One number.
-pub fn skip_number(file: &[u8], at: usize) -> Step
+fn skip_number(file: &[u8], at: usize) -> Step
     ensures { λ r. ⌜ r ≡ stepOf (numberPart (now (file .entry)) at) ⌝ }
 {
     let Taken::Byte(_, next) = take_byte(file, at) else {
@@ -50,7 +50,7 @@ pub fn skip_number(file: &[u8], at: usize) -> Step
 }
 
 // A function's number and its arguments, each of which nests at most so many deep.
-pub fn skip_call<'a>(
+fn skip_call<'a>(
     file: &'a [u8],
     types: &'a [u16],
     functions: &'a [u16],
@@ -71,7 +71,7 @@ pub fn skip_call<'a>(
 }
 
 // A type, a constructor and its fields.
-pub fn skip_construct<'a>(
+fn skip_construct<'a>(
     file: &'a [u8],
     types: &'a [u16],
     functions: &'a [u16],
@@ -93,7 +93,7 @@ pub fn skip_construct<'a>(
 }
 
 // A type, the scrutinee and the alternatives.
-pub fn skip_case<'a>(
+fn skip_case<'a>(
     file: &'a [u8],
     types: &'a [u16],
     functions: &'a [u16],
@@ -118,7 +118,7 @@ pub fn skip_case<'a>(
 }
 
 // A type, the bound expression and the body.
-pub fn skip_let<'a>(
+fn skip_let<'a>(
     file: &'a [u8],
     types: &'a [u16],
     functions: &'a [u16],
@@ -138,7 +138,7 @@ pub fn skip_let<'a>(
 }
 
 // A label and the expression inside the target.
-pub fn skip_target<'a>(
+fn skip_target<'a>(
     file: &'a [u8],
     types: &'a [u16],
     functions: &'a [u16],
@@ -154,7 +154,7 @@ pub fn skip_target<'a>(
 }
 
 // n expressions, one after the other.
-pub fn skip_all<'a>(
+fn skip_all<'a>(
     file: &'a [u8],
     types: &'a [u16],
     functions: &'a [u16],
@@ -178,7 +178,7 @@ pub fn skip_all<'a>(
 }
 
 // The alternatives of n constructors.
-pub fn skip_alternatives<'a>(
+fn skip_alternatives<'a>(
     file: &'a [u8],
     types: &'a [u16],
     functions: &'a [u16],
@@ -202,7 +202,7 @@ pub fn skip_alternatives<'a>(
 }
 
 // A byte: 0 for no alternative, or another and an expression.
-pub fn skip_alternative<'a>(
+fn skip_alternative<'a>(
     file: &'a [u8],
     types: &'a [u16],
     functions: &'a [u16],

@@ -59,7 +59,7 @@ pub fn word_or_zero(work: &[u32], at: usize) -> usize
 }
 
 // Word k of a record.
-pub fn record_word(work: &[u32], base: usize, r: usize, k: usize) -> usize
+fn record_word(work: &[u32], base: usize, r: usize, k: usize) -> usize
     requires { ⌜ (base ≤ 1000000) × (r < 4294967296) × (k < 4) ⌝ }
     ensures { λ x. ⌜ (x ≡ recordWord (now (work .entry)) base r k) × (x < 4294967296) ⌝ }
 {
@@ -96,7 +96,7 @@ pub fn put_record(work: &mut [u32], base: usize, top: usize, a: usize, b: usize,
 }
 
 // The place behind an expression.
-pub fn behind<'a>(file: &'a [u8], types: &'a [u16], functions: &'a [u16], at: usize) -> usize
+fn behind<'a>(file: &'a [u8], types: &'a [u16], functions: &'a [u16], at: usize) -> usize
     ensures { λ r. ⌜ PassedOver (now (file .entry)) (now (types .entry)) (now (functions .entry)) at r ⌝ }
 {
     match skip_expression(file, types, functions, at, NESTING_LIMIT) {
@@ -106,7 +106,7 @@ pub fn behind<'a>(file: &'a [u8], types: &'a [u16], functions: &'a [u16], at: us
 }
 
 // The place of operand n of those that begin at a place.
-pub fn operand_at<'a>(
+fn operand_at<'a>(
     file: &'a [u8],
     types: &'a [u16],
     functions: &'a [u16],
@@ -125,7 +125,7 @@ pub fn operand_at<'a>(
 }
 
 // The place behind one alternative.
-pub fn behind_alternative<'a>(
+fn behind_alternative<'a>(
     file: &'a [u8],
     types: &'a [u16],
     functions: &'a [u16],
@@ -141,7 +141,7 @@ pub fn behind_alternative<'a>(
 }
 
 // The alternative for constructor c of those that begin at a place.
-pub fn alternative_at<'a>(
+fn alternative_at<'a>(
     file: &'a [u8],
     types: &'a [u16],
     functions: &'a [u16],
@@ -165,7 +165,7 @@ pub fn alternative_at<'a>(
 }
 
 // How many variables are in view outside a group.
-pub fn outside_of(work: &[u32], base: usize, group: usize) -> usize
+fn outside_of(work: &[u32], base: usize, group: usize) -> usize
     requires { ⌜ (base ≤ 1000000) × (group < 4294967296) ⌝ }
     ensures { λ r. ⌜ r ≡ outsideOf (now (work .entry)) base group ⌝ }
 {
@@ -173,7 +173,7 @@ pub fn outside_of(work: &[u32], base: usize, group: usize) -> usize
 }
 
 // The record of the group that holds variable n, from an environment outward.
-pub fn group_of(work: &[u32], base: usize, env: usize, n: usize) -> usize
+fn group_of(work: &[u32], base: usize, env: usize, n: usize) -> usize
     requires { ⌜ VariableThere (now work) base n env × (base ≤ 1000000) × (env ≤ 1000000) ⌝ }
     ensures { λ r. ⌜ Group (now (work .entry)) base n env r ⌝ }
 {
@@ -185,7 +185,7 @@ pub fn group_of(work: &[u32], base: usize, env: usize, n: usize) -> usize
 }
 
 // A variable is followed to what it stands for.
-pub fn step_variable<'a>(
+fn step_variable<'a>(
     file: &'a [u8],
     types: &'a [u16],
     functions: &'a [u16],
@@ -219,7 +219,7 @@ pub fn step_variable<'a>(
 }
 
 // A call is unfolded: its operands become the variables of the function's body.
-pub fn step_call<'a>(
+fn step_call<'a>(
     file: &'a [u8],
     functions: &'a [u16],
     work: &mut [u32],
@@ -242,7 +242,7 @@ pub fn step_call<'a>(
 }
 
 // The alternative for constructor c is chosen for the innermost waiting case; its k fields begin at `first` and stand in `inner`.
-pub fn choose<'a>(
+fn choose<'a>(
     file: &'a [u8],
     types: &'a [u16],
     functions: &'a [u16],
@@ -291,7 +291,7 @@ pub fn field_count<'a>(file: &'a [u8], types: &'a [u16], t: usize, c: usize) -> 
 }
 
 // A construction is the value that a waiting case looks at, or the end.
-pub fn step_construct<'a>(
+fn step_construct<'a>(
     file: &'a [u8],
     types: &'a [u16],
     functions: &'a [u16],
@@ -315,7 +315,7 @@ pub fn step_construct<'a>(
 }
 
 // A case turns to its scrutinee and waits.
-pub fn step_case<'a>(
+fn step_case<'a>(
     file: &'a [u8],
     types: &'a [u16],
     functions: &'a [u16],
@@ -340,7 +340,7 @@ pub fn step_case<'a>(
 }
 
 // A let is opened: its body sees one more variable.
-pub fn step_let<'a>(
+fn step_let<'a>(
     file: &'a [u8],
     types: &'a [u16],
     functions: &'a [u16],
@@ -365,7 +365,7 @@ pub fn step_let<'a>(
 }
 
 // A part of the input is the value that a waiting case looks at, or the end; the case waits where the part is open.
-pub fn step_part<'a>(
+fn step_part<'a>(
     file: &'a [u8],
     types: &'a [u16],
     functions: &'a [u16],
@@ -392,7 +392,7 @@ pub fn step_part<'a>(
 }
 
 // A target of another label is passed to its inner expression; the sought one is demanded.
-pub fn step_target(file: &[u8], label: usize, at: usize, env: usize, r: Registers) -> Next
+fn step_target(file: &[u8], label: usize, at: usize, env: usize, r: Registers) -> Next
     requires { ⌜ at ≤ 1000000 ⌝ }
     ensures { λ x. ⌜ ((types functions w : List ℕ) (base : ℕ) → Ready (now (file .entry)) w base r 5 at env → Stepped (now (file .entry)) types functions w w base label r x) ⌝ }
 {
@@ -407,7 +407,7 @@ pub fn step_target(file: &[u8], label: usize, at: usize, env: usize, r: Register
 }
 
 // An expression's step, by its code.
-pub fn step_expression<'a>(
+fn step_expression<'a>(
     file: &'a [u8],
     types: &'a [u16],
     functions: &'a [u16],

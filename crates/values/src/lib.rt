@@ -19,7 +19,7 @@ pub fn noted(work: &[u32], cell: usize) -> usize
 }
 
 // Notes a place in an open cell.
-pub fn note(work: &mut [u32], cell: usize, place: usize)
+fn note(work: &mut [u32], cell: usize, place: usize)
     requires { ⌜ 5 * cell + 5 ≤ length (now work) ⌝ }
     ensures { λ _. ⌜ now (work .exit) ≡ notePlace (now (work .entry)) cell place ⌝ }
 {
@@ -57,7 +57,7 @@ pub fn note_values<'a>(
 }
 
 // The place behind the value of type t that stands at a place, or that place where there is none.
-pub fn behind_value<'a>(
+fn behind_value<'a>(
     file: &'a [u8],
     types: &'a [u16],
     input: &'a [u8],
