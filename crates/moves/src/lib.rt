@@ -79,18 +79,18 @@ fn arrive<'a>(
         Next::Demands => return over(cells, done, height, Listing::Reached),
         Next::Stops => return over(cells, done, height, Listing::Nothing),
         Next::Goes(to) => {
-            if limit <= done {
-                return over(cells, done, height, Listing::Unfinished);
+            if done < limit {
+                return Moved {
+                    walk: Walk {
+                        position: Position::On(to),
+                        cells,
+                        done: done + 1,
+                        height,
+                    },
+                    listing: Listing::Nothing,
+                };
             }
-            return Moved {
-                walk: Walk {
-                    position: Position::On(to),
-                    cells,
-                    done: done + 1,
-                    height,
-                },
-                listing: Listing::Nothing,
-            };
+            return over(cells, done, height, Listing::Unfinished);
         }
         Next::Waits(x) => {
             if limit <= done {

@@ -1,3 +1,4 @@
+-- `choices::find_return` meets its contract. The invariant: from the beginning the return came to here. The measure is the height. Rests on Returning.
 use Prim.Native.Nat.{_≤_, _<_}
 use mathlib.Core.Path.{_≡_, refl, _∙_}
 use lib.ListN.{length}
@@ -15,13 +16,20 @@ abbrev μ-loop : tie.MeasureT-loop
 μ-loop file types least work₀ stack height h₀ work h = h
 
 loop-holds : tie.Need-loop-holds Inv-loop μ-loop
-loop-holds c = (refl, omega arith, came-first (c .before .before .before .args .file .now) (c .before .before .before .args .types .now) (c .before .before .before .args .least .of) (c .before .before .before .args .work .now) (c .before .before .before .args .stack) (c .before .before .before .args .height))
+loop-holds c =
+    let a = c .before .before .before .args in
+    (refl, omega arith, came-first (a .file .now) (a .types .now) (a .least .of) (a .work .now) (a .stack) (a .height))
 
 sub-candidate : tie.Need-sub-candidate Inv-loop μ-loop
 sub-candidate c = search needs
 
 candidate-requires : tie.Need-candidate-requires Inv-loop μ-loop
-candidate-requires c κs = let b = came-bounds (c .before .before .before .before .before .before .args .file .now) (c .before .before .before .before .before .before .args .types .now) (c .before .before .before .before .before .before .args .least .of) (c .before .before .before .before .before .before .args .work .now) (c .before .before .before .before .before .before .args .stack) (c .before .before .before .before .before .before .args .height) (c .before .before .loop .work) (c .before .before .loop .h) (c .before .before .loop .inv .2) (c .before .before .before .before .before .before .pre) (omega arith) in (b .0, b .1, b .2)
+candidate-requires c κs =
+    let o = c .before .before .before .before .before .before in
+    let a = o .args in
+    let l = c .before .before .loop in
+    let b = came-bounds (a .file .now) (a .types .now) (a .least .of) (a .work .now) (a .stack) (a .height) (l .work) (l .h) (l .inv .2) (o .pre) (omega arith) in
+    (b .0, b .1, b .2)
 
 enum-known-next : tie.Need-enum-known-next Inv-loop μ-loop
 enum-known-next c = search needs
@@ -33,7 +41,10 @@ same-length : tie.Need-same-length Inv-loop μ-loop
 same-length c = search needs
 
 returns : tie.Need-returns Inv-loop μ-loop
-returns c = leads (c .before .before .before .before .before .before .before .before .before .before .args .file .now) (c .before .before .before .before .before .before .before .before .before .before .args .types .now) (c .before .before .before .before .before .before .before .before .before .before .args .least .of) (c .before .before .before .before .before .before .before .before .before .before .args .work .now) (c .before .before .before .before .before .before .before .before .before .before .args .stack) (c .before .before .before .before .before .before .before .before .before .before .args .height) (c .before .before .before .before .before .before .loop .work) (c .before .before .before .before .before .before .loop .h) (c .before .before .before .before .before .before .loop .inv .2) (c .before .before .before .candidate .ensures) (omega arith) (c .before .next .given .1) (c .before .before .before .before .before .before .loop .inv .0)
+returns c =
+    let a = c .before .before .before .before .before .before .before .before .before .before .args in
+    let l = c .before .before .before .before .before .before .loop in
+    leads (a .file .now) (a .types .now) (a .least .of) (a .work .now) (a .stack) (a .height) (l .work) (l .h) (l .inv .2) (c .before .before .before .candidate .ensures) (omega arith) (c .before .next .given .1) (l .inv .0)
 
 enum-told : tie.Need-enum-told Inv-loop μ-loop
 enum-told c = search needs
@@ -42,7 +53,12 @@ sub-reopen : tie.Need-sub-reopen Inv-loop μ-loop
 sub-reopen c = search needs
 
 reopen-requires : tie.Need-reopen-requires Inv-loop μ-loop
-reopen-requires c κs = let b = came-bounds (c .before .before .before .before .before .before .before .before .before .before .args .file .now) (c .before .before .before .before .before .before .before .before .before .before .args .types .now) (c .before .before .before .before .before .before .before .before .before .before .args .least .of) (c .before .before .before .before .before .before .before .before .before .before .args .work .now) (c .before .before .before .before .before .before .before .before .before .before .args .stack) (c .before .before .before .before .before .before .before .before .before .before .args .height) (c .before .before .before .before .before .before .loop .work) (c .before .before .before .before .before .before .loop .h) (c .before .before .before .before .before .before .loop .inv .2) (c .before .before .before .before .before .before .before .before .before .before .pre) (omega arith) in (b .0, b .1, b .3)
+reopen-requires c κs =
+    let o = c .before .before .before .before .before .before .before .before .before .before in
+    let a = o .args in
+    let l = c .before .before .before .before .before .before .loop in
+    let b = came-bounds (a .file .now) (a .types .now) (a .least .of) (a .work .now) (a .stack) (a .height) (l .work) (l .h) (l .inv .2) (o .pre) (omega arith) in
+    (b .0, b .1, b .3)
 
 sub-h : tie.Need-sub-h Inv-loop μ-loop
 sub-h c = search needs
@@ -51,13 +67,19 @@ loop-less : tie.Need-loop-less Inv-loop μ-loop
 loop-less c = search needs
 
 loop-again : tie.Need-loop-again Inv-loop μ-loop
-loop-again c = (c .before .before .reopen .kept .0 ∙ c .before .before .before .before .before .before .before .before .before .loop .inv .0, omega arith, drops (c .before .before .before .before .before .before .before .before .before .before .before .before .before .args .file .now) (c .before .before .before .before .before .before .before .before .before .before .before .before .before .args .types .now) (c .before .before .before .before .before .before .before .before .before .before .before .before .before .args .least .of) (c .before .before .before .before .before .before .before .before .before .before .before .before .before .args .work .now) (c .before .before .before .before .before .before .before .before .before .before .before .before .before .args .stack) (c .before .before .before .before .before .before .before .before .before .before .before .before .before .args .height) (c .before .before .before .before .before .before .before .before .before .loop .work) (c .before .before .before .before .before .before .before .before .before .loop .h) (c .before .before .before .before .before .before .before .before .before .loop .inv .2) (c .before .before .before .before .before .before .candidate .ensures) (omega arith) (c .before .before .before .before .enum-told .given .1) (c .before .before .reopen .ensures))
+loop-again c =
+    let a = c .before .before .before .before .before .before .before .before .before .before .before .before .before .args in
+    let l = c .before .before .before .before .before .before .before .before .before .loop in
+    (c .before .before .reopen .kept .0 ∙ l .inv .0, omega arith, drops (a .file .now) (a .types .now) (a .least .of) (a .work .now) (a .stack) (a .height) (l .work) (l .h) (l .inv .2) (c .before .before .before .before .before .before .candidate .ensures) (omega arith) (c .before .before .before .before .enum-told .given .1) (c .before .before .reopen .ensures))
 
 same-length-2 : tie.Need-same-length-2 Inv-loop μ-loop
 same-length-2 c = search needs
 
 returns-2 : tie.Need-returns-2 Inv-loop μ-loop
-returns-2 c = came-nowhere (c .before .before .before .before .before .args .file .now) (c .before .before .before .before .before .args .types .now) (c .before .before .before .before .before .args .least .of) (c .before .before .before .before .before .args .work .now) (c .before .before .before .before .before .args .stack) (c .before .before .before .before .before .args .height) (c .before .loop .work) (c .before .loop .h) (c .before .loop .inv .2) (omega arith) (c .before .loop .inv .0)
+returns-2 c =
+    let a = c .before .before .before .before .before .args in
+    let l = c .before .loop in
+    came-nowhere (a .file .now) (a .types .now) (a .least .of) (a .work .now) (a .stack) (a .height) (l .work) (l .h) (l .inv .2) (omega arith) (l .inv .0)
 
 pub find-return-spec : {M : Type 1} → statement M
 find-return-spec =

@@ -1,3 +1,4 @@
+-- `choices::push_choice` meets its contract: six stores are the choice point that Writing speaks of.
 use lib.ListN.{length-set}
 use Rattle.choices.proofs.Writing.{pushed}
 use native.Mathlib.Omega.{arith}
@@ -87,7 +88,10 @@ same-length : tie.Need-same-length
 same-length c = simp length-set
 
 returns : tie.Need-returns
-returns c = pushed (c .before .before .before .before .before .before .before .before .before .args .work .now) (c .before .before .before .before .before .before .before .before .before .args .stack) (c .before .before .before .before .before .before .before .before .before .args .h) (c .before .before .before .before .before .before .before .before .before .args .x) (c .before .before .before .before .before .before .before .before .before .args .frame) (c .before .before .before .before .before .before .before .before .before .args .records) (c .before .before .before .before .before .before .before .before .before .args .cells) (c .before .before .before .before .before .before .before .before .before .args .done) (c .before .before .before .before .before .before .cell-word .ensures .0) (c .before .before .before .before .before .narrow .ensures) (c .before .before .before .before .narrow2 .ensures) (c .before .before .before .narrow3 .ensures) (c .before .before .narrow4 .ensures) (c .before .narrow5 .ensures) (c .narrow6 .ensures) (c .before .before .before .before .before .before .before .before .before .pre .0 .0)
+returns c =
+    let o = c .before .before .before .before .before .before .before .before .before in
+    let a = o .args in
+    pushed (a .work .now) (a .stack) (a .h) (a .x) (a .frame) (a .records) (a .cells) (a .done) (c .before .before .before .before .before .before .cell-word .ensures .0) (c .before .before .before .before .before .narrow .ensures) (c .before .before .before .before .narrow2 .ensures) (c .before .before .before .narrow3 .ensures) (c .before .before .narrow4 .ensures) (c .before .narrow5 .ensures) (c .narrow6 .ensures) (o .pre .0 .0)
 
 pub push-choice-spec : {M : Type 1} → statement M
 push-choice-spec =

@@ -1,3 +1,4 @@
+-- `choices::reopen` meets its contract: two stores open the cell again. Rests on Writing.
 use lib.ListN.{length-set}
 use Rattle.choices.proofs.Writing.{reopened-written}
 use native.Mathlib.Omega.{arith}
@@ -39,7 +40,9 @@ same-length : tie.Need-same-length
 same-length c = search needs
 
 returns : tie.Need-returns
-returns c = reopened-written (c .before .before .before .before .before .before .args .work .now) (c .before .before .before .before .before .before .args .stack) (c .before .before .before .before .before .before .args .h) (c .before .before .before .choice-word .ensures .0) (c .before .choice-word2 .ensures .0) (c .narrow .ensures)
+returns c =
+    let a = c .before .before .before .before .before .before .args in
+    reopened-written (a .work .now) (a .stack) (a .h) (c .before .before .before .choice-word .ensures .0) (c .before .choice-word2 .ensures .0) (c .narrow .ensures)
 
 pub reopen-spec : {M : Type 1} → statement M
 reopen-spec =

@@ -1,3 +1,4 @@
+-- `moves::arrive` meets its contract, by what comes next and whether a step is left. Rests on Arriving.
 use Rattle.moves.proofs.Arriving.{step-standing, arrive-demands, arrive-stops, arrive-spent-going, arrive-spent-waiting, arrive-goes, push-bounds, arrive-waits}
 use native.Mathlib.Omega.{arith}
 use borrow.Author.Needs.{needs}
@@ -5,7 +6,9 @@ use Rattle.moves.proofs.arrive.Statement.{statement}
 use Rattle.moves.proofs.arrive.Tie as tie
 
 step-requires : tie.Need-step-requires
-step-requires c κs = let (least, p, e, s, cs, given, sought, under) = c .before .before .before .before .before .pre in step-standing given (under .path)
+step-requires c κs =
+    let (least, p, e, s, cs, given, sought, under) = c .before .before .before .before .before .pre in
+    step-standing given (under .path)
 
 enum-told : tie.Need-enum-told
 enum-told c = search needs
@@ -34,23 +37,23 @@ returns-2 c = λ least p e s cs given sought under. rw (c .over2 .ensures) (arri
 enum-known-next : tie.Need-enum-known-next
 enum-known-next c = search needs
 
-over-requires-3 : tie.Need-over-requires-3
-over-requires-3 c κs = search needs
+add-t22 : tie.Need-add-t22
+add-t22 c = search needs
 
 same-length-3 : tie.Need-same-length-3
 same-length-3 c = search needs
 
 returns-3 : tie.Need-returns-3
-returns-3 c = λ least p e s cs given sought under. rw (c .over3 .ensures) (arrive-spent-going given under sought (c .before .before .before .before .before .before .before .step .ensures) (omega arith) (c .before .before .before .next .given .1))
+returns-3 c = λ least p e s cs given sought under. arrive-goes given under sought (c .before .before .before .before .before .before .step .ensures) (omega arith) (c .before .before .next .given .1)
 
-add-t23 : tie.Need-add-t23
-add-t23 c = search needs
+over-requires-3 : tie.Need-over-requires-3
+over-requires-3 c κs = search needs
 
 same-length-4 : tie.Need-same-length-4
 same-length-4 c = search needs
 
 returns-4 : tie.Need-returns-4
-returns-4 c = λ least p e s cs given sought under. arrive-goes given under sought (c .before .before .before .before .before .before .step .ensures) (omega arith) (c .before .before .next .given .1)
+returns-4 c = λ least p e s cs given sought under. rw (c .over3 .ensures) (arrive-spent-going given under sought (c .before .before .before .before .before .before .before .step .ensures) (omega arith) (c .before .before .before .next .given .1))
 
 enum-known-next-2 : tie.Need-enum-known-next-2
 enum-known-next-2 c = search needs
@@ -65,7 +68,9 @@ returns-5 : tie.Need-returns-5
 returns-5 c = λ least p e s cs given sought under. rw (c .over4 .ensures) (arrive-spent-waiting given under sought (c .before .before .before .before .before .before .before .step .ensures) (omega arith) (c .before .before .before .next2 .given .1))
 
 push-choice-requires : tie.Need-push-choice-requires
-push-choice-requires c κs = let (least, p, e, s, cs, given, sought, under) = c .before .before .before .before .before .before .before .before .before .before .before .before .before .pre in push-bounds given under sought (c .before .before .before .before .before .before .before .step .ensures) (omega arith) (c .before .before .before .next2 .given .1)
+push-choice-requires c κs =
+    let (least, p, e, s, cs, given, sought, under) = c .before .before .before .before .before .before .before .before .before .before .before .before .before .pre in
+    push-bounds given under sought (c .before .before .before .before .before .before .before .step .ensures) (omega arith) (c .before .before .before .next2 .given .1)
 
 add-over : tie.Need-add-over
 add-over c = search needs
@@ -93,10 +98,10 @@ arrive-spec =
     same-length-2
     returns-2
     enum-known-next
-    over-requires-3
+    add-t22
     same-length-3
     returns-3
-    add-t23
+    over-requires-3
     same-length-4
     returns-4
     enum-known-next-2

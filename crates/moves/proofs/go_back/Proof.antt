@@ -1,3 +1,4 @@
+-- `moves::go_back` meets its contract, by where the return leads. Rests on Returning.
 use Rattle.moves.proofs.Returning.{back-some, back-nowhere, back-forking, back-taken}
 use native.Mathlib.Omega.{arith}
 use borrow.Author.Needs.{needs}
@@ -5,7 +6,10 @@ use Rattle.moves.proofs.go_back.Statement.{statement}
 use Rattle.moves.proofs.go_back.Tie as tie
 
 find-return-requires : tie.Need-find-return-requires
-find-return-requires c κs = back-some (c .before .before .before .before .before .args .file .now) (c .before .before .before .before .before .args .types .now) (c .before .before .before .before .before .args .functions .now) (c .before .before .before .before .before .args .least .of) (c .before .before .before .before .before .args .label) (c .before .before .before .before .before .args .work .now) (c .before .before .before .before .before .args .limit) (c .before .before .before .before .before .args .base) (c .before .before .before .before .before .args .stack) (c .before .before .before .before .before .args .walk) (c .before .before .before .before .before .pre .1) (c .before .before .before .before .before .pre .0)
+find-return-requires c κs =
+    let o = c .before .before .before .before .before in
+    let a = o .args in
+    back-some (a .file .now) (a .types .now) (a .functions .now) (a .least .of) (a .label) (a .work .now) (a .limit) (a .base) (a .stack) (a .walk) (o .pre .1) (o .pre .0)
 
 enum-known-found : tie.Need-enum-known-found
 enum-known-found c = search needs
@@ -20,16 +24,25 @@ same-length : tie.Need-same-length
 same-length c = search needs
 
 returns : tie.Need-returns
-returns c = rw (c .over .ensures) (back-nowhere (c .before .before .before .before .before .before .before .before .before .before .before .args .file .now) (c .before .before .before .before .before .before .before .before .before .before .before .args .types .now) (c .before .before .before .before .before .before .before .before .before .before .before .args .functions .now) (c .before .before .before .before .before .before .before .before .before .before .before .args .least .of) (c .before .before .before .before .before .before .before .before .before .before .before .args .label) (c .before .before .before .before .before .before .before .before .before .before .before .args .work .now) (c .before .before .before .before .before .before .before .before .before .before .before .args .limit) (c .before .before .before .before .before .before .before .before .before .before .before .args .base) (c .before .before .before .before .before .before .before .before .before .before .before .args .stack) (c .before .before .before .before .before .before .before .before .before .before .before .args .walk) (c .before .before .before .before .before .before .before .before .before .before .before .pre .1) _ _ (c .before .before .before .before .before .find-return .ensures) (c .before .enum-told .given .1) (c .before .before .before .before .before .before .before .before .before .before .before .pre .2))
+returns c =
+    let o = c .before .before .before .before .before .before .before .before .before .before .before in
+    let a = o .args in
+    rw (c .over .ensures) (back-nowhere (a .file .now) (a .types .now) (a .functions .now) (a .least .of) (a .label) (a .work .now) (a .limit) (a .base) (a .stack) (a .walk) (o .pre .1) _ _ (c .before .before .before .before .before .find-return .ensures) (c .before .enum-told .given .1) (o .pre .2))
 
 take-fork-requires : tie.Need-take-fork-requires
-take-fork-requires c κs = back-forking (c .before .before .before .before .before .before .before .before .before .before .before .before .args .file .now) (c .before .before .before .before .before .before .before .before .before .before .before .before .args .types .now) (c .before .before .before .before .before .before .before .before .before .before .before .before .args .functions .now) (c .before .before .before .before .before .before .before .before .before .before .before .before .args .least .of) (c .before .before .before .before .before .before .before .before .before .before .before .before .args .label) (c .before .before .before .before .before .before .before .before .before .before .before .before .args .work .now) (c .before .before .before .before .before .before .before .before .before .before .before .before .args .limit) (c .before .before .before .before .before .before .before .before .before .before .before .before .args .base) (c .before .before .before .before .before .before .before .before .before .before .before .before .args .stack) (c .before .before .before .before .before .before .before .before .before .before .before .before .args .walk) (c .before .before .before .before .before .before .before .before .before .before .before .before .pre .1) _ _ (c .before .before .before .before .before .before .find-return .ensures) (c .before .before .found .given .1) (c .before .before .before .before .before .before .before .before .before .before .before .before .pre .0)
+take-fork-requires c κs =
+    let o = c .before .before .before .before .before .before .before .before .before .before .before .before in
+    let a = o .args in
+    back-forking (a .file .now) (a .types .now) (a .functions .now) (a .least .of) (a .label) (a .work .now) (a .limit) (a .base) (a .stack) (a .walk) (o .pre .1) _ _ (c .before .before .before .before .before .before .find-return .ensures) (c .before .before .found .given .1) (o .pre .0)
 
 same-length-2 : tie.Need-same-length-2
 same-length-2 c = search needs
 
 returns-2 : tie.Need-returns-2
-returns-2 c = back-taken (c .before .before .before .before .before .before .before .before .before .before .before .before .before .before .before .args .file .now) (c .before .before .before .before .before .before .before .before .before .before .before .before .before .before .before .args .types .now) (c .before .before .before .before .before .before .before .before .before .before .before .before .before .before .before .args .functions .now) (c .before .before .before .before .before .before .before .before .before .before .before .before .before .before .before .args .least .of) (c .before .before .before .before .before .before .before .before .before .before .before .before .before .before .before .args .label) (c .before .before .before .before .before .before .before .before .before .before .before .before .before .before .before .args .work .now) (c .before .before .before .before .before .before .before .before .before .before .before .before .before .before .before .args .limit) (c .before .before .before .before .before .before .before .before .before .before .before .before .before .before .before .args .base) (c .before .before .before .before .before .before .before .before .before .before .before .before .before .before .before .args .stack) (c .before .before .before .before .before .before .before .before .before .before .before .before .before .before .before .args .walk) (c .before .before .before .before .before .before .before .before .before .before .before .before .before .before .before .pre .1) _ _ (c .before .before .before .before .before .before .before .before .before .find-return .ensures) (c .before .before .before .before .before .found .given .1) (c .before .before .take-fork .ensures)
+returns-2 c =
+    let o = c .before .before .before .before .before .before .before .before .before .before .before .before .before .before .before in
+    let a = o .args in
+    back-taken (a .file .now) (a .types .now) (a .functions .now) (a .least .of) (a .label) (a .work .now) (a .limit) (a .base) (a .stack) (a .walk) (o .pre .1) _ _ (c .before .before .before .before .before .before .before .before .before .find-return .ensures) (c .before .before .before .before .before .found .given .1) (c .before .before .take-fork .ensures)
 
 pub go-back-spec : {M : Type 1} → statement M
 go-back-spec =

@@ -1,3 +1,4 @@
+-- `moves::make_move` meets its contract, by where the search stands. Rests on Returning.
 use Rattle.moves.proofs.Returning.{on-some, on-moves}
 use native.Mathlib.Omega.{arith}
 use borrow.Author.Needs.{needs}
@@ -20,13 +21,18 @@ returns : tie.Need-returns
 returns c = c .before .before .go-back .ensures
 
 arrive-requires : tie.Need-arrive-requires
-arrive-requires c κs = on-some (c .before .before .before .before .before .before .before .before .args .file .now) (c .before .before .before .before .before .before .before .before .args .types .now) (c .before .before .before .before .before .before .before .before .args .functions .now) (c .before .before .before .before .before .before .before .before .args .least .of) (c .before .before .before .before .before .before .before .before .args .label) (c .before .before .before .before .before .before .before .before .args .work .now) (c .before .before .before .before .before .before .before .before .args .limit) (c .before .before .before .before .before .before .before .before .args .base) (c .before .before .before .before .before .before .before .before .args .stack) (c .before .before .before .before .before .before .before .before .args .walk) (c .before .before .position .given .1) (c .before .before .before .before .before .before .before .before .pre .0)
+arrive-requires c κs =
+    let o = c .before .before .before .before .before .before .before .before in
+    let a = o .args in
+    on-some (a .file .now) (a .types .now) (a .functions .now) (a .least .of) (a .label) (a .work .now) (a .limit) (a .base) (a .stack) (a .walk) (c .before .before .position .given .1) (o .pre .0)
 
 same-length-2 : tie.Need-same-length-2
 same-length-2 c = search needs
 
 returns-2 : tie.Need-returns-2
-returns-2 c = on-moves (c .before .before .before .before .before .before .before .before .before .before .before .args .file .now) (c .before .before .before .before .before .before .before .before .before .before .before .args .types .now) (c .before .before .before .before .before .before .before .before .before .before .before .args .functions .now) (c .before .before .before .before .before .before .before .before .before .before .before .args .least .of) (c .before .before .before .before .before .before .before .before .before .before .before .args .label) (c .before .before .before .before .before .before .before .before .before .before .before .args .work .now) (c .before .before .before .before .before .before .before .before .before .before .before .args .limit) (c .before .before .before .before .before .before .before .before .before .before .before .args .base) (c .before .before .before .before .before .before .before .before .before .before .before .args .stack) (c .before .before .before .before .before .before .before .before .before .before .before .args .walk) (c .before .before .before .before .before .position .given .1) (c .before .before .arrive .ensures)
+returns-2 c =
+    let a = c .before .before .before .before .before .before .before .before .before .before .before .args in
+    on-moves (a .file .now) (a .types .now) (a .functions .now) (a .least .of) (a .label) (a .work .now) (a .limit) (a .base) (a .stack) (a .walk) (c .before .before .before .before .before .position .given .1) (c .before .before .arrive .ensures)
 
 pub make-move-spec : {M : Type 1} → statement M
 make-move-spec =

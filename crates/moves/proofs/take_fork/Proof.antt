@@ -1,3 +1,4 @@
+-- `moves::take_fork` meets its contract: the cell is bound, a step leads behind the case, and the path arrives there. Rests on Forking.
 use Prim.Native.Nat.{_≤_}
 use Rattle.moves.proofs.Forking.{height-few, stack-few, bindable, fork-standing, fork-under, fork-takes}
 use native.Mathlib.Omega.{arith}
@@ -6,46 +7,86 @@ use Rattle.moves.proofs.take_fork.Statement.{statement}
 use Rattle.moves.proofs.take_fork.Tie as tie
 
 choice-word-requires : tie.Need-choice-word-requires
-choice-word-requires c κs = let (least, p, given, sought, f) = c .before .before .before .before .before .pre in (stack-few given f, omega (arith, height-few given f), omega arith)
+choice-word-requires c κs =
+    let (least, p, given, sought, f) = c .before .before .before .before .before .pre in
+    (stack-few given f, omega (arith, height-few given f), omega arith)
 
 choice-word-requires-2 : tie.Need-choice-word-requires-2
-choice-word-requires-2 c κs = let (least, p, given, sought, f) = c .before .before .before .before .before .before .before .pre in (stack-few given f, omega (arith, height-few given f), omega arith)
+choice-word-requires-2 c κs =
+    let (least, p, given, sought, f) = c .before .before .before .before .before .before .before .pre in
+    (stack-few given f, omega (arith, height-few given f), omega arith)
 
 choice-word-requires-3 : tie.Need-choice-word-requires-3
-choice-word-requires-3 c κs = let (least, p, given, sought, f) = c .before .before .before .before .before .before .before .before .before .pre in (stack-few given f, omega (arith, height-few given f), omega arith)
+choice-word-requires-3 c κs =
+    let (least, p, given, sought, f) = c .before .before .before .before .before .before .before .before .before .pre in
+    (stack-few given f, omega (arith, height-few given f), omega arith)
 
 choice-word-requires-4 : tie.Need-choice-word-requires-4
-choice-word-requires-4 c κs = let (least, p, given, sought, f) = c .before .before .before .before .before .before .before .before .before .before .before .pre in (stack-few given f, omega (arith, height-few given f), omega arith)
+choice-word-requires-4 c κs =
+    let (least, p, given, sought, f) = c .before .before .before .before .before .before .before .before .before .before .before .pre in
+    (stack-few given f, omega (arith, height-few given f), omega arith)
 
 choice-word-requires-5 : tie.Need-choice-word-requires-5
-choice-word-requires-5 c κs = let (least, p, given, sought, f) = c .before .before .before .before .before .before .before .before .before .before .before .before .before .pre in (stack-few given f, omega (arith, height-few given f), omega arith)
+choice-word-requires-5 c κs =
+    let (least, p, given, sought, f) = c .before .before .before .before .before .before .before .before .before .before .before .before .before .pre in
+    (stack-few given f, omega (arith, height-few given f), omega arith)
 
 bind-cell-requires : tie.Need-bind-cell-requires
-bind-cell-requires c κs = let (least, p, given, sought, f) = c .before .before .before .before .before .before .before .before .before .before .before .before .before .before .before .pre in rw (c .before .before .before .before .before .before .before .before .before .choice-word .ensures .0, c .before .before .before .choice-word4 .ensures .0) (bindable given f)
+bind-cell-requires c κs =
+    let (least, p, given, sought, f) = c .before .before .before .before .before .before .before .before .before .before .before .before .before .before .before .pre in
+    rw (c .before .before .before .before .before .before .before .before .before .choice-word .ensures .0, c .before .before .before .choice-word4 .ensures .0) (bindable given f)
 
 step-requires : tie.Need-step-requires
-step-requires c κs = fork-standing (c .before .before .before .before .before .before .before .before .before .before .before .before .before .before .before .before .before .before .before .args .file .now) (c .before .before .before .before .before .before .before .before .before .before .before .before .before .before .before .before .before .before .before .args .types .now) (c .before .before .before .before .before .before .before .before .before .before .before .before .before .before .before .before .before .before .before .args .functions .now) (c .before .before .before .before .before .before .before .before .before .before .before .before .before .before .before .before .before .before .before .args .label) (c .before .before .before .before .before .before .before .before .before .before .before .before .before .before .before .before .before .before .before .args .work .now) _ (c .before .before .before .before .before .before .before .before .before .before .before .before .before .before .before .before .before .before .before .args .limit) (c .before .before .before .before .before .before .before .before .before .before .before .before .before .before .before .before .before .before .before .args .base) (c .before .before .before .before .before .before .before .before .before .before .before .before .before .before .before .before .before .before .before .args .stack) (c .before .before .before .before .before .before .before .before .before .before .before .before .before .before .before .before .before .before .before .args .h) (c .before .before .before .before .before .before .before .before .before .before .before .before .before .before .before .before .before .before .before .args .c) (c .before .before .before .before .before .before .before .before .before .before .before .before .before .before .before .before .before .before .before .args .fields) (c .before .before .before .before .before .before .before .before .before .before .before .before .before .before .before .before .before .before .before .args .k) (c .before .before .before .before .before .before .before .before .before .before .before .before .before .choice-word .ensures .0) (c .before .before .before .before .before .before .before .before .before .before .before .choice-word2 .ensures .0) (c .before .before .before .before .before .before .before .before .before .choice-word3 .ensures .0) (c .before .before .before .before .before .before .before .choice-word4 .ensures .0) (c .before .before .before .before .before .choice-word5 .ensures .0) (c .before .before .before .bind-cell .ensures) (c .before .before .before .before .before .before .before .before .before .before .before .before .before .before .before .before .before .before .before .pre)
+step-requires c κs =
+    let w5 = c .before .before .before .before .before in
+    let w4 = w5 .before .before in
+    let w3 = w4 .before .before in
+    let w2 = w3 .before .before in
+    let w1 = w2 .before .before in
+    let o = w1 .before .before .before .before .before .before in
+    let a = o .args in
+    fork-standing (a .file .now) (a .types .now) (a .functions .now) (a .label) (a .work .now) _ (a .limit) (a .base) (a .stack) (a .h) (a .c) (a .fields) (a .k) (w1 .choice-word .ensures .0) (w2 .choice-word2 .ensures .0) (w3 .choice-word3 .ensures .0) (w4 .choice-word4 .ensures .0) (w5 .choice-word5 .ensures .0) (c .before .before .before .bind-cell .ensures) (o .pre)
 
 registers-after-requires : tie.Need-registers-after-requires
 registers-after-requires c κs = search needs
 
 add-arrive : tie.Need-add-arrive
-add-arrive c = let (least, p, given, sought, f) = c .before .before .before .before .before .before .before .before .before .before .before .before .before .before .before .before .before .before .before .before .before .before .before .before .pre in let b = bindable given f in omega (arith, c .before .before .before .before .before .before .before .before .before .before .before .before .choice-word4 .ensures .0, b .3, b .5)
+add-arrive c =
+    let (least, p, given, sought, f) = c .before .before .before .before .before .before .before .before .before .before .before .before .before .before .before .before .before .before .before .before .before .before .before .before .pre in
+    let b = bindable given f in
+    omega (arith, c .before .before .before .before .before .before .before .before .before .before .before .before .choice-word4 .ensures .0, b .3, b .5)
 
 add-arrive-2 : tie.Need-add-arrive-2
 add-arrive-2 c = search needs
 
 add-arrive-3 : tie.Need-add-arrive-3
-add-arrive-3 c = let (least, p, given, sought, f) = c .before .before .before .before .before .before .before .before .before .before .before .before .before .before .before .before .before .before .before .before .before .before .before .before .pre in omega (arith, height-few given f)
+add-arrive-3 c =
+    let (least, p, given, sought, f) = c .before .before .before .before .before .before .before .before .before .before .before .before .before .before .before .before .before .before .before .before .before .before .before .before .pre in
+    omega (arith, height-few given f)
 
 arrive-requires : tie.Need-arrive-requires
-arrive-requires c κs = fork-under (c .before .before .before .before .before .before .before .before .before .before .before .before .before .before .before .before .before .before .before .before .before .before .before .before .args .file .now) (c .before .before .before .before .before .before .before .before .before .before .before .before .before .before .before .before .before .before .before .before .before .before .before .before .args .types .now) (c .before .before .before .before .before .before .before .before .before .before .before .before .before .before .before .before .before .before .before .before .before .before .before .before .args .functions .now) (c .before .before .before .before .before .before .before .before .before .before .before .before .before .before .before .before .before .before .before .before .before .before .before .before .args .label) (c .before .before .before .before .before .before .before .before .before .before .before .before .before .before .before .before .before .before .before .before .before .before .before .before .args .work .now) _ (c .before .before .before .before .before .before .before .before .before .before .before .before .before .before .before .before .before .before .before .before .before .before .before .before .args .limit) (c .before .before .before .before .before .before .before .before .before .before .before .before .before .before .before .before .before .before .before .before .before .before .before .before .args .base) (c .before .before .before .before .before .before .before .before .before .before .before .before .before .before .before .before .before .before .before .before .before .before .before .before .args .stack) (c .before .before .before .before .before .before .before .before .before .before .before .before .before .before .before .before .before .before .before .before .before .before .before .before .args .h) (c .before .before .before .before .before .before .before .before .before .before .before .before .before .before .before .before .before .before .before .before .before .before .before .before .args .c) (c .before .before .before .before .before .before .before .before .before .before .before .before .before .before .before .before .before .before .before .before .before .before .before .before .args .fields) (c .before .before .before .before .before .before .before .before .before .before .before .before .before .before .before .before .before .before .before .before .before .before .before .before .args .k) (c .before .before .before .before .before .before .before .before .before .before .before .before .before .before .before .before .before .before .choice-word .ensures .0) (c .before .before .before .before .before .before .before .before .before .before .before .before .before .before .before .before .choice-word2 .ensures .0) (c .before .before .before .before .before .before .before .before .before .before .before .before .before .before .choice-word3 .ensures .0) (c .before .before .before .before .before .before .before .before .before .before .before .before .choice-word4 .ensures .0) (c .before .before .before .before .before .before .before .before .before .before .choice-word5 .ensures .0) (c .before .before .before .before .before .before .before .before .bind-cell .ensures) (c .before .before .before .before .step .ensures) (c .before .registers-after .ensures) (c .before .before .before .before .before .before .before .before .before .before .before .before .before .before .before .before .before .before .before .before .before .before .before .before .pre)
+arrive-requires c κs =
+    let w5 = c .before .before .before .before .before .before .before .before .before .before in
+    let w4 = w5 .before .before in
+    let w3 = w4 .before .before in
+    let w2 = w3 .before .before in
+    let w1 = w2 .before .before in
+    let o = w1 .before .before .before .before .before .before in
+    let a = o .args in
+    fork-under (a .file .now) (a .types .now) (a .functions .now) (a .label) (a .work .now) _ (a .limit) (a .base) (a .stack) (a .h) (a .c) (a .fields) (a .k) (w1 .choice-word .ensures .0) (w2 .choice-word2 .ensures .0) (w3 .choice-word3 .ensures .0) (w4 .choice-word4 .ensures .0) (w5 .choice-word5 .ensures .0) (c .before .before .before .before .before .before .before .before .bind-cell .ensures) (c .before .before .before .before .step .ensures) (c .before .registers-after .ensures) (o .pre)
 
 same-length : tie.Need-same-length
 same-length c = search needs
 
 returns : tie.Need-returns
-returns c = fork-takes (c .before .before .before .before .before .before .before .before .before .before .before .before .before .before .before .before .before .before .before .before .before .before .before .before .before .before .before .args .file .now) (c .before .before .before .before .before .before .before .before .before .before .before .before .before .before .before .before .before .before .before .before .before .before .before .before .before .before .before .args .types .now) (c .before .before .before .before .before .before .before .before .before .before .before .before .before .before .before .before .before .before .before .before .before .before .before .before .before .before .before .args .functions .now) (c .before .before .before .before .before .before .before .before .before .before .before .before .before .before .before .before .before .before .before .before .before .before .before .before .before .before .before .args .label) (c .before .before .before .before .before .before .before .before .before .before .before .before .before .before .before .before .before .before .before .before .before .before .before .before .before .before .before .args .work .now) _ (c .before .before .before .before .before .before .before .before .before .before .before .before .before .before .before .before .before .before .before .before .before .before .before .before .before .before .before .args .limit) (c .before .before .before .before .before .before .before .before .before .before .before .before .before .before .before .before .before .before .before .before .before .before .before .before .before .before .before .args .base) (c .before .before .before .before .before .before .before .before .before .before .before .before .before .before .before .before .before .before .before .before .before .before .before .before .before .before .before .args .stack) (c .before .before .before .before .before .before .before .before .before .before .before .before .before .before .before .before .before .before .before .before .before .before .before .before .before .before .before .args .h) (c .before .before .before .before .before .before .before .before .before .before .before .before .before .before .before .before .before .before .before .before .before .before .before .before .before .before .before .args .c) (c .before .before .before .before .before .before .before .before .before .before .before .before .before .before .before .before .before .before .before .before .before .before .before .before .before .before .before .args .fields) (c .before .before .before .before .before .before .before .before .before .before .before .before .before .before .before .before .before .before .before .before .before .before .before .before .before .before .before .args .k) (c .before .before .before .before .before .before .before .before .before .before .before .before .before .before .before .before .before .before .before .before .before .choice-word .ensures .0) (c .before .before .before .before .before .before .before .before .before .before .before .before .before .before .before .before .before .before .before .choice-word2 .ensures .0) (c .before .before .before .before .before .before .before .before .before .before .before .before .before .before .before .before .before .choice-word3 .ensures .0) (c .before .before .before .before .before .before .before .before .before .before .before .before .before .before .before .choice-word4 .ensures .0) (c .before .before .before .before .before .before .before .before .before .before .before .before .before .choice-word5 .ensures .0) (c .before .before .before .before .before .before .before .before .before .before .before .bind-cell .ensures) (c .before .before .before .before .before .before .before .step .ensures) (c .before .before .before .before .registers-after .ensures) (c .before .before .arrive .ensures)
+returns c =
+    let w5 = c .before .before .before .before .before .before .before .before .before .before .before .before .before in
+    let w4 = w5 .before .before in
+    let w3 = w4 .before .before in
+    let w2 = w3 .before .before in
+    let w1 = w2 .before .before in
+    let a = w1 .before .before .before .before .before .before .args in
+    fork-takes (a .file .now) (a .types .now) (a .functions .now) (a .label) (a .work .now) _ (a .limit) (a .base) (a .stack) (a .h) (a .c) (a .fields) (a .k) (w1 .choice-word .ensures .0) (w2 .choice-word2 .ensures .0) (w3 .choice-word3 .ensures .0) (w4 .choice-word4 .ensures .0) (w5 .choice-word5 .ensures .0) (c .before .before .before .before .before .before .before .before .before .before .before .bind-cell .ensures) (c .before .before .before .before .before .before .before .step .ensures) (c .before .before .before .before .registers-after .ensures) (c .before .before .arrive .ensures)
 
 pub take-fork-spec : {M : Type 1} → statement M
 take-fork-spec =
