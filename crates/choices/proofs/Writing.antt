@@ -61,9 +61,9 @@ pushed w stack h x frame records cells done {first} {a₀} {a₁} {a₂} {a₃} 
     same-0 : getD (set w (stack + 6 * h) a₀) (stack + 6 * h + 0) 0 ≡ a₀
     same-0 = let z : stack + 6 * h + 0 ≡ stack + 6 * h = omega arith in rw z (getD-set-same w (stack + 6 * h) a₀ 0 (omega arith))
 
--- two words that were set to open the cell of choice point h again
+-- the cell of choice point h is opened again, and its word 1 is as it was
 pub reopened-written :
-    (w : List ℕ) (stack h : ℕ) {x first a : ℕ} → x ≡ choiceWord stack w h 0 → first ≡ choiceWord stack w h 1 → a ≡ first
-    → set (set w (5 * x) 0) (5 * x + 1) a ≡ reopened stack w h
+    (w : List ℕ) (stack h : ℕ) {w₁ : List ℕ} {x first a : ℕ} → x ≡ choiceWord stack w h 0 → first ≡ choiceWord stack w h 1 → w₁ ≡ set w (5 * x) 0 → a ≡ first
+    → set w₁ (5 * x + 1) a ≡ reopened stack w h
 unfolding reopened
-reopened-written w stack h is-x is-first is-a = rw (is-a, is-first, is-x)
+reopened-written w stack h is-x is-first opened is-a = rw (opened, is-a, is-first, is-x)

@@ -1,5 +1,5 @@
 // Choice points in the lent words, above the records: one is made where a case waits on an open part, its cell is bound to one
-// constructor after the other, and it is dropped, its cell open again, when none is left. Rests on crates steps and forks.
+// constructor after the other, and it is dropped, its cell open again, when none is left. Rests on crates cells, steps and forks.
 ghost use mathlib.Core.Path.{_≡_};
 ghost use Prim.Native.Nat.{_+_, _*_, _≤_, _<_};
 ghost use lib.ListN.{length};
@@ -7,6 +7,7 @@ ghost use Rattle.machine.specs.Cells.{cellWord};
 ghost use Rattle.forks.specs.Untried.{NextFork};
 ghost use Rattle.choices.specs.Choices.{choiceWord, reopened, Pushes};
 ghost use Rattle.choices.specs.Returning.{Returns, SomeChoices};
+use cells::open_again;
 use depths::Depths;
 use forks::Candidate;
 use forks::next_fork;
@@ -61,7 +62,7 @@ fn reopen(work: &mut [u32], stack: usize, h: usize)
 {
     let x = choice_word(work, stack, h, 0);
     let first = choice_word(work, stack, h, 1);
-    work[5 * x] = 0;
+    open_again(work, x);
     work[5 * x + 1] = narrow(first);
 }
 
