@@ -1,3 +1,5 @@
+-- `search::explore` meets its contract. The invariant: from the beginning the search came to here, and the entries listed and still to come are the
+-- program's list. The measure is the weight of where it stands. Rests on Exploring.
 use Prim.Native.Nat.{_≤_}
 use mathlib.Core.Path.{_≡_, refl, _∙_, subst}
 use lib.ListN.{length}

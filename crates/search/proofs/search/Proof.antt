@@ -1,3 +1,4 @@
+-- `search::search` meets its contract: the answer, the list slice and the words, by what the check and the exploration found. Rests on Answering.
 use Prim.Native.Nat.{_+_, _*_, _≤_}
 use mathlib.Core.Path.{_∙_, sym}
 use lib.ListN.{length-take}

@@ -1,3 +1,4 @@
+-- `search::search_checked` meets its contract: what it reads of the goal is the program's, so the search begins as the definition says. Rests on Beginning.
 use Prim.Native.Nat.{_≤_, _+_, _*_}
 use Rattle.search.proofs.Beginning.{steps-is, limit-few, parameters-few, deep-small, begins, explored}
 use native.Mathlib.Omega.{arith}

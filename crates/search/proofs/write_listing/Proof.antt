@@ -1,3 +1,4 @@
+-- `search::write_listing` meets its contract, by what the move lists.
 use mathlib.Core.Path.{refl}
 use Prim.Native.Nat.{_≤_}
 use native.Mathlib.Omega.{arith}
