@@ -1,11 +1,11 @@
 -- The text of an answer, by the answer that the search gave and the bytes that it wrote.
--- Rests on reach's Text (the text by the bytes of a list) and on search's Called and Demands (where the list stands).
-use Prim.Native.Nat.{ℕ, _≤_}
+-- Rests on reach's Text (the text by the bytes of a list), on search's Called and Demands (where the list stands) and on printing's Lengths.
+use Prim.Native.Nat.{ℕ, _+_, _*_, _≤_}
 use native.Mathlib.Omega.{arith}
-use mathlib.Core.Path.{_≡_, refl, sym, ap, _∙_}
+use mathlib.Core.Path.{_≡_, ap, subst, _∙_}
 use mathlib.Core.Bool.{Bool, true, false}
 use mathlib.Core.List.{List}
-use lib.ListN.{length, take}
+use lib.ListN.{length, take, length-take}
 use Rattle.reach.specs.declared.Refusal.{Refusal}
 use Rattle.reach.specs.declared.Verdict.{Verdict}
 use Rattle.reach.specs.Lists.{listBytes, written}
@@ -13,6 +13,8 @@ use Rattle.reach.specs.Answers.{SearchAnswer, noSearch, complete, cutShort, sea
 use Rattle.reach.specs.Text.{refusalLine, listText}
 use Rattle.reach.proofs.Base.{clash}
 use Rattle.reach.proofs.Text.{textBy, text-written}
+use Rattle.printing.specs.Writing.{Fronts}
+use Rattle.printing.proofs.Lengths.{Bytes, part-bytes, text-short}
 use Rattle.search.specs.declared.Answer.{Answer}
 use Rattle.search.specs.declared.Answer.the-variants as Answer
 use Rattle.search.specs.Answering.{answerOf}
@@ -70,3 +72,11 @@ module _ (file work before after : List ℕ) (wrote : after ≡ written (listed 
   full-inside n is =
       let behind = bytes-behind file work before after (Answer.Full n) (record { answer-is = is; list-is = wrote }) in
       omega (arith, behind .1, behind .2, room-inside (length before))
+
+-- The text of the first bytes of a list slice has at most four times the slice's bytes, and 64 more.
+pub part-short : (full : Bool) (n : ℕ) (list : List ℕ) → Bytes list → length (listText full (take n list)) ≤ 4 * length list + 64
+part-short full n list bytes = omega (arith, text-short full (take n list) (part-bytes list 0 n bytes), length-take n list)
+
+-- a text that was written is also written by another name
+pub written-as : {before s t after : List ℕ} {r : ℕ} → s ≡ t → Fronts before s after r → Fronts before t after r
+written-as {before} {s} {t} {after} {r} same wrote = subst (λ (x : List ℕ). Fronts before x after r) same wrote
