@@ -1,8 +1,10 @@
 """Makes the rule files on which the program reachlist is run, and the text that it must print for each.
 
-They lie in the folder tests/reachlist: NAME.rule is what it reads, NAME.out what it prints. With --check nothing is
+They lie in the folder tests/reachlist: NAME.rule is what it reads, NAME.out what it prints. tests/check_reachlist.py
+runs the program on them. The program report_vectors runs the same files, in the order of their names: its stdin has
+each behind its three-byte length, low byte first, its stdout each text and a line `end`. With --check nothing is
 written, and the exit status is 1 where the stored files differ. Either way it is 1 where the set lacks a kind of last
-line. tests/check_reachlist.py runs the program on them.
+line.
 """
 
 import os
@@ -13,6 +15,7 @@ from blind.build import call, case, con, fn, go, target, two, ty, var
 from blind.enumerate import reachlist
 from make_boundary import file_of_size
 from rules import HOLLOW, P, changed
+from vectors import store
 
 FOLDER = os.path.join(os.path.dirname(os.path.abspath(__file__)), "reachlist")
 
@@ -81,6 +84,14 @@ def lacking(texts):
     return sorted(wanted - kinds) + [f"share {share}" for share in sorted({"0", "33", "66", "100"} - shares)]
 
 
+def store_vectors(made, names):
+    """Stores the stdin and the stdout of the program report_vectors. The result is an exit status."""
+    files = [made[name + ".rule"] for name in names]
+    stdin = b"".join(len(rule_file).to_bytes(3, "little") + rule_file for rule_file in files)
+    stdout = b"".join(made[name + ".out"] + b"end\n" for name in names)
+    return store("report_vectors", stdin, stdout, sys.argv[1:])
+
+
 def main():
     files = {**examples(), **refused(), **lists()}
     made = {}
@@ -102,7 +113,8 @@ def main():
         print(f"{len(files)} rule files, {sum(map(len, made.values()))} bytes")
     for fault in wrong:
         print(f"reachlist: {fault}", file=sys.stderr)
-    return 1 if wrong else 0
+    differs = store_vectors(made, sorted(files))
+    return 1 if wrong or differs else 0
 
 
 if __name__ == "__main__":

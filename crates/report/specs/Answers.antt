@@ -1,0 +1,10 @@
+-- What the call `report` writes, in terms of reach's definitions.
+-- Rests on reach's Answers and Text.
+use Prim.Native.Nat.{ℕ}
+use mathlib.Core.List.{List}
+use Rattle.reach.specs.Answers.{searchAnswer}
+use Rattle.reach.specs.Text.{text}
+
+-- the text of the answer that 01 defines for a rule file, with so many words and so many bytes for the list
+abbrev pub reportText : List ℕ → ℕ → ℕ → List ℕ
+reportText file work list = text (searchAnswer file work list)
