@@ -1,6 +1,7 @@
 -- The demands of the request, said of the call `search`. A reviewer reads this file with the contract in src/lib.rt: the sentence that a theorem answers
--- stands above it, and its statement uses definitions of specs/ only, and `decoded`, the reading of an entry's bytes, of reach's ReadBack.
--- `Promised file work before after r` is the contract: the call answered r, and the list slice that held the bytes `before` holds `after`. The list is read
+-- stands above it, and its statement uses definitions of specs/ only.
+-- `Promised file work work′ before after r` is the contract: the call answered r, the list slice that held the bytes `before` holds `after`, and the work
+-- slice that held the words `work` holds `work′`. The list is read
 -- back from its bytes, `take (lengthIn r) after`: `ReadsAs p bytes k e` says that entry k there is e. Nothing is asked of the file and of the slices.
 -- That each call stops and touches nothing outside its buffers is what the check proves of every function.
 -- The closed run has a like contract, `r ≡ answerOf (runAnswer file input (length work))`, in crate closed: its outcome is that of `run p j`, of which the
@@ -36,12 +37,13 @@ use Rattle.reach.proofs.Demands as Reach
 use Rattle.search.specs.declared.Answer.{Answer}
 use Rattle.search.specs.declared.Answer.the-variants as Answer
 use Rattle.search.specs.Answering.{Promised}
+use Rattle.search.specs.Exploring.{WordsAfter}
 use Rattle.search.specs.Listing.{lengthIn, refusalIn, verdictIn, ReadsAs}
 use Rattle.search.proofs.Cutting.{size-more, written-none, written-length}
 use Rattle.search.proofs.Called.{length-is, refusal-is, verdict-is, refused-when, full-when, complete-when, complete-lists, full-lists, refused-lists, listed-room, room-inside, written-take, written-drop, member-number, no-numbers, none-lists, says-spent}
 use Rattle.search.proofs.Reading.{part-of, reads-exactly, reads-or-empty}
 
-module _ (file work before after : List ℕ) (r : Answer) (call : Promised file work before after r) where
+module _ (file work work′ before after : List ℕ) (r : Answer) (call : Promised file work work′ before after r) where
   -- the definition's answer, which the call shows, and the entries listed
   abbrev answer : SearchAnswer
   answer = searchAnswer file (length work) (length before)
@@ -91,11 +93,13 @@ module _ (file work before after : List ℕ) (r : Answer) (call : Promised file 
       × (v ≡ verdict (entries p)))
   complete-exactly n v = rw (call .answer-is) (complete-when file (length work) (length before) n v)
 
-  -- 01, "Turned back": "Refusals 1 to 11 change no buffer." Of the list slice.
-  pub refused-unchanged : (why : Refusal) → r ≡ Answer.Refused why → after ≡ before
-  refused-unchanged why is =
-      call .list-is
-      ∙ rw (refused-lists file (length work) (length before) why (sym (call .answer-is) ∙ is)) (written-none before)
+  -- 01, "Turned back": "Refusals 1 to 11 change no buffer."
+  pub refused-unchanged : (why : Refusal) → r ≡ Answer.Refused why → (after ≡ before) × (work′ ≡ work)
+  refused-unchanged why is = (
+    call .list-is
+        ∙ rw (refused-lists file (length work) (length before) why (sym (call .answer-is) ∙ is)) (written-none before),
+    subst (λ a. WordsAfter a file work work′) is (call .words-are),
+  )
 
   -- The entries of the list, read back from its bytes.
   module _ (p : Program) (checked : check file ≡ accepted p) where

@@ -1,3 +1,3 @@
-pub mod Answering
 pub mod Listing
 pub mod Exploring
+pub mod Answering
