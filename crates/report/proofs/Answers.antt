@@ -74,8 +74,13 @@ module _ (file work before after : List ℕ) (wrote : after ≡ written (listed 
       omega (arith, behind .1, behind .2, room-inside (length before))
 
 -- The text of the first bytes of a list slice has at most four times the slice's bytes, and 64 more.
-pub part-short : (full : Bool) (n : ℕ) (list : List ℕ) → Bytes list → length (listText full (take n list)) ≤ 4 * length list + 64
+part-short : (full : Bool) (n : ℕ) (list : List ℕ) → Bytes list → length (listText full (take n list)) ≤ 4 * length list + 64
 part-short full n list bytes = omega (arith, text-short full (take n list) (part-bytes list 0 n bytes), length-take n list)
+
+-- and so it is where that text was written
+pub list-short : (full : Bool) (n : ℕ) (list : List ℕ) {before after : List ℕ} {m r : ℕ} → Fronts before (listText full (take n list)) after r → Bytes list
+    → length list ≡ m → r ≤ 4 * m + 64
+list-short full n list wrote bytes same = omega (arith, wrote .size, part-short full n list bytes)
 
 -- a text that was written is also written by another name
 pub written-as : {before s t after : List ℕ} {r : ℕ} → s ≡ t → Fronts before s after r → Fronts before t after r

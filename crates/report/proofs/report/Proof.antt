@@ -7,7 +7,7 @@ use mathlib.Core.Path.{sym, _∙_}
 use native.Mathlib.Omega.{arith}
 use Rattle.printing.proofs.Lengths.{refusal-short}
 use borrow.Author.Needs.{needs}
-use Rattle.report.proofs.Answers.{refused-text, complete-text, full-text, complete-inside, full-inside, part-short, written-as}
+use Rattle.report.proofs.Answers.{refused-text, complete-text, full-text, complete-inside, full-inside, list-short, written-as}
 use Rattle.report.proofs.report.Statement.{statement}
 use Rattle.report.proofs.report.Tie as tie
 
@@ -26,8 +26,10 @@ slice-reshare-prefix-list-text c =
     let a = c .before .before .before .before .before .before .before .before .before .before .before .before .before .before .args in
     let searched = c .before .before .before .before .before .before .before .search in
     let n = c .before .n .given in
+    let inside =
     complete-inside (a .file .now) (a .work .now) (a .list .now) (searched .last .1 .1 .0) (searched .ensures .1 .0) (n .0 .0) _
-    (sym (n .1) ∙ searched .ensures .0)
+    (sym (n .1) ∙ searched .ensures .0) in
+    omega (arith, inside)
 
 slice-aggregate-list-text : tie.Need-slice-aggregate-list-text
 slice-aggregate-list-text c = sym (length-take-le _ _ (slice-reshare-prefix-list-text (c .before)))
@@ -42,7 +44,7 @@ returns-2 c =
     let wrote = c .before .before .list-text .ensures in
     let is = sym (n .1) ∙ searched .ensures .0 in (
       written-as (complete-text (a .file .now) (a .work .now) (a .list .now) list (searched .ensures .1 .0) (n .0 .0) _ is) wrote,
-      omega (arith, wrote .size, searched .kept .1 .1 .0, part-short false (n .0 .0) list (λ i. omega (arith, known i))),
+      list-short _ (n .0 .0) list wrote (λ i. omega (arith, known i)) (searched .kept .1 .1 .0),
     )
 
 slice-reshare-prefix-list-text-2 : tie.Need-slice-reshare-prefix-list-text-2
@@ -50,8 +52,10 @@ slice-reshare-prefix-list-text-2 c =
     let a = c .before .before .before .before .before .before .before .before .before .before .before .before .before .before .args in
     let searched = c .before .before .before .before .before .before .before .search in
     let n = c .before .n2 .given in
+    let inside =
     full-inside (a .file .now) (a .work .now) (a .list .now) (searched .last .1 .1 .0) (searched .ensures .1 .0) (n .0 .0)
-    (sym (n .1) ∙ searched .ensures .0)
+    (sym (n .1) ∙ searched .ensures .0) in
+    omega (arith, inside)
 
 slice-aggregate-list-text-2 : tie.Need-slice-aggregate-list-text-2
 slice-aggregate-list-text-2 c = sym (length-take-le _ _ (slice-reshare-prefix-list-text-2 (c .before)))
@@ -66,7 +70,7 @@ returns-3 c =
     let wrote = c .before .before .list-text2 .ensures in
     let is = sym (n .1) ∙ searched .ensures .0 in (
       written-as (full-text (a .file .now) (a .work .now) (a .list .now) list (searched .ensures .1 .0) (n .0 .0) is) wrote,
-      omega (arith, wrote .size, searched .kept .1 .1 .0, part-short true (n .0 .0) list (λ i. omega (arith, known i))),
+      list-short _ (n .0 .0) list wrote (λ i. omega (arith, known i)) (searched .kept .1 .1 .0),
     )
 
 pub report-spec : {M : Type 1} → statement M
