@@ -4,3 +4,4 @@ pub mod Bound
 pub mod Looping
 pub mod Beginning
 pub mod Answering
+pub mod Demands

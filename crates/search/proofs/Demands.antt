@@ -1,11 +1,10 @@
 -- The demands of the request, said of the call `search`. A reviewer reads this file with the contract in src/lib.rt: the sentence that a theorem answers
 -- stands above it, and its statement uses definitions of specs/ only.
 -- `Promised file work work′ before after r` is the contract: the call answered r, the list slice that held the bytes `before` holds `after`, and the work
--- slice that held the words `work` holds `work′`. The list is read
--- back from its bytes, `take (lengthIn r) after`: `ReadsAs p bytes k e` says that entry k there is e. Nothing is asked of the file and of the slices.
+-- slice that held the words `work` holds `work′`. The list is read back from its bytes, `take (lengthIn r) after`: `ReadsAs p bytes k e` says that entry k
+-- there is e. Nothing is asked of the file and of the slices.
 -- That each call stops and touches nothing outside its buffers is what the check proves of every function.
--- The closed run has a like contract, `r ≡ answerOf (runAnswer file input (length work))`, in crate closed: its outcome is that of `run p j`, of which the
--- theorems here speak, with unfinished-spent and closed-run-ends of reach's Demands, and input-exactly there says when its bytes are an input (refusal 10).
+-- The demands said of the call `run` stand in closed's Demands: its outcome is that of `run p j`, of which the theorems here speak.
 -- Rests on reach's Demands for the definition, and on Called, Reading, Refusals and Cutting for what the call shows of it.
 use Prim.Native.Nat.{ℕ, _+_, _≤_, _<_}
 use native.Mathlib.Omega.{arith}

@@ -1,0 +1,145 @@
+-- The demands of the request, said of the call `run`: its answer, by what its contract promises, is the outcome of the published evaluation on the closed
+-- input whose bytes it was given, with exact steps, or one refusal under exactly its condition.
+-- What is proved of that evaluation stands in reach's Demands; what the search says of the same evaluation, in search's Demands.
+-- Rests on reach's ClosedInputs and Evaluation.
+use Prim.Native.Nat.{ℕ, _≤_, _<_}
+use mathlib.Core.Path.{_≡_, refl, sym, _∙_, ap, subst}
+use mathlib.Core.Logic.{_⊎_, inl, inr, _↔_}
+use mathlib.Core.List.{List}
+use mathlib.Core.Option.{Option, none, some, Option·some-injective}
+use native.Mathlib.Omega.{arith}
+use lib.ListN.{length}
+use lib.Dec.{leb}
+use borrow.Author.Tests.{le-leb, lt-leb, leb-true, leb-false}
+use Rattle.reach.specs.declared.Refusal.{Refusal}
+use Rattle.reach.specs.declared.Refusal.the-variants.{BadInput, WorkTooShort}
+use Rattle.reach.specs.declared.Outcome.{Outcome}
+use Rattle.reach.specs.declared.Outcome.the-variants.{Reached, Ended, Unfinished}
+use Rattle.reach.specs.Words.{stepsOf}
+use Rattle.reach.specs.Limits.{workWords}
+use Rattle.reach.specs.Syntax.{Program}
+use Rattle.reach.specs.Parts.{Parts, prefix}
+use Rattle.reach.specs.Types.{WithinDepth}
+use Rattle.reach.specs.Eval.{Run, reached, ended, unfinished, halted, run, Spent, NotHalted}
+use Rattle.reach.specs.Input.{inputOf}
+use Rattle.reach.specs.Answers.{Checked, accepted, turnedBack, check, RunAnswer, noRun, ran, outcomeOf, runInput, runChecked, runAnswer}
+use Rattle.reach.proofs.Base.{clash, picked}
+use Rattle.reach.proofs.Evaluation.{run-spent, run-ends}
+use Rattle.reach.proofs.ClosedInputs.{input-exactly}
+use Rattle.closed.specs.declared.Answer.{Answer}
+use Rattle.closed.specs.declared.Answer.the-variants as Answer
+use Rattle.closed.specs.Running.{answerOf}
+
+-- the bytes are one closed, fitting value per parameter: the prefix form of j
+abbrev pub IsInput : Program → List ℕ → Parts → Type 0
+IsInput p input j = WithinDepth p j × (prefix j ≡ input)
+
+-- What the answer of an accepted file says.
+abbrev RunMeans : Program → List ℕ → ℕ → RunAnswer → Type 0
+RunMeans p input work (noRun why) =
+    ((why ≡ BadInput) × (inputOf p input ≡ none)) ⊎ ((why ≡ WorkTooShort) × ((j : Parts) × (inputOf p input ≡ some j) × (work < workWords (p .steps))))
+RunMeans p input work (ran o) = (j : Parts) × (inputOf p input ≡ some j) × (workWords (p .steps) ≤ work) × (o ≡ outcomeOf (run p j))
+
+input-means : (p : Program) (input : List ℕ) (work : ℕ) (i : Option Parts) → inputOf p input ≡ i → RunMeans p input work (runInput p work i)
+unfolding runInput
+input-means p input work none is = inl (refl, is)
+input-means p input work (some j) is =
+    picked (RunMeans p input work) (leb (workWords (p .steps)) work) (λ enough. (j, is, leb-true _ _ enough, refl)) (λ short. inr (refl, (j, is, leb-false _ _ short)))
+
+run-means : (file input : List ℕ) (work : ℕ) (p : Program) → check file ≡ accepted p → RunMeans p input work (runAnswer file input work)
+unfolding runAnswer runChecked
+run-means file input work p checked = rw checked (input-means p input work (inputOf p input) refl)
+
+run-turned-back : (file input : List ℕ) (work : ℕ) (why : Refusal) → check file ≡ turnedBack why → runAnswer file input work ≡ noRun why
+unfolding runAnswer runChecked
+run-turned-back file input work why checked = rw checked
+
+-- the steps of an outcome are those of the run
+steps-kept : (limit : ℕ) (x : Run) → Spent limit x → stepsOf (outcomeOf x) ≤ limit
+unfolding outcomeOf
+steps-kept limit (reached n) spent = spent
+steps-kept limit (ended why n) spent = spent
+steps-kept limit (unfinished n) spent = omega arith
+steps-kept limit (halted q n) spent = omega arith
+
+unfinished-kept : (limit n : ℕ) (x : Run) → Spent limit x → NotHalted x → Unfinished n ≡ outcomeOf x → n ≡ limit
+unfolding outcomeOf
+unfinished-kept limit n (reached m) spent ends is = absurd (clash (cc))
+unfinished-kept limit n (ended why m) spent ends is = absurd (clash (cc))
+unfinished-kept limit n (unfinished m) spent ends is = let same : n ≡ m = cc in same ∙ spent
+unfinished-kept limit n (halted q m) spent ends is = absurd ends
+
+-- `r ≡ answerOf (runAnswer file input (length work))` is the contract: the call answered r.
+module _ (file input work : List ℕ) (r : Answer) (call : r ≡ answerOf (runAnswer file input (length work))) where
+  -- 01, "Turned back": a file that the check refuses gets its number, whatever the input and the words are.
+  pub refused-file : (why : Refusal) → check file ≡ turnedBack why → r ≡ Answer.Refused why
+  refused-file why checked = call ∙ ap answerOf (run-turned-back file input (length work) why checked)
+
+  module _ (p : Program) (checked : check file ≡ accepted p) where
+    means : RunMeans p input (length work) (runAnswer file input (length work))
+    means = run-means file input (length work) p checked
+
+    read : (j : Parts) → inputOf p input ≡ some j → IsInput p input j
+    read j = input-exactly p input j .0
+
+    -- the bytes are of one input at most
+    one-input : (j k : Parts) → inputOf p input ≡ some j → IsInput p input k → j ≡ k
+    one-input j k is other = Option·some-injective j k (sym is ∙ input-exactly p input k .1 other)
+
+    -- Demand 1 and 2: the call runs exactly where the bytes are a closed input that fits and the words are enough, and answers as the published evaluation of
+    -- that input ends, after exactly its steps.
+    pub ran-exactly : (o : Outcome) → (r ≡ Answer.Ran o) ↔ ((j : Parts) × IsInput p input j × (workWords (p .steps) ≤ length work) × (o ≡ outcomeOf (run p j)))
+    ran-exactly o = (λ is. from (runAnswer file input (length work)) means (sym call ∙ is), λ h. call ∙ into (h .0) (h .1) (h .2) (h .3) (runAnswer file input (length work)) means)
+      where
+        from : (a : RunAnswer) → RunMeans p input (length work) a → answerOf a ≡ Answer.Ran o
+            → (j : Parts) × IsInput p input j × (workWords (p .steps) ≤ length work) × (o ≡ outcomeOf (run p j))
+        from (noRun why) m is = absurd (clash (cc))
+        from (ran x) (j, reads, enough, ends) is = let same : x ≡ o = cc in (j, read j reads, enough, sym same ∙ ends)
+
+        into :
+            (j : Parts) → IsInput p input j → workWords (p .steps) ≤ length work → o ≡ outcomeOf (run p j) → (a : RunAnswer) → RunMeans p input (length work) a
+            → answerOf a ≡ Answer.Ran o
+        into j is enough ends (noRun why) (inl (by, unread)) = absurd (clash (cc (unread, input-exactly p input j .1 is)))
+        into j is enough ends (noRun why) (inr (by, (k, reads, short))) = absurd (omega arith)
+        into j is enough ends (ran x) (k, reads, fits, ended-so) =
+            let same : k ≡ j = one-input k j reads is in
+            ap Answer.Ran (ended-so ∙ ap (λ (y : Parts). outcomeOf (run p y)) same ∙ sym ends)
+
+    -- 01, "Turned back", refusal 10: "the bytes are not one closed, fitting value per parameter".
+    pub bad-exactly : (r ≡ Answer.Refused BadInput) ↔ ((j : Parts) → ¬ IsInput p input j)
+    bad-exactly = (λ is j other. from (runAnswer file input (length work)) means (sym call ∙ is) j other, λ never. call ∙ into never (runAnswer file input (length work)) means)
+      where
+        from : (a : RunAnswer) → RunMeans p input (length work) a → answerOf a ≡ Answer.Refused BadInput → (j : Parts) → IsInput p input j → ⊥
+        from (noRun why) (inl (by, unread)) is j other = clash (cc (unread, input-exactly p input j .1 other))
+        from (noRun why) (inr (by, (k, reads, short))) is j other = clash (cc (by))
+        from (ran x) m is j other = clash (cc)
+
+        into : ((j : Parts) → ¬ IsInput p input j) → (a : RunAnswer) → RunMeans p input (length work) a → answerOf a ≡ Answer.Refused BadInput
+        into never (noRun why) (inl (by, unread)) = ap Answer.Refused by
+        into never (noRun why) (inr (by, (k, reads, short))) = absurd (never k (read k reads))
+        into never (ran x) (k, reads, fits, ended-so) = absurd (never k (read k reads))
+
+    -- 01, "Turned back", refusal 11: "the work slice of 32-bit words is shorter than 64 × S + 1,024", tested after the input.
+    pub short-exactly : (r ≡ Answer.Refused WorkTooShort) ↔ ((j : Parts) × IsInput p input j × (length work < workWords (p .steps)))
+    short-exactly = (λ is. from (runAnswer file input (length work)) means (sym call ∙ is), λ h. call ∙ into (h .0) (h .1) (h .2) (runAnswer file input (length work)) means)
+      where
+        from : (a : RunAnswer) → RunMeans p input (length work) a → answerOf a ≡ Answer.Refused WorkTooShort → (j : Parts) × IsInput p input j × (length work < workWords (p .steps))
+        from (noRun why) (inl (by, unread)) is = absurd (clash (cc (by)))
+        from (noRun why) (inr (by, (k, reads, short))) is = (k, read k reads, short)
+        from (ran x) m is = absurd (clash (cc))
+
+        into : (j : Parts) → IsInput p input j → length work < workWords (p .steps) → (a : RunAnswer) → RunMeans p input (length work) a → answerOf a ≡ Answer.Refused WorkTooShort
+        into j is short (noRun why) (inl (by, unread)) = absurd (clash (cc (unread, input-exactly p input j .1 is)))
+        into j is short (noRun why) (inr (by, other)) = ap Answer.Refused by
+        into j is short (ran x) (k, reads, fits, ended-so) = absurd (omega arith)
+
+    -- 01: steps spent are "never above S"; "unfinished: S steps are done".
+    pub steps-spent : (o : Outcome) → r ≡ Answer.Ran o → stepsOf o ≤ p .steps
+    steps-spent o is =
+        let (j, reads, enough, ends) = ran-exactly o .0 is in
+        rw ends (steps-kept (p .steps) (run p j) (run-spent p j))
+
+    pub unfinished-all : (n : ℕ) → r ≡ Answer.Ran (Unfinished n) → n ≡ p .steps
+    unfinished-all n is =
+        let (j, reads, enough, ends) = ran-exactly (Unfinished n) .0 is in
+        unfinished-kept (p .steps) n (run p j) (run-spent p j) (run-ends p j (reads .0 .0 .0)) ends
