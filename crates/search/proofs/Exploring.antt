@@ -42,7 +42,7 @@ use Rattle.listing.specs.Entry.{kindOf, InputIn, Listable, entryFor, WroteFor, 
 use Rattle.listing.proofs.Bytes.{entry-length}
 use Rattle.search.specs.declared.Answer.the-variants as Answer
 use Rattle.search.specs.Listing.{joined}
-use Rattle.search.specs.Exploring.{GoesOn, verdictAfter, ListableAs, WroteAs, WholeList, FirstEntries, Begins, SomeBegins, Explores}
+use Rattle.search.specs.Exploring.{firstWalk, GoesOn, verdictAfter, ListableAs, WroteAs, WholeList, FirstEntries, Begins, SomeBegins, Explores}
 use Rattle.search.proofs.Cutting.{verdict-more, size-more, written-none, written-length, written-more}
 
 -- the search goes on while a path is under way, and behind the end of one while there is a choice point
@@ -100,7 +100,7 @@ module _ (file types functions least : List ℕ) (label : ℕ) (w₀ : List ℕ)
   abbrev pub CameTo : List ℕ → Walk → List ℕ → ℕ → Verdict → Type 0
   CameTo w x l n v = (p : Program) → Begins (at-program p) label w₀ parameters from → Came p w x l n v
 
-  pub came-first : CameTo w₀ (record { position = Position.On from; cells = parameters; done = 0; height = 0 }) before 0 Verdict.None
+  pub came-first : CameTo w₀ (firstWalk parameters from) before 0 Verdict.None
   unfolding listBytes flatMap
   came-first p begins =
       let none : limit - 0 ≡ limit = omega arith in
@@ -300,17 +300,13 @@ module _ (file types functions least : List ℕ) (label : ℕ) (w₀ : List ℕ)
 
 -- The same, whatever registers the search began with: the loop knows them as those of its first walk.
 
--- the walk at the beginning
-abbrev pub firstWalk : ℕ → Registers → Walk
-firstWalk parameters from = record { position = Position.On from; cells = parameters; done = 0; height = 0 }
-
 abbrev pub CameFrom : (file types functions least : List ℕ) (label : ℕ) (w₀ : List ℕ) (limit base stack parameters : ℕ) (before : List ℕ) → Walk → List ℕ → Walk → List ℕ → ℕ → Verdict → Type 0
 CameFrom file types functions least label w₀ limit base stack parameters before x₀ w x l n v =
     (from : Registers) → x₀ ≡ firstWalk parameters from → CameTo file types functions least label w₀ limit base stack parameters from before w x l n v
 
 pub came-begin :
-    (file types functions least : List ℕ) (label : ℕ) (w₀ : List ℕ) (limit base stack parameters : ℕ) (before : List ℕ) (from : Registers)
-    → CameFrom file types functions least label w₀ limit base stack parameters before (firstWalk parameters from) w₀ (firstWalk parameters from) before 0 Verdict.None
-came-begin file types functions least label w₀ limit base stack parameters before from r is =
+    (file types functions least : List ℕ) (label : ℕ) (w₀ : List ℕ) (limit base stack parameters : ℕ) (before : List ℕ) (x₀ : Walk)
+    → CameFrom file types functions least label w₀ limit base stack parameters before x₀ w₀ x₀ before 0 Verdict.None
+came-begin file types functions least label w₀ limit base stack parameters before x₀ r is =
     subst (λ y. CameTo file types functions least label w₀ limit base stack parameters r before w₀ y before 0 Verdict.None) (sym is)
     (came-first file types functions least label w₀ limit base stack parameters r before)

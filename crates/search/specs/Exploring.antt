@@ -42,6 +42,10 @@ pub record Opened (file w w′ : List ℕ) (base first n depth : ℕ) : Type 0 w
   pub zeros : Wrote w₁ w₂ base 0 0 0 0 0
   pub group : Wrote w₂ w′ base 1 0 n 0 0
 
+-- the walk at the beginning
+abbrev pub firstWalk : ℕ → Registers → Walk
+firstWalk parameters from = record { position = Position.On from; cells = parameters; done = 0; height = 0 }
+
 -- whether the search goes on
 abbrev pub GoesOn : Walk → Bool → Type 0
 GoesOn x true = Active x

@@ -8,7 +8,7 @@ ghost use Rattle.reach.specs.Syntax.{Program};
 ghost use Rattle.reach.specs.Lists.{written};
 ghost use Rattle.reach.specs.Answers.{searchAnswer, listed};
 ghost use Rattle.search.specs.Answering.{answerOf};
-ghost use Rattle.search.specs.Exploring.{Opened, GoesOn, verdictAfter, ListableAs, WroteAs, SomeBegins, Explores, Searchable, settingOf, Explored, WordsAfter};
+ghost use Rattle.search.specs.Exploring.{Opened, firstWalk, GoesOn, verdictAfter, ListableAs, WroteAs, SomeBegins, Explores, Searchable, settingOf, Explored, WordsAfter};
 use cells::start_cells;
 use depths::Depths;
 use entries::room;
@@ -119,6 +119,18 @@ fn write_listing<'a>(
     }
 }
 
+// Where a search stands at its beginning: on a path with no step done and every parameter open.
+fn first_walk(parameters: usize, from: Registers) -> Walk
+    ensures { λ r. ⌜ r ≡ firstWalk parameters from ⌝ }
+{
+    Walk {
+        position: Position::On(from),
+        cells: parameters,
+        done: 0,
+        height: 0,
+    }
+}
+
 // The moves of a search, from the registers at its beginning on, and the list that they give.
 fn explore<'a>(
     file: &'a [u8],
@@ -137,12 +149,7 @@ fn explore<'a>(
     requires { ⌜ SomeBegins (now file) (now types) (now functions) (least .of) label (now work) limit base stack parameters from ⌝ }
     ensures { λ a. ⌜ Explores (now (file .entry)) (now (types .entry)) (now (functions .entry)) (least .of) label (now (work .entry)) (now (work .exit)) limit base stack parameters from (now (list .entry)) (now (list .exit)) a ⌝ }
 {
-    let mut walk = Walk {
-        position: Position::On(from),
-        cells: parameters,
-        done: 0,
-        height: 0,
-    };
+    let mut walk = first_walk(parameters, from);
     let mut at: usize = 0;
     let mut verdict = Verdict::None;
     while is_active(walk) {
