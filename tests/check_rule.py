@@ -1,18 +1,16 @@
 """Tests tools/rule: every text in examples builds to the rule file beside it, and its comment has the lines that the
 blind search gives with the text's names; `show` and `build` give back the bytes of the examples and of the stored rule
-files that the blind checker accepts; each kind of fault is reported with its line; the commands print what they should.
-The exit status is 1 where anything differs."""
+files that are accepted, and of no others; each kind of fault is reported with its line; the commands print what they
+should. The exit status is 1 where anything differs."""
 
 import importlib.util
 import os
-import random
 import subprocess
 import sys
 from importlib.machinery import SourceFileLoader
 
 sys.dont_write_bytecode = True
 
-from blind.build import go, random_rule
 from blind.enumerate import fill, printed
 from blind.narrow import Narrowing
 from blind.rulefile import Program, check, read
@@ -74,29 +72,27 @@ def check_example(name):
         wrong.append(f"the comment of {name}.txt shows other lines than {lines}")
 
 
-def check_round_trip(name, data):
-    """A rule file that is accepted comes back from its text; of one that is not there is no text to build."""
-    answer = check(data)
+def check_round_trip(name, data, accepted):
+    """A rule file that is accepted comes back from its text; of another there is no text to build."""
     try:
         again = rule.build(rule.show(data))
     except rule.Fault as fault:
-        if isinstance(answer, Program):
+        if accepted:
             wrong.append(f"{name}: {fault.message}")
         return
     compare(f"{name} and back", again, data)
-    if not isinstance(answer, Program):
-        wrong.append(f"{name} is built, and refused as {answer}")
+    if not accepted:
+        wrong.append(f"{name} is built, and it is refused")
 
 
-def random_files(count):
-    """Accepted rule files, and the same with a byte changed."""
-    rng = random.Random(7)
-    for _ in range(count):
-        records, label, functions = random_rule(rng, 4, 4, 3, 4, 3, 6)
-        data = bytearray(records + go(rng.randrange(functions), label, rng.randint(1, 6), rng.randint(0, 300)))
-        yield bytes(data)
-        data[rng.randrange(len(data))] = rng.randrange(7)
-        yield bytes(data)
+def check_vectors():
+    """The stored cases of the program check_vectors: each file behind its two-byte length, and a line with its answer."""
+    data, place = stored("crates", "check_vectors", "stdin"), 0
+    for number, answer in enumerate(stored("crates", "check_vectors", "stdout").split(b"\n")[:-1]):
+        length = int.from_bytes(data[place:place + 2], "little")
+        check_round_trip(f"case {number} of check_vectors", data[place + 2:place + 2 + length], answer == b"accepted")
+        place += 2 + length
+    compare("bytes of check_vectors", place, len(data))
 
 
 # Faults: a text that is right, what is changed in it, and the line and the message that this must give.
@@ -111,7 +107,7 @@ fn small (n : nat) (m : nat) : nat =
 go small label 3 depth 4 steps 20
 """
 
-NEST = "suc (" * 40 + "zero" + ")" * 40
+NEST = "suc (" * 32 + "zero" + ")" * 32
 TYPES = "".join(f"type t{number} = c{number}\n" for number in range(33))
 FUNCTIONS = "".join(f"fn f{number} : nat = zero\n" for number in range(64))
 CONSTRUCTORS = " | ".join(f"c{number}" for number in range(17))
@@ -177,15 +173,14 @@ FAULTS = [
 ]
 
 
-def bushy(depth):
-    """A construction with three fields of three fields, and so on."""
-    inner = bushy(depth - 1) if depth else ""
-    return f"(c {inner} {inner} {inner})" if depth else "e"
+def bushy(inner):
+    """A construction with so many inner nodes of three fields each, shared out evenly: 9 * inner + 3 bytes."""
+    return f"(c {' '.join(bushy((inner - 1 + k) // 3) for k in range(3))})" if inner else "e"
 
 
 def long_body():
-    """A body of 364 * 3 bytes."""
-    return f"type t = e | c t t t\nfn f : t =\n  {bushy(5)}\ngo f label 0 depth 1 steps 0\n"
+    """A body of 7 * 2 + 9 * 112 + 3 bytes."""
+    return f"type t = e | c t t t\nfn f : t =\n  {'target 0 ' * 7}{bushy(112)}\ngo f label 0 depth 1 steps 0\n"
 
 
 def wide_view():
@@ -197,12 +192,18 @@ def wide_view():
 
 
 def many_bytes():
-    """A rule file with 60 bodies of 121 * 3 bytes each: 8 + 60 * (6 + 363) + 7 bytes."""
-    functions = "".join(f"fn f{number} : t = {bushy(4)}\n" for number in range(60))
+    """A rule file with 60 bodies of 9 * 40 + 3 bytes each: 8 + 60 * (6 + 363) + 7 bytes."""
+    functions = "".join(f"fn f{number} : t = {bushy(40)}\n" for number in range(60))
     return "type t = e | c t t t\n" + functions + "go f0 label 0 depth 1 steps 0\n"
 
 
 SHALLOW = "type a = a\ntype b = b a\nfn f (x : a) (y : b) : a = x\ngo f label 0 depth 1 steps 0\n"
+
+
+def page_example():
+    """The first example on the page about the text."""
+    lines = stored("docs", "RULES.md").decode().split("\n## ")[0].split("\n")
+    return "\n".join(line[4:] for line in lines if line.startswith("    ")) + "\n"
 
 
 def check_faults():
@@ -212,7 +213,7 @@ def check_faults():
             wrong.append(f"'{old}' is not in the text")
         compare(f"'{new[:60]}' for '{old}'", fault_of(rule.build, RIGHT.replace(old, new, 1)), (line, message))
     compare("an empty text", fault_of(rule.build, ""), (1, "the text has no 'go' line"))
-    compare("a long body", fault_of(rule.build, long_body()), (2, "the body of 'f' has 1092 bytes; it may have 1024"))
+    compare("a long body", fault_of(rule.build, long_body()), (2, "the body of 'f' has 1025 bytes; it may have 1024"))
     compare("a wide view", fault_of(rule.build, wide_view()), (35, "'b15' is one variable too many; 32 may be in view"))
     compare("many bytes", fault_of(rule.build, many_bytes()), (62, "the rule file has 22155 bytes; it may have 16384"))
     compare("a shallow depth", fault_of(rule.build, SHALLOW), (4, "the depth is 1, and the values of parameter 'y' have "
@@ -229,6 +230,7 @@ def run(*arguments, stdin=b""):
 
 
 def check_commands():
+    compare("the example of docs/RULES.md", rule.build(page_example()), stored("examples", "p.rule"))
     compare("build", run("build", "p.txt"), (0, stored("examples", "p.rule"), ""))
     shown = (b"type t0 = t0c0 | t0c1 t0\nfn f0 (x0 : t0) : t0 =\n  case x0 : t0 of\n    t0c0 -> t0c0\n"
              b"    t0c1 x1 -> case x1 : t0 of\n      t0c0 -> t0c0\n      t0c1 x2 -> target 7 t0c0\n"
@@ -237,13 +239,15 @@ def check_commands():
     named = (0, b"reach 6  suc (suc _)\ntotal 1 0 0 found\n", "")
     compare("names", run("names", "p.txt", stdin=stored("tests", "reachlist", "p.out")), named)
     compare("a refusal", run("names", "p.txt", stdin=b"refused 11\n"), (0, b"refused 11 bench\n", ""))
+    writer = rule.compiled(stored("examples", "p.txt").decode())
     for line, message in (("reach 6 1 2 _", "'2' does not fit the rule's type nat here"),
                           ("reach 6 1", "the entry is too short for the rule"),
                           ("reach 6 0 0", "the entry is too long for the rule"),
                           ("reach 6 1 1 1 1 1 _", "'1' does not fit the rule's type nat here"),
                           ("reached", "this is no line of reachlist")):
-        given = b"reach 6 1 1 _\n" + line.encode() + b"\n"
-        compare(line, run("names", "p.txt", stdin=given)[::2], (1, f"standard input:2: {message}\n"))
+        compare(line, fault_of(rule.named_line, writer, line), (None, message))
+    compare("a line of its own", run("names", "p.txt", stdin=b"reach 6 1 1 _\nhello\n"),
+            (1, b"reach 6  suc (suc _)\n", "standard input:2: this is no line of reachlist\n"))
     compare("a fault", run("show", "p.rule", "p.rule"), (1, b"", "p.rule:1: the character '\\x02' has no meaning here\n"))
     compare("a missing file", run("build", "none.txt"), (1, b"", "none.txt: No such file or directory\n"))
     compare("no rule file", run("show", "p.txt"), (1, b"", "p.txt: byte 2: a mark is unknown or out of its turn\n"))
@@ -256,12 +260,12 @@ def main():
     examples = sorted(name[:-4] for name in os.listdir(os.path.join(ROOT, "examples")) if name.endswith(".txt"))
     for name in examples:
         check_example(name)
-        check_round_trip(name, stored("examples", name + ".rule"))
+        check_round_trip(name, stored("examples", name + ".rule"), True)
     for name in sorted(os.listdir(os.path.join(ROOT, "tests", "reachlist"))):
         if name.endswith(".rule"):
-            check_round_trip(name, stored("tests", "reachlist", name))
-    for number, data in enumerate(random_files(60)):
-        check_round_trip(f"random rule file {number}", data)
+            data = stored("tests", "reachlist", name)
+            check_round_trip(name, data, isinstance(check(data), Program))
+    check_vectors()
     check_faults()
     check_commands()
     for fault in wrong:
