@@ -62,7 +62,7 @@ pub fn size_at(list: &[u8], at: usize) -> Size
 }
 
 // Where the entry of a given number stands, counted from 0. Each turn of the loop passes an entry.
-fn span_of(list: &[u8], number: usize) -> Span
+pub fn span_of(list: &[u8], number: usize) -> Span
     ensures { λ r. ⌜ spanOf r ≡ entrySpan (now (list .entry)) number 0 ⌝ }
 {
     let mut at: usize = 0;

@@ -1,5 +1,5 @@
 -- The text of an answer, by the answer that the search gave and the bytes that it wrote.
--- Rests on reach's Text (the text by the bytes of a list), on search's Called and Demands (where the list stands) and on printing's Lengths.
+-- Rests on reach's Text (the text by the bytes of a list), on search's Called and Cutting (where the list stands) and on printing's Lengths.
 use Prim.Native.Nat.{ℕ, _+_, _*_, _≤_}
 use native.Mathlib.Omega.{arith}
 use mathlib.Core.Path.{_≡_, ap, subst, _∙_}
@@ -18,8 +18,9 @@ use Rattle.printing.proofs.Lengths.{Bytes, part-bytes, text-short}
 use Rattle.search.specs.declared.Answer.{Answer}
 use Rattle.search.specs.declared.Answer.the-variants as Answer
 use Rattle.search.specs.Answering.{answerOf}
-use Rattle.search.proofs.Called.{written-take, room-inside}
-use Rattle.search.proofs.Demands.{bytes-behind}
+use Rattle.search.specs.Listing.{lengthIn}
+use Rattle.search.proofs.Cutting.{written-length}
+use Rattle.search.proofs.Called.{length-is, listed-room, written-take, room-inside}
 use Rattle.report.specs.Answers.{reportText}
 
 -- the text by the bytes, of any answer of the definition
@@ -62,16 +63,24 @@ module _ (file work before after : List ℕ) (wrote : after ≡ written (listed 
   full-text n is =
       rw wrote (full-by (searchAnswer file (length work) (length before)) n before is ∙ text-written file (length work) (length before))
 
-  -- both stand in the slice
+  -- what is listed stands in the slice
+  listed-inside : length (listBytes (listed (searchAnswer file (length work) (length before)))) ≤ length after
+  listed-inside =
+      let room = listed-room file (length work) (length before) in
+      let inside = room-inside (length before) in
+      let same = written-length (listed (searchAnswer file (length work) (length before))) before (omega (arith, room, inside)) in
+      rw wrote (omega (arith, room, inside, same))
+
+  -- and so do a complete list and a list cut short
   pub complete-inside : (n : ℕ) (v : Verdict) → Answer.Complete n v ≡ answerOf (searchAnswer file (length work) (length before)) → n ≤ length after
   complete-inside n v is =
-      let behind = bytes-behind file work before after (Answer.Complete n v) (record { answer-is = is; list-is = wrote }) in
-      omega (arith, behind .1, behind .2, room-inside (length before))
+      let long : n ≡ _ = ap lengthIn is ∙ length-is (searchAnswer file (length work) (length before)) in
+      omega (arith, long, listed-inside)
 
   pub full-inside : (n : ℕ) → Answer.Full n ≡ answerOf (searchAnswer file (length work) (length before)) → n ≤ length after
   full-inside n is =
-      let behind = bytes-behind file work before after (Answer.Full n) (record { answer-is = is; list-is = wrote }) in
-      omega (arith, behind .1, behind .2, room-inside (length before))
+      let long : n ≡ _ = ap lengthIn is ∙ length-is (searchAnswer file (length work) (length before)) in
+      omega (arith, long, listed-inside)
 
 -- The text of the first bytes of a list slice has at most four times the slice's bytes, and 64 more.
 part-short : (full : Bool) (n : ℕ) (list : List ℕ) → Bytes list → length (listText full (take n list)) ≤ 4 * length list + 64

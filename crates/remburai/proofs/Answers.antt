@@ -1,0 +1,153 @@
+-- The number of an answer, by the enum that the call inside gave; and the bounds that keep it below 2 to the 64th.
+-- Rests on specs/Packing, on search's Called (the list stands in the bytes that count) and on reach's ReadBack (the part of an entry).
+use Prim.Native.Nat.{ℕ, _+_, _*_, _≤_}
+use native.Mathlib.Omega.{arith}
+use mathlib.Core.Path.{_≡_, refl, sym, ap, subst, _∙_}
+use mathlib.Core.List.{List}
+use mathlib.Core.Option.{Option, none, some}
+use lib.ListN.{length, take, drop, length-take}
+use Rattle.reach.specs.declared.Refusal.{Refusal}
+use Rattle.reach.specs.declared.Refusal.the-variants.{ListFull}
+use Rattle.reach.specs.declared.Outcome.{Outcome}
+use Rattle.reach.specs.declared.Verdict.{Verdict}
+use Rattle.reach.specs.Words.{numberOf, stepsOf}
+use Rattle.reach.specs.Limits.{listLimit}
+use Rattle.reach.specs.Lists.{roomOf, onSize, entrySpan, entryPart}
+use Rattle.reach.specs.Answers as Answers
+use Rattle.reach.proofs.Base.{clash}
+use Rattle.reach.proofs.ReadBack.{counted, part-counted, span-inside}
+use Rattle.rulefile.specs.declared.Checked.the-variants as Checked
+use Rattle.rulefile.specs.Loading.{checkedOf}
+use Rattle.search.specs.declared.Answer.{Answer}
+use Rattle.search.specs.declared.Answer.the-variants as Answer
+use Rattle.search.specs.Answering.{answerOf}
+use Rattle.search.specs.Exploring.{WordsAfter}
+use Rattle.search.specs.Listing.{lengthIn}
+use Rattle.search.proofs.Called.{length-is, listed-room}
+use Rattle.closed.specs.declared.Answer.{Answer as Ended}
+use Rattle.closed.specs.declared.Answer.the-variants as Ended
+use Rattle.closed.specs.Running as Running
+use Rattle.entries.specs.declared.Span.{Span}
+use Rattle.entries.specs.declared.Span.the-variants as span
+use Rattle.entries.specs.Spans.{spanOf}
+use Rattle.remburai.specs.Packing.{verdictNumber, outcomeNumber, checkNumber, searchNumber, runNumber, partNumber, PartAt}
+
+-- The check.
+
+pub accepted-number : (a : Answers.Checked) → Checked.Accepted ≡ checkedOf a → 0 ≡ checkNumber a
+accepted-number (Answers.accepted p) is = refl
+accepted-number (Answers.turnedBack why) is = absurd (clash (cc))
+
+pub refused-number : (a : Answers.Checked) (why : Refusal) → Checked.Refused why ≡ checkedOf a → numberOf why ≡ checkNumber a
+refused-number (Answers.accepted p) why is = absurd (clash (cc))
+refused-number (Answers.turnedBack by) why is = let same : why ≡ by = cc in ap numberOf same
+
+-- The search.
+
+pub no-search-number : (a : Answers.SearchAnswer) (why : Refusal) → Answer.Refused why ≡ answerOf a → numberOf why ≡ searchNumber a
+no-search-number (Answers.noSearch by) why is = let same : why ≡ by = cc in ap numberOf same
+no-search-number (Answers.complete es) why is = absurd (clash (cc))
+no-search-number (Answers.cutShort es) why is = absurd (clash (cc))
+
+pub complete-number : (a : Answers.SearchAnswer) (n : ℕ) (v : Verdict) → Answer.Complete n v ≡ answerOf a
+    → 256 * verdictNumber v + 65536 * n ≡ searchNumber a
+complete-number (Answers.noSearch why) n v is = absurd (clash (cc))
+complete-number (Answers.complete es) n v is = ap numberIn is
+  where
+    numberIn : Answer → ℕ
+    numberIn (Answer.Refused why) = 0
+    numberIn (Answer.Complete n v) = 256 * verdictNumber v + 65536 * n
+    numberIn (Answer.Full n) = 0
+complete-number (Answers.cutShort es) n v is = absurd (clash (cc))
+
+pub full-number : (a : Answers.SearchAnswer) (n : ℕ) → Answer.Full n ≡ answerOf a → numberOf ListFull + 65536 * n ≡ searchNumber a
+full-number (Answers.noSearch why) n is = absurd (clash (cc))
+full-number (Answers.complete es) n is = absurd (clash (cc))
+full-number (Answers.cutShort es) n is = ap (λ (r : Answer). numberOf ListFull + 65536 * lengthIn r) is
+
+-- the length in an answer counts at most 16,777,216 bytes
+pub length-small : (file : List ℕ) (work list : ℕ) (r : Answer) → r ≡ answerOf (Answers.searchAnswer file work list) → lengthIn r ≤ listLimit
+unfolding roomOf
+length-small file work list r is =
+    let long : lengthIn r ≡ _ = ap lengthIn is ∙ length-is (Answers.searchAnswer file work list) in
+    omega (arith, long, listed-room file work list)
+
+pub complete-small : (file : List ℕ) (work list n : ℕ) (v : Verdict) → Answer.Complete n v ≡ answerOf (Answers.searchAnswer file work list) → n ≤ listLimit
+complete-small file work list n v is = length-small file work list (Answer.Complete n v) is
+
+pub full-small : (file : List ℕ) (work list n : ℕ) → Answer.Full n ≡ answerOf (Answers.searchAnswer file work list) → n ≤ listLimit
+full-small file work list n is = length-small file work list (Answer.Full n) is
+
+-- what holds of the words is said of the definition's answer
+pub search-words : (r a : Answer) (file w w′ : List ℕ) → r ≡ a → WordsAfter r file w w′ → WordsAfter a file w w′
+search-words r a file w w′ is h = subst (λ (x : Answer). WordsAfter x file w w′) is h
+
+-- The closed run.
+
+pub run-words : (r a : Ended) (file w w′ : List ℕ) → r ≡ a → Running.Unchanged r file w w′ → Running.Unchanged a file w w′
+run-words r a file w w′ is h = subst (λ (x : Ended). Running.Unchanged x file w w′) is h
+
+pub run-bound : (r a : Ended) (file input w′ : List ℕ) → r ≡ a → Running.Leaves r file input w′ → Running.Leaves a file input w′
+run-bound r a file input w′ is h = subst (λ (x : Ended). Running.Leaves x file input w′) is h
+
+pub no-run-number : (a : Answers.RunAnswer) (why : Refusal) → Ended.Refused why ≡ Running.answerOf a → numberOf why ≡ runNumber a
+no-run-number (Answers.noRun by) why is = let same : why ≡ by = cc in ap numberOf same
+no-run-number (Answers.ran o) why is = absurd (clash (cc))
+
+pub ran-number : (a : Answers.RunAnswer) (o : Outcome) → Ended.Ran o ≡ Running.answerOf a → 256 * outcomeNumber o + 65536 * stepsOf o ≡ runNumber a
+ran-number (Answers.noRun by) o is = absurd (clash (cc))
+ran-number (Answers.ran other) o is = let same : o ≡ other = cc in ap (λ (x : Outcome). 256 * outcomeNumber x + 65536 * stepsOf x) same
+
+-- The entry.
+
+-- the end of the bytes that count
+pub end-small : (l : List ℕ) (end : ℕ) → end ≡ roomOf (length l) → (end ≤ listLimit) × (end ≤ length l)
+unfolding roomOf
+end-small l end room = (omega (arith, room), omega (arith, room))
+
+-- the definition's span is that of the bytes that count
+span-is : (l : List ℕ) (k end : ℕ) → end ≡ roomOf (length l) → entrySpan (take listLimit l) k 0 ≡ entrySpan (take end l) k 0
+unfolding roomOf
+span-is l k end room = ap (λ (t : List ℕ). entrySpan t k 0) (counted listLimit l ∙ ap (λ (n : ℕ). take n l) (sym room))
+
+module _ (l : List ℕ) (k end : ℕ) {r : Span} (room : end ≡ roomOf (length l)) (searched : spanOf r ≡ entrySpan (take end l) k 0) where
+  -- where no entry was found
+  pub missing-number : r ≡ span.Missing → end ≡ partNumber l k
+  unfolding partNumber
+  missing-number e =
+      let none-there = span-is l k end room ∙ sym searched ∙ ap spanOf e in
+      rw (none-there, ← room)
+
+  pub missing-part : r ≡ span.Missing → PartAt l k end
+  missing-part e =
+      let none-there = sym searched ∙ ap spanOf e in
+      record {
+        place = end;
+        size = 0;
+        packed = omega arith;
+        counts = end-small l end room .0;
+        inside = omega (arith, end-small l end room .1);
+        part-is = rw (part-counted l k, ← room, none-there);
+      }
+
+  -- and where one was
+  pub found-inside : {i n : ℕ} → r ≡ span.At i n → i + n ≤ end
+  found-inside {i} {n} e = omega (arith, span-inside (take end l) k 0 (i, n) (sym searched ∙ ap spanOf e), length-take end l)
+
+  pub found-number : {i n : ℕ} → r ≡ span.At i n → i + 4294967296 * n ≡ partNumber l k
+  unfolding partNumber
+  found-number e =
+      let there = span-is l k end room ∙ sym searched ∙ ap spanOf e in
+      rw there
+
+  pub found-part : {i n : ℕ} → r ≡ span.At i n → PartAt l k (i + 4294967296 * n)
+  found-part {i} {n} e =
+      let there = sym searched ∙ ap spanOf e in
+      record {
+        place = i;
+        size = n;
+        packed = refl;
+        counts = omega (arith, found-inside e, end-small l end room .0);
+        inside = omega (arith, found-inside e, end-small l end room .1);
+        part-is = rw (part-counted l k, ← room, there);
+      }

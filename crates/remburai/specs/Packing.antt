@@ -1,0 +1,59 @@
+-- The number that each call for C answers with. Bits 0 to 7 are the number of the refusal, or 0; bits 8 to 15 are the number of the verdict or of
+-- the outcome, or 0 where none is given; from bit 16 on stands the length of the list or the count of the steps. The number for an entry has its
+-- place in bits 0 to 31 and its size from bit 32 on.
+-- Rests on reach's Words, Answers, Search and Lists.
+use Prim.Native.Nat.{ℕ, _+_, _*_, _≤_}
+use mathlib.Core.Path.{_≡_}
+use mathlib.Core.List.{List}
+use lib.ListN.{length, take, drop}
+use Rattle.reach.specs.declared.Refusal.the-variants.{ListFull}
+use Rattle.reach.specs.declared.Outcome.{Outcome}
+use Rattle.reach.specs.declared.Outcome.the-variants.{Reached, Ended, Unfinished}
+use Rattle.reach.specs.declared.Verdict.{Verdict}
+use Rattle.reach.specs.declared.Verdict.the-variants.{Found, Undecided, None}
+use Rattle.reach.specs.Words.{numberOf, stepsOf}
+use Rattle.reach.specs.Limits.{listLimit}
+use Rattle.reach.specs.Search.{verdict}
+use Rattle.reach.specs.Lists.{listBytes, roomOf, onSize, entrySpan, entryPart}
+use Rattle.reach.specs.Answers.{Checked, accepted, turnedBack, SearchAnswer, noSearch, complete, cutShort, RunAnswer, noRun, ran}
+
+-- the number of a verdict
+abbrev pub verdictNumber : Verdict → ℕ
+verdictNumber Found = 1
+verdictNumber Undecided = 2
+verdictNumber None = 3
+
+-- and of how a run ended
+abbrev pub outcomeNumber : Outcome → ℕ
+outcomeNumber (Reached n) = 1
+outcomeNumber (Ended n) = 2
+outcomeNumber (Unfinished n) = 3
+
+-- the check: 0 where the file is accepted
+abbrev pub checkNumber : Checked → ℕ
+checkNumber (accepted p) = 0
+checkNumber (turnedBack why) = numberOf why
+
+-- the search: a refusal of 1 to 9 or 11; the verdict and the length of a complete list; or 12 and the length of a list cut short
+abbrev pub searchNumber : SearchAnswer → ℕ
+searchNumber (noSearch why) = numberOf why
+searchNumber (complete es) = 256 * verdictNumber (verdict es) + 65536 * length (listBytes es)
+searchNumber (cutShort es) = numberOf ListFull + 65536 * length (listBytes es)
+
+-- the closed run: a refusal of 1 to 11; or how it ended, and its steps
+abbrev pub runNumber : RunAnswer → ℕ
+runNumber (noRun why) = numberOf why
+runNumber (ran o) = 256 * outcomeNumber o + 65536 * stepsOf o
+
+-- the entry of a given number: its place and its size; where there is none, the list's end and no byte
+unfoldable pub partNumber : List ℕ → ℕ → ℕ
+partNumber list k = onSize (roomOf (length list)) (λ span. span .0 + 4294967296 * span .1) (entrySpan (take listLimit list) k 0)
+
+-- What the number for an entry says: its place and its size are read off it, and the bytes there are the entry's part of the list.
+pub record PartAt (list : List ℕ) (k r : ℕ) : Type 0 where
+  pub place : ℕ
+  pub size : ℕ
+  pub packed : r ≡ place + 4294967296 * size
+  pub counts : place ≤ listLimit
+  pub inside : place + size ≤ length list
+  pub part-is : take size (drop place list) ≡ entryPart list k

@@ -1,0 +1,108 @@
+// The calls for C and Rust: the check of a rule file, its search, a closed run, and where an entry of a list stands. Each answers with
+// one number, which specs/Packing.antt defines; include/remburai.h has the numbers for C. Rests on crates rulefile, search, closed and entries.
+ghost use mathlib.Core.Path.{_≡_};
+ghost use Prim.Native.Nat.{_≤_};
+ghost use lib.ListN.{length};
+ghost use Rattle.reach.specs.Words.{stepsOf};
+ghost use Rattle.reach.specs.Lists.{written};
+ghost use Rattle.reach.specs.Answers as Answers;
+ghost use Rattle.search.specs.Answering as Search;
+ghost use Rattle.search.specs.Exploring.{WordsAfter};
+ghost use Rattle.closed.specs.Running as Running;
+ghost use Rattle.remburai.specs.Packing.{verdictNumber, outcomeNumber, checkNumber, searchNumber, runNumber, partNumber, PartAt};
+use entries::Span;
+use entries::room;
+use entries::span_of;
+use reach::Outcome;
+use reach::Refusal;
+use reach::Verdict;
+use rulefile::Checked;
+use rulefile::check;
+use rulefile::number;
+
+// The number of a verdict.
+fn verdict_number(verdict: Verdict) -> u64
+    ensures { λ r. ⌜ r ≡ verdictNumber verdict ⌝ }
+    ensures small { λ r. ⌜ r ≤ 3 ⌝ }
+{
+    match verdict {
+        Verdict::Found => 1,
+        Verdict::Undecided => 2,
+        Verdict::None => 3,
+    }
+}
+
+// The number of how a run ended.
+fn outcome_number(outcome: Outcome) -> u64
+    ensures { λ r. ⌜ r ≡ outcomeNumber outcome ⌝ }
+    ensures small { λ r. ⌜ r ≤ 3 ⌝ }
+{
+    match outcome {
+        Outcome::Reached(_) => 1,
+        Outcome::Ended(_) => 2,
+        Outcome::Unfinished(_) => 3,
+    }
+}
+
+// The steps that a run took.
+fn steps_of(outcome: Outcome) -> u64
+    ensures { λ r. ⌜ r ≡ stepsOf outcome ⌝ }
+    ensures small { λ r. ⌜ r ≤ 65535 ⌝ }
+{
+    match outcome {
+        Outcome::Reached(n) => n as u64,
+        Outcome::Ended(n) => n as u64,
+        Outcome::Unfinished(n) => n as u64,
+    }
+}
+
+// The check of a rule file: 0, or the number of its refusal.
+#[no_mangle]
+pub extern "C" fn remburai_check(file: &[u8]) -> u64
+    ensures { λ r. ⌜ r ≡ checkNumber (Answers.check (now (file .entry))) ⌝ }
+{
+    match check(file) {
+        Checked::Accepted => 0,
+        Checked::Refused(why) => number(why),
+    }
+}
+
+// The search of a rule file, in the lent words, its list written to the lent list slice.
+#[no_mangle]
+pub extern "C" fn remburai_search<'a>(file: &'a [u8], work: &mut [u32], list: &mut [u8]) -> u64
+    ensures { λ r. ⌜ r ≡ searchNumber (Answers.searchAnswer (now (file .entry)) (length (now (work .entry))) (length (now (list .entry)))) ⌝ }
+    ensures entries { λ r. ⌜ now (list .exit) ≡ written (Answers.listed (Answers.searchAnswer (now (file .entry)) (length (now (work .entry))) (length (now (list .entry))))) (now (list .entry)) ⌝ }
+    ensures words { λ r. ⌜ WordsAfter (Search.answerOf (Answers.searchAnswer (now (file .entry)) (length (now (work .entry))) (length (now (list .entry))))) (now (file .entry)) (now (work .entry)) (now (work .exit)) ⌝ }
+{
+    match search::search(file, work, list) {
+        search::Answer::Refused(why) => number(why),
+        search::Answer::Complete(n, verdict) => 256 * verdict_number(verdict) + 65536 * (n as u64),
+        search::Answer::Full(n) => number(Refusal::ListFull) + 65536 * (n as u64),
+    }
+}
+
+// The closed run of a rule file on an input, in the lent words.
+#[no_mangle]
+pub extern "C" fn remburai_run<'a>(file: &'a [u8], input: &'a [u8], work: &mut [u32]) -> u64
+    ensures { λ r. ⌜ r ≡ runNumber (Answers.runAnswer (now (file .entry)) (now (input .entry)) (length (now (work .entry)))) ⌝ }
+    ensures words { λ r. ⌜ Running.Unchanged (Running.answerOf (Answers.runAnswer (now (file .entry)) (now (input .entry)) (length (now (work .entry))))) (now (file .entry)) (now (work .entry)) (now (work .exit)) ⌝ }
+    ensures bound { λ r. ⌜ Running.Leaves (Running.answerOf (Answers.runAnswer (now (file .entry)) (now (input .entry)) (length (now (work .entry))))) (now (file .entry)) (now (input .entry)) (now (work .exit)) ⌝ }
+{
+    match closed::run(file, input, work) {
+        closed::Answer::Refused(why) => number(why),
+        closed::Answer::Ran(outcome) => 256 * outcome_number(outcome) + 65536 * steps_of(outcome),
+    }
+}
+
+// Where the entry of a given number stands in a list, counted from 0, and how many bytes it fills; else the list's end and none.
+#[no_mangle]
+pub extern "C" fn remburai_entry(list: &[u8], number: usize) -> u64
+    ensures { λ r. ⌜ r ≡ partNumber (now (list .entry)) number ⌝ }
+    ensures part { λ r. ⌜ PartAt (now (list .entry)) number r ⌝ }
+{
+    let end = room(list.len());
+    match span_of(&list[..end], number) {
+        Span::At(at, n) => (at as u64) + 4294967296 * (n as u64),
+        Span::Missing => end as u64,
+    }
+}

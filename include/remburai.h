@@ -1,0 +1,91 @@
+/* Remburai, the case finder, for C: the check of a rule file, its search, a closed run, and where an entry of a list stands.
+ *
+ * Link with target/staticlib/libremburai.a, which `rt staticlib remburai` proves and writes (x86-64 Linux).
+ *
+ * Each function is proved to give the number that its definition gives, for every content and every length of the slices, to stop,
+ * and to read and write inside the slices only. What the caller owes:
+ *   - each pointer is not NULL, also where its length is 0, and stands for as many elements as its length says;
+ *   - work is aligned for uint32_t;
+ *   - work and list overlap neither each other nor file or input.
+ * Nothing is kept between calls, so they may run at the same time, each with slices of its own.
+ */
+#ifndef REMBURAI_H
+#define REMBURAI_H
+
+#include <stddef.h>
+#include <stdint.h>
+
+#ifdef __cplusplus
+extern "C" {
+#endif
+
+/* Refusals: bits 0 to 7 of the answer of remburai_check, remburai_search and remburai_run. */
+#define REMBURAI_ACCEPTED 0          /* no refusal */
+#define REMBURAI_TRUNCATED 1         /* bytes run out in a record, in a body, or before GO is read */
+#define REMBURAI_UNEXPECTED_MARK 2   /* a mark is unknown or out of its turn */
+#define REMBURAI_OUT_OF_RANGE 3      /* a count, length, D, S, file size, nesting or view is beyond its limit */
+#define REMBURAI_UNKNOWN_NUMBER 4    /* a type, constructor, function or variable number does not exist */
+#define REMBURAI_UNKNOWN_CODE 5      /* an expression byte above 5, or an alternative byte above 1 */
+#define REMBURAI_TYPE_MISMATCH 6     /* an expression's type is not the one expected */
+#define REMBURAI_TRAILING_BYTES 7    /* bytes follow a body's expression, or GO */
+#define REMBURAI_EMPTY_TYPE 8        /* a type has no closed value */
+#define REMBURAI_DEPTH_TOO_SMALL 9   /* a source parameter's least depth exceeds D */
+#define REMBURAI_BAD_INPUT 10        /* remburai_run only: the bytes are not one closed, fitting value per parameter */
+#define REMBURAI_WORK_TOO_SHORT 11   /* the work slice is shorter than REMBURAI_WORK_WORDS(S) */
+#define REMBURAI_LIST_FULL 12        /* remburai_search only: the next entry does not fit the list slice */
+
+/* Verdicts: bits 8 to 15 of the answer of remburai_search. */
+#define REMBURAI_NO_VERDICT 0        /* with every refusal */
+#define REMBURAI_FOUND 1             /* an entry reaches the target */
+#define REMBURAI_UNDECIDED 2         /* no entry reaches the target, and one ran out of steps */
+#define REMBURAI_NONE 3              /* no entry: every closed input within the depth stops in time off target */
+
+/* Outcomes: bits 8 to 15 of the answer of remburai_run. */
+#define REMBURAI_NO_OUTCOME 0        /* with every refusal */
+#define REMBURAI_REACHED 1           /* the sought target is demanded */
+#define REMBURAI_ENDED 2             /* it stops off target */
+#define REMBURAI_UNFINISHED 3        /* S steps are done and it is none of these */
+
+/* The longest rule file, in bytes; the largest step limit S; the words of work slice that a step limit asks for; and how many bytes of a
+ * list slice count. */
+#define REMBURAI_FILE_LIMIT 16384u
+#define REMBURAI_STEP_LIMIT 4096u
+#define REMBURAI_WORK_WORDS(s) (64u * (size_t)(s) + 1024u)
+#define REMBURAI_WORK_MOST REMBURAI_WORK_WORDS(REMBURAI_STEP_LIMIT)
+#define REMBURAI_LIST_LIMIT 16777216u
+
+/* 0 where the file is accepted, else its refusal, 1 to 9. */
+uint64_t remburai_check(const uint8_t *file, size_t file_length);
+
+/* The search. Without a refusal: the verdict, and the length of the complete list, which stands at the front of `list`. With 12: the
+ * length of the list of all entries before the one that does not fit, and no verdict. With 1 to 9 or 11: nothing else, and no slice is
+ * changed. The bytes of `list` behind the list are as before, and so are the words from REMBURAI_WORK_WORDS(S) on. */
+uint64_t remburai_search(const uint8_t *file, size_t file_length,
+                         uint32_t *work, size_t work_length,
+                         uint8_t *list, size_t list_length);
+
+/* The run on one closed input. Without a refusal: the outcome, and the steps that it took, at most S. With 1 to 11: nothing else, and
+ * no word is changed. The words from REMBURAI_WORK_WORDS(S) on are as before. */
+uint64_t remburai_run(const uint8_t *file, size_t file_length,
+                      const uint8_t *input, size_t input_length,
+                      uint32_t *work, size_t work_length);
+
+/* Where the entry of a given number stands in a list, counted from 0, and how many bytes it fills, from mark to last byte. Beyond the
+ * last entry, or where a mark met is unknown or a header or length runs past the end: the list's end, and size 0. Give the length that
+ * the search answered as `list_length`, else bytes behind the list may be read as entries. */
+uint64_t remburai_entry(const uint8_t *list, size_t list_length, size_t number);
+
+/* The parts of an answer. */
+static inline unsigned remburai_refusal(uint64_t answer) { return (unsigned)(answer & 0xFF); }
+static inline unsigned remburai_verdict(uint64_t answer) { return (unsigned)(answer >> 8 & 0xFF); }
+static inline unsigned remburai_outcome(uint64_t answer) { return (unsigned)(answer >> 8 & 0xFF); }
+static inline size_t remburai_list_length(uint64_t answer) { return (size_t)(answer >> 16); }
+static inline unsigned remburai_steps(uint64_t answer) { return (unsigned)(answer >> 16); }
+static inline size_t remburai_entry_place(uint64_t answer) { return (size_t)(answer & 0xFFFFFFFF); }
+static inline size_t remburai_entry_size(uint64_t answer) { return (size_t)(answer >> 32); }
+
+#ifdef __cplusplus
+}
+#endif
+
+#endif

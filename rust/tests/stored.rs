@@ -1,0 +1,149 @@
+//! The stored cases of the repository, through this crate: each rule file of crates/check_vectors, each input of crates/run_vectors and
+//! each search of crates/search_vectors, with the answers that the blind side gave. Beside each `stdin` its maker in tests/ says what
+//! stands in it.
+use remburai::*;
+use std::fs;
+
+const WORD: u32 = 0xA5A5_A5A5;
+const BYTE: u8 = 0xA5;
+
+fn stored(name: &str) -> Vec<u8> {
+    let path = format!("{}/../crates/{name}", env!("CARGO_MANIFEST_DIR"));
+    fs::read(&path).unwrap_or_else(|error| panic!("{path}: {error}"))
+}
+
+/// The cases of a container, read from its front.
+struct Cases {
+    bytes: Vec<u8>,
+    at: usize,
+}
+
+impl Cases {
+    fn of(name: &str) -> Cases {
+        Cases {
+            bytes: stored(&format!("{name}/stdin")),
+            at: 0,
+        }
+    }
+
+    fn left(&self) -> bool {
+        self.at < self.bytes.len()
+    }
+
+    /// A number of so many bytes, low byte first.
+    fn number(&mut self, size: usize) -> usize {
+        let bytes = &self.bytes[self.at..self.at + size];
+        self.at += size;
+        bytes
+            .iter()
+            .rev()
+            .fold(0, |n, byte| n * 256 + *byte as usize)
+    }
+
+    /// Bytes behind their two-byte length.
+    fn part(&mut self) -> Vec<u8> {
+        let size = self.number(2);
+        self.at += size;
+        self.bytes[self.at - size..self.at].to_vec()
+    }
+}
+
+/// The lines that a program over the same calls must print.
+fn see_lines(name: &str, lines: Vec<String>, least: usize) {
+    let expected = String::from_utf8(stored(&format!("{name}/stdout"))).unwrap();
+    let expected: Vec<&str> = expected.lines().collect();
+    assert_eq!(lines.len(), expected.len());
+    assert!(least <= lines.len());
+    for (number, (line, due)) in lines.iter().zip(expected).enumerate() {
+        assert_eq!(line, due, "{name}, line {number}");
+    }
+}
+
+fn kept(same: bool) -> &'static str {
+    if same {
+        "kept"
+    } else {
+        "changed"
+    }
+}
+
+#[test]
+fn rule_files() {
+    let mut cases = Cases::of("check_vectors");
+    let mut lines = vec![];
+    while cases.left() {
+        lines.push(match check(&cases.part()) {
+            Ok(()) => "accepted".to_string(),
+            Err(why) => format!("refused {}", why.number()),
+        });
+    }
+    see_lines("check_vectors", lines, 1000);
+}
+
+#[test]
+fn closed_runs() {
+    let mut cases = Cases::of("run_vectors");
+    let mut lines = vec![];
+    while cases.left() {
+        let (file, input) = (cases.part(), cases.part());
+        let mut work = vec![WORD; cases.number(4)];
+        lines.push(match run(&file, &input, &mut work) {
+            Ok(Outcome::Reached(steps)) => format!("reached {steps}"),
+            Ok(Outcome::Ended(steps)) => format!("ended {steps}"),
+            Ok(Outcome::Unfinished(steps)) => format!("unfinished {steps}"),
+            Err(why) => format!("refused {}", why.number()),
+        });
+    }
+    see_lines("run_vectors", lines, 700);
+}
+
+#[test]
+fn searches() {
+    let mut cases = Cases::of("search_vectors");
+    let mut lines = vec![];
+    while cases.left() {
+        let file = cases.part();
+        let mut work = vec![WORD; cases.number(3)];
+        let mut list = vec![BYTE; cases.number(3)];
+        let answer = search(&file, &mut work, &mut list);
+        let steps =
+            |file: &[u8]| u16::from_le_bytes([file[file.len() - 2], file[file.len() - 1]]) as usize;
+        let (first, length, spare) = match answer {
+            Ok(listed) => {
+                let word = match listed.verdict {
+                    Verdict::Found => "found",
+                    Verdict::Undecided => "undecided",
+                    Verdict::None => "none",
+                };
+                (
+                    format!("{word} {}", listed.length),
+                    listed.length,
+                    work_words(steps(&file)),
+                )
+            }
+            Err(SearchError::Full { length }) => (
+                format!("refused 12 {length}"),
+                length,
+                work_words(steps(&file)),
+            ),
+            Err(SearchError::Refused(why)) => (format!("refused {}", why.number()), 0, 0),
+        };
+        lines.push(first);
+        let bytes: String = list[..length]
+            .iter()
+            .map(|byte| format!("{byte} "))
+            .collect();
+        let behind = list[length..].iter().all(|byte| *byte == BYTE);
+        let words = work[spare..].iter().all(|word| *word == WORD);
+        lines.push(format!("{bytes}{} {}", kept(behind), kept(words)));
+        // the entries fill the list, and each is found by its number
+        assert_eq!(
+            entries(&list[..length]).map(<[u8]>::len).sum::<usize>(),
+            length
+        );
+        for (number, part) in entries(&list[..length]).enumerate().take(20) {
+            assert_eq!(entry(&list[..length], number), part);
+        }
+    }
+    see_lines("search_vectors", lines, 5000);
+}
