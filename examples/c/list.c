@@ -46,6 +46,6 @@ int main(int arguments, char **argument) {
         return 1;
     }
     size_t bytes = remburai_list_length(answer);
-    printf("%zu entries, %zu bytes, %s\n", count_entries(bytes), bytes, verdicts[remburai_verdict(answer)]);
+    printf("entries %zu, bytes %zu, verdict %s\n", count_entries(bytes), bytes, verdicts[remburai_verdict(answer)]);
     return refusal == REMBURAI_LIST_FULL;
 }
