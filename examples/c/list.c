@@ -6,7 +6,7 @@
  *     gcc -O2 -Wall -Wextra -I include -o target/list examples/c/list.c target/staticlib/libremburai.a
  *     target/list examples/p.rule
  *
- * The last line prints `1 entries, 9 bytes, found`.
+ * The last line prints `entries 1, bytes 9, verdict found`.
  */
 #include <stdio.h>
 #include "remburai.h"
