@@ -1,7 +1,7 @@
 //! Prints the benchmark's tables. README.md says what they show.
 use bench::blind::Counts;
 use bench::compare::{compare_problem, compare_stored, library_list};
-use bench::measure::{measure, Times};
+use bench::measure::{measure, Times, ROUNDS};
 use bench::problems::{depth_of, problems, steps_of, stored, with_depth, with_unused, Problem};
 use bench::program::Program;
 use bench::search::search;
@@ -43,11 +43,9 @@ fn compare(problems: &[Problem]) {
     let compared = cases
         .iter()
         .filter(|case| compare_stored(case).unwrap_or_else(|why| stop(&why)));
-    println!(
-        "Equal lists: {} problems and {} stored searches.\n",
-        problems.len(),
-        compared.count()
-    );
+    let (problems, stored) = (problems.len(), compared.count());
+    println!("Equal lists: {problems} problems and {stored} stored searches.");
+    println!("Times: medians of {ROUNDS} interleaved rounds; at most {MOST_INPUTS} closed inputs are run.\n");
 }
 
 fn print_problems(problems: &[Problem]) {

@@ -8,7 +8,7 @@ use std::hint::black_box;
 use std::time::Instant;
 
 /// Rounds; each time is the median of them.
-const ROUNDS: usize = 7;
+pub const ROUNDS: usize = 7;
 
 /// The seconds that one measurement takes at least, by repetition of the call.
 const LEAST_SECONDS: f64 = 0.02;
