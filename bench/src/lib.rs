@@ -1,0 +1,13 @@
+//! What the benchmark compares: the library, a plain search of the same rule files, and a blind enumeration.
+//!
+//! `program` reads an accepted rule file into a tree, `machine` evaluates it, `search` is the plain search by narrowing, `blind` runs closed
+//! inputs one by one, `problems` has the rule files, `compare` says where the plain search and the library differ, and `measure` takes the
+//! times. The plain side uses nothing of the library.
+
+pub mod blind;
+pub mod compare;
+pub mod machine;
+pub mod measure;
+pub mod problems;
+pub mod program;
+pub mod search;
