@@ -19,15 +19,9 @@ use Rattle.reach.specs.Eval.{Row, partOf, Env, empty, operands, inputParts, siz
 use Rattle.reach.proofs.Order.{There}
 use Rattle.reach.proofs.Base.{clash}
 use Rattle.reach.proofs.Evaluation.{EnvIn, FramesIn, StateIn}
-use Rattle.machine.specs.Records.{recordWord, Holds, CodeAll, CodeAlternatives, Control, expressionAt, partIn, nothingLeft, EnvAt, empty-at, operands-at, parts-at, FramesAt, none-at, waiting-at, StateAt, evaluating-at, inspecting-at, missing-at}
+use Rattle.machine.specs.Records.{recordWord, Holds, CodeAll, CodeAlternatives, Control, environmentOf, EnvAt, empty-at, operands-at, parts-at, FramesAt, none-at, waiting-at, StateAt, evaluating-at, inspecting-at, missing-at}
 use Rattle.machine.specs.Walks.{OperandAt, outsideOf, VariableAt, outside, in-parts, in-operands}
 use Rattle.machine.proofs.Codes.{operand-at}
-
--- the record of the environment that a control names, if it names one
-abbrev pub environmentOf : Control → ℕ
-environmentOf (expressionAt i r) = r
-environmentOf (partIn x) = 0
-environmentOf nothingLeft = 0
 
 -- the words of the first t records are as before
 abbrev pub Same : List ℕ → List ℕ → ℕ → ℕ → Type 0

@@ -39,6 +39,12 @@ pub data Control : Type 0 where
   partIn : ℕ → Control
   nothingLeft : Control
 
+-- the record of the environment that it names, or 0
+abbrev pub environmentOf : Control → ℕ
+environmentOf (expressionAt i r) = r
+environmentOf (partIn x) = 0
+environmentOf nothingLeft = 0
+
 -- what a state's parts are in the words: `cell` gives the cell of a place
 module _ (file : List ℕ) (o : Outline) (w : List ℕ) (base : ℕ) (cell : Place → ℕ) where
   -- An environment is a record: the record of what is outside it, how many variables are in view, where its group begins, and 0 for a group of input

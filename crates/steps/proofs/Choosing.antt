@@ -12,16 +12,15 @@ use Rattle.reach.specs.Eval.{Env, operands, size, Frame, waiting, State, choose
 use Rattle.reach.proofs.Evaluation.{EnvIn, FramesIn}
 use Rattle.reach.proofs.NeverStuck.{Chooses, Sound}
 use Rattle.machine.specs.Cells.{cellOf}
-use Rattle.machine.specs.Records.{recordWord, Code, CodeAlternatives, EnvAt, FramesAt, evaluating-at, missing-at}
+use Rattle.machine.specs.Records.{recordWord, Code, CodeAlternatives, nothingLeft, EnvAt, FramesAt, evaluating-at, missing-at}
 use Rattle.machine.specs.Walks.{ChosenAt}
 use Rattle.machine.proofs.Codes.{chosen-at, code-construct}
 use Rattle.machine.proofs.Records.{count-word}
-use Rattle.steps.specs.declared.Control.the-variants as Control
 use Rattle.steps.specs.declared.Registers.{Registers}
 use Rattle.steps.specs.declared.Alternative.{Alternative}
 use Rattle.steps.specs.declared.Alternative.the-variants as Alternative
 use Rattle.steps.specs.declared.Next.the-variants as Next
-use Rattle.steps.specs.Stepping.{outlineOf, FileOf, StandsFor, Standing, Ready, OnlyTop, Wrote, Follows, Stepped, StepMeans, FieldCount, AlternativeThere, Found, Chose, chose-none, chose-one}
+use Rattle.steps.specs.Stepping.{outlineOf, controlIn, FileOf, StandsFor, Standing, Ready, OnlyTop, Wrote, Follows, Stepped, StepMeans, FieldCount, AlternativeThere, Found, Chose, chose-none, chose-one}
 use Rattle.steps.proofs.Words.{few-kept, nothing-written}
 use Rattle.steps.proofs.Which.{when-construct, when-missing, when-no-frame, when-waiting}
 use Rattle.steps.proofs.Kept.{Met, shown, state-of, frames-there, operands-there, few-added}
@@ -66,13 +65,13 @@ module _
     (is-i : i ≡ recordWord w base (r .frame) 0) (found : Found file types functions i c a)
   where
     pub chose-absent :
-        a ≡ Alternative.Absent → Chose file types functions w w base r c k first inner (record { control = Control.Missing; frame = 0; records = r .records })
+        a ≡ Alternative.Absent → Chose file types functions w w base r c k first inner (record { kind = 0; place = 0; env = 0; frame = 0; records = r .records })
     chose-absent is = chose-none (nothing-written w base (r .records)) (subst (λ (x : Alternative). Found file types functions (recordWord w base (r .frame) 0) c x) is (subst (λ (j : ℕ). Found file types functions j c a) is-i found))
 
     pub chose-present :
         {w′ : List ℕ} {place env seen next′ : ℕ} → env ≡ recordWord w base (r .frame) 2 → seen ≡ recordWord w base env 1 → next′ ≡ recordWord w base (r .frame) 3
         → a ≡ Alternative.Present place → Wrote w w′ base (r .records) env (seen + k) first inner
-        → Chose file types functions w w′ base r c k first inner (record { control = Control.Expression place (r .records); frame = next′; records = r .records + 1 })
+        → Chose file types functions w w′ base r c k first inner (record { kind = 2; place = place; env = r .records; frame = next′; records = r .records + 1 })
     chose-present {w′} {place} {env} {seen} is-env is-seen is-next is wrote =
         rw is-next
         (chose-one place
@@ -199,7 +198,7 @@ unfolding next answer view
 missing-next p e = refl
 
 pub missing-stops :
-    (file types functions w : List ℕ) (base label : ℕ) (r : Registers) → r .control ≡ Control.Missing → Stepped file types functions w w base label r Next.Stops
+    (file types functions w : List ℕ) (base label : ℕ) (r : Registers) → controlIn r ≡ nothingLeft → Stepped file types functions w w base label r Next.Stops
 missing-stops file types functions w base label r is = record {
   only-top = nothing-written w base (r .records);
   steps = λ p sought cells e s file-of stands.

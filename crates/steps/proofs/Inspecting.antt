@@ -12,13 +12,12 @@ use Rattle.reach.proofs.Evaluation.{FramesIn, StateIn}
 use Rattle.reach.proofs.Order.{There, field-there}
 use Rattle.reach.proofs.NeverStuck.{PartHas, Chooses, Sound}
 use Rattle.machine.specs.Cells.{cellOf, cellWord}
-use Rattle.machine.specs.Records.{recordWord, EnvAt, FramesAt}
+use Rattle.machine.specs.Records.{recordWord, partIn, EnvAt, FramesAt}
 use Rattle.machine.proofs.Cells.{walk-field, head-open, head-constructor}
 use Rattle.machine.proofs.Records.{count-word, parts-added}
-use Rattle.steps.specs.declared.Control.the-variants as Control
 use Rattle.steps.specs.declared.Registers.{Registers}
 use Rattle.steps.specs.declared.Next.the-variants as Next
-use Rattle.steps.specs.Stepping.{outlineOf, StandsFor, Standing, Wrote, Stepped, StepMeans, FieldCount, AlternativeThere, Chose}
+use Rattle.steps.specs.Stepping.{outlineOf, controlIn, StandsFor, Standing, Wrote, Stepped, StepMeans, FieldCount, AlternativeThere, Chose}
 use Rattle.steps.proofs.Words.{records-same, cells-same, nothing-written}
 use Rattle.steps.proofs.Which.{when-part, when-no-frame}
 use Rattle.steps.proofs.Kept.{state-of}
@@ -43,7 +42,7 @@ module _ (p : Program) (e : Parts) (q : Place) (alts : Alternatives) (outer : En
   unfolding next answer view look answered
   bound-next c k is = rw is
 
-module _ (file types functions w : List ℕ) (base cell : ℕ) (r : Registers) (is-part : r .control ≡ Control.Part cell) where
+module _ (file types functions w : List ℕ) (base cell : ℕ) (r : Registers) (is-part : controlIn r ≡ partIn cell) where
   -- what is to be shown is shown of the part that is in the cell
   inspected :
       (p : Program) (cells : ℕ) (e : Parts) (s : State) (G : State → Type 0) → StandsFor file types functions p w base cells r e s

@@ -13,25 +13,23 @@ use Rattle.reach.specs.Eval.{Env, operands, size, Frame, waiting, State}
 use Rattle.reach.proofs.Evaluation.{EnvIn, FramesIn, StateIn}
 use Rattle.reach.proofs.NeverStuck.{Sound}
 use Rattle.machine.specs.Cells.{cellOf}
-use Rattle.machine.specs.Records.{Holds, Code, CodeAll, CodeAlternatives, EnvAt, FramesAt, StateAt}
+use Rattle.machine.specs.Records.{Holds, Code, CodeAll, CodeAlternatives, Control, expressionAt, environmentOf, EnvAt, FramesAt, StateAt}
 use Rattle.machine.proofs.Codes.{Coded, coded-known, code-kind}
 use Rattle.machine.proofs.Records.{holds-kept, env-kept, frames-kept, operands-added, waiting-added}
-use Rattle.steps.specs.declared.Control.{Control}
-use Rattle.steps.specs.declared.Control.the-variants as Control
 use Rattle.steps.specs.declared.Registers.{Registers}
 use Rattle.steps.specs.declared.Next.{Next}
 use Rattle.steps.specs.declared.Next.the-variants as Next
-use Rattle.steps.specs.Stepping.{outlineOf, controlOf, environmentOf, Few, StandsFor, Standing, Ready, OnlyTop, Wrote, Follows, StepMeans, Leads, Stepped}
+use Rattle.steps.specs.Stepping.{outlineOf, controlIn, Few, StandsFor, Standing, Ready, OnlyTop, Wrote, Follows, StepMeans, Leads, Stepped}
 use Rattle.steps.proofs.Words.{records-same, cells-same, few-more}
 use Rattle.steps.proofs.Which.{when-expression}
 
 -- the state, by what the control is
 pub state-of :
     {file types functions w : List ℕ} {base cells : ℕ} {p : Program} {r : Registers} {e : Parts} {s : State} {c : Control}
-    → StandsFor file types functions p w base cells r e s → r .control ≡ c
-    → StateAt file (outlineOf file types functions) w base (cellOf w) (controlOf c) (r .frame) s
+    → StandsFor file types functions p w base cells r e s → controlIn r ≡ c
+    → StateAt file (outlineOf file types functions) w base (cellOf w) c (r .frame) s
 state-of {file} {types} {functions} {w} {base} {r = r} {s = s} stands is =
-    subst (λ (c : Control). StateAt file (outlineOf file types functions) w base (cellOf w) (controlOf c) (r .frame) s) is (stands .state)
+    subst (λ (c : Control). StateAt file (outlineOf file types functions) w base (cellOf w) c (r .frame) s) is (stands .state)
 
 -- An expression that is being evaluated, and all that is known of it: where it stands, its environment and frames in the words, and what it meets.
 module _ (file types functions w : List ℕ) (base i env : ℕ) (r : Registers) (p : Program) (e : Parts) where
@@ -69,7 +67,7 @@ module _ (file types functions w w′ : List ℕ) (base i env : ℕ) (r : Regist
       (λ x env′ fs coded met. show x coded env′ fs met)
 
 -- where an expression is evaluated, its code stands in the file
-module _ (file types functions w : List ℕ) (base i env : ℕ) (r : Registers) (standing : Standing file types functions w base r) (is : r .control ≡ Control.Expression i env) where
+module _ (file types functions w : List ℕ) (base i env : ℕ) (r : Registers) (standing : Standing file types functions w base r) (is : controlIn r ≡ expressionAt i env) where
   kind : (i < length file) × ((x : Expr) × Coded (getD file i 0) x)
   kind =
       when-expression (λ s. (i < length file) × ((x : Expr) × Coded (getD file i 0) x)) (state-of (standing .stands) is)

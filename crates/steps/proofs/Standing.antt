@@ -15,19 +15,10 @@ use Rattle.reach.proofs.NeverStuck.{Sound}
 use Rattle.machine.specs.Cells.{Cells, cellOf, Unmoved}
 use Rattle.machine.specs.Records.{Code, Holds, EnvAt, empty-at, parts-at, none-at, evaluating-at}
 use Rattle.machine.proofs.Cells.{walk-part, kept-cells}
-use Rattle.machine.proofs.Records as Kept
 use Rattle.machine.proofs.Records.{Same, holds-kept, state-kept}
-use Rattle.steps.specs.declared.Control.{Control}
-use Rattle.steps.specs.declared.Control.the-variants as Control
 use Rattle.steps.specs.declared.Registers.{Registers}
-use Rattle.steps.specs.Stepping.{outlineOf, controlOf, environmentOf, Few, StandsFor, OnlyTop, Wrote, Follows}
+use Rattle.steps.specs.Stepping.{outlineOf, Few, StandsFor, OnlyTop, Wrote, Follows}
 use Rattle.steps.proofs.Words.{records-same, cells-same}
-
--- the record that the control names, in the words of either crate
-same-environment : (c : Control) → Kept.environmentOf (controlOf c) ≡ environmentOf c
-same-environment (Control.Expression i r) = refl
-same-environment (Control.Part x) = refl
-same-environment Control.Missing = refl
 
 -- After a step to other registers, with room for one record more.
 pub stands-after :
@@ -63,7 +54,7 @@ stands-below {file} {types} {functions} {w} {w′} {base = base} {r = r} {e = e}
   zeros = holds-kept w w′ base (r .records) same (stands .space .some-record) (stands .zeros);
   state =
       state-kept file (outlineOf file types functions) w w′ base (r .records) (cellOf w) (cellOf w′) e same unmoved
-      (rw (same-environment (r .control)) (stands .space .environment-below)) (stands .space .frame-below) (stands .state) (stands .there);
+      (stands .space .environment-below) (stands .space .frame-below) (stands .state) (stands .there);
   there = there;
   sound = sound;
   space = record {
@@ -80,7 +71,7 @@ stands-below {file} {types} {functions} {w} {w′} {base = base} {r = r} {e = e}
 
 -- the registers then
 abbrev pub startRegisters : ℕ → Registers
-startRegisters i = record { control = Control.Expression i 1; frame = 0; records = 2 }
+startRegisters i = record { kind = 2; place = i; env = 1; frame = 0; records = 2 }
 
 start-is : (p : Program) (g : Function) → functionAt p (p .source) ≡ some g
     → start p ≡ evaluating (g .body) (inputParts empty parameters (length (g .parameters))) []

@@ -25,7 +25,6 @@ use Rattle.machine.specs.Records.{recordWord, Code, empty-at, evaluating-at}
 use Rattle.machine.specs.Walks.{Behind}
 use Rattle.machine.proofs.Codes.{code-behind, code-call, code-let, code-one, code-case, code-target, code-kind}
 use Rattle.machine.proofs.Records.{count-word}
-use Rattle.steps.specs.declared.Control.the-variants as Control
 use Rattle.steps.specs.declared.Registers.{Registers}
 use Rattle.steps.specs.declared.Next.{Next}
 use Rattle.steps.specs.declared.Next.the-variants as Next
@@ -64,7 +63,7 @@ module _
     (wrote : Wrote w w′ base (r .records) 0 (head .count) (i + 2) (env + 1))
   where
     call-after : Registers
-    call-after = record { control = Control.Expression (head .body) (r .records); frame = r .frame; records = r .records + 1 }
+    call-after = record { kind = 2; place = head .body; env = r .records; frame = r .frame; records = r .records + 1 }
 
     call-follows :
         (types : List ℕ) (p : Program) (cells : ℕ) (e : Parts) (s : State) → FileOf file types functions p → StandsFor file types functions p w base cells r e s
@@ -95,7 +94,7 @@ module _
 
     pub call-leads :
         (types : List ℕ)
-        → Leads file types functions w w′ base r (record { control = Control.Expression (head .body) (r .records); frame = r .frame; records = r .records + 1 })
+        → Leads file types functions w w′ base r (record { kind = 2; place = head .body; env = r .records; frame = r .frame; records = r .records + 1 })
     unfolding call-after
     call-leads types = record {
       only-top = wrote .only-top;
@@ -118,7 +117,7 @@ module _
     (is-seen : seen ≡ recordWord w base env 1) (wrote : Wrote w w′ base (r .records) env (seen + 1) (i + 2) (env + 1))
   where
     let-after : Registers
-    let-after = record { control = Control.Expression body (r .records); frame = r .frame; records = r .records + 1 }
+    let-after = record { kind = 2; place = body; env = r .records; frame = r .frame; records = r .records + 1 }
 
     let-follows :
         (p : Program) (cells : ℕ) (e : Parts) (s : State) → StandsFor file types functions p w base cells r e s
@@ -143,7 +142,7 @@ module _
           },
         )
 
-    pub let-leads : Leads file types functions w w′ base r (record { control = Control.Expression body (r .records); frame = r .frame; records = r .records + 1 })
+    pub let-leads : Leads file types functions w w′ base r (record { kind = 2; place = body; env = r .records; frame = r .frame; records = r .records + 1 })
     unfolding let-after
     let-leads = record {
       only-top = wrote .only-top;
@@ -181,7 +180,7 @@ module _
     (wrote : Wrote w w′ base (r .records) alternatives (all .count) env (r .frame))
   where
     case-after : Registers
-    case-after = record { control = Control.Expression (i + 2) env; frame = r .records; records = r .records + 1 }
+    case-after = record { kind = 2; place = i + 2; env = env; frame = r .records; records = r .records + 1 }
 
     case-follows :
         (p : Program) (cells : ℕ) (e : Parts) (s : State) → StandsFor file types functions p w base cells r e s
@@ -207,7 +206,7 @@ module _
           },
         )
 
-    pub case-leads : Leads file types functions w w′ base r (record { control = Control.Expression (i + 2) env; frame = r .records; records = r .records + 1 })
+    pub case-leads : Leads file types functions w w′ base r (record { kind = 2; place = i + 2; env = env; frame = r .records; records = r .records + 1 })
     unfolding case-after
     case-leads = record {
       only-top = wrote .only-top;
@@ -257,9 +256,9 @@ module _ (file types functions w : List ℕ) (base label i env : ℕ) (r : Regis
 
   pub target-goes :
       (getD file (i + 1) 0 ≡ label → ⊥)
-      → Stepped file types functions w w base label r (Next.Goes (record { control = Control.Expression (i + 2) env; frame = r .frame; records = r .records }))
+      → Stepped file types functions w w base label r (Next.Goes (record { kind = 2; place = i + 2; env = env; frame = r .frame; records = r .records }))
   unfolding answer
-  target-goes other = target-steps (Next.Goes (record { control = Control.Expression (i + 2) env; frame = r .frame; records = r .records })) (λ p e sought l y env′ fs met.
+  target-goes other = target-steps (Next.Goes (record { kind = 2; place = i + 2; env = env; frame = r .frame; records = r .records })) (λ p e sought l y env′ fs met.
       let at = code-target file (outlineOf file types functions) i l y (met .code) in (
         Eval.evaluating y env′ fs,
         rw (target-next, ne-eqb l (p .label) (λ same. other (at .1 .1 ∙ (same ∙ sym sought)))),

@@ -15,7 +15,6 @@ use Rattle.machine.specs.Records.{recordWord, EnvAt, evaluating-at, inspecting-
 use Rattle.machine.proofs.Codes.{code-variable}
 use Rattle.machine.specs.Walks.{VariableAt, outsideOf}
 use Rattle.machine.proofs.Records.{variable-at, variable-part, variable-operand}
-use Rattle.steps.specs.declared.Control.the-variants as Control
 use Rattle.steps.specs.declared.Registers.{Registers}
 use Rattle.steps.specs.declared.Next.{Next}
 use Rattle.steps.specs.declared.Next.the-variants as Next
@@ -77,8 +76,8 @@ module _ (file types functions w : List ℕ) (base i env : ℕ) (r : Registers) 
     where
       -- a part of the input
       pub part-leads :
-          inner ≡ 0 → Leads file types functions w w base r (record { control = Control.Part (first + (n - outside)); frame = r .frame; records = r .records })
-      part-leads mark = variable-leads (record { control = Control.Part (first + (n - outside)); frame = r .frame; records = r .records }) (λ p cells e s stands m env′ fs met.
+          inner ≡ 0 → Leads file types functions w w base r (record { kind = 1; place = first + (n - outside); env = 0; frame = r .frame; records = r .records })
+      part-leads mark = variable-leads (record { kind = 1; place = first + (n - outside); env = 0; frame = r .frame; records = r .records }) (λ p cells e s stands m env′ fs met.
           let there = found p cells e s stands m env′ fs met in
           let at-group = group-is .outward file (outlineOf file types functions) (cellOf w) (there .0) (there .2) in
           let part = variable-part file (outlineOf file types functions) w base (cellOf w) n group (there .0) at-group (group-is .inside) (sym is-inner ∙ mark) in (
@@ -97,8 +96,8 @@ module _ (file types functions w : List ℕ) (base i env : ℕ) (r : Registers) 
       -- an operand, in the environment in which it stands
       pub operand-leads :
           {place : ℕ} → (inner ≡ 0 → ⊥) → OperandIn file types functions first (n - outside) place
-          → Leads file types functions w w base r (record { control = Control.Expression place (inner - 1); frame = r .frame; records = r .records })
-      operand-leads {place} other placed = variable-leads (record { control = Control.Expression place (inner - 1); frame = r .frame; records = r .records }) (λ p cells e s stands m env′ fs met.
+          → Leads file types functions w w base r (record { kind = 2; place = place; env = inner - 1; frame = r .frame; records = r .records })
+      operand-leads {place} other placed = variable-leads (record { kind = 2; place = place; env = inner - 1; frame = r .frame; records = r .records }) (λ p cells e s stands m env′ fs met.
           let there = found p cells e s stands m env′ fs met in
           let at-group = group-is .outward file (outlineOf file types functions) (cellOf w) (there .0) (there .2) in
           let (y, env″, is, before, env-at, operand) = variable-operand file (outlineOf file types functions) w base (cellOf w) n group (there .0) at-group (group-is .inside) (λ zero-mark. other (is-inner ∙ zero-mark)) in (

@@ -1,7 +1,7 @@
 -- Which state the words stand for, by the registers' control and the code that stands in the file: what is to be shown of every state is shown of
 -- the one kind that it can be.
 -- Rests on machine's Records and Codes.
-use Prim.Native.Nat.{ℕ, _<_}
+use Prim.Native.Nat.{ℕ, zero, suc, _<_}
 use mathlib.Core.Path.{_≡_, refl}
 use mathlib.Core.List.{List, [], _∷_}
 use native.Mathlib.Omega.{arith}
@@ -11,7 +11,20 @@ use Rattle.reach.specs.Eval.{Env, Frame, waiting, State, evaluating, inspecting
 use Rattle.reach.specs.RuleFile.{Outline}
 use Rattle.reach.proofs.Base.{clash}
 use Rattle.machine.specs.Records.{recordWord, Code, CodeAlternatives, expressionAt, partIn, nothingLeft, EnvAt, FramesAt, none-at, waiting-at, StateAt, evaluating-at, inspecting-at, missing-at}
+use Rattle.steps.specs.Stepping.{controlOf}
 use Rattle.machine.proofs.Codes.{Coded, a-variable, a-call, a-construct, a-case, a-let, a-target}
+
+-- what is being evaluated, by the number of its kind
+pub control-missing : (kind place env : ℕ) → kind ≡ 0 → controlOf kind place env ≡ nothingLeft
+control-missing kind place env is = rw is refl
+
+pub control-part : (kind place env : ℕ) → kind ≡ 1 → controlOf kind place env ≡ partIn place
+control-part kind place env is = rw is refl
+
+pub control-expression : (kind place env : ℕ) → (kind ≡ 0 → ⊥) → (kind ≡ 1 → ⊥) → controlOf kind place env ≡ expressionAt place env
+control-expression zero place env some other = absurd (some refl)
+control-expression (suc zero) place env some other = absurd (other refl)
+control-expression (suc (suc n)) place env some other = refl
 
 module _ {file : List ℕ} {o : Outline} {w : List ℕ} {base : ℕ} {cell : Place → ℕ} (G : State → Type 0) where
   pub when-expression :

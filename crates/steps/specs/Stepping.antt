@@ -1,6 +1,6 @@
 -- What the registers and the lent words stand for, and what a step promises: it is one step of the published evaluation.
 -- Rests on machine's Cells, Records and Walks, on reach's Eval, Places, Evaluation and NeverStuck, and on the types of src/lib.rt.
-use Prim.Native.Nat.{ℕ, _+_, _*_, _-_, _≤_, _<_}
+use Prim.Native.Nat.{ℕ, zero, suc, _+_, _*_, _-_, _≤_, _<_}
 use mathlib.Core.Path.{_≡_}
 use mathlib.Core.List.{List, map}
 use mathlib.Core.Option.{some}
@@ -16,11 +16,8 @@ use Rattle.reach.proofs.Evaluation.{StateIn}
 use Rattle.reach.proofs.NeverStuck.{Sound}
 use Rattle.lookups.specs.Fields.{fieldsIn}
 use Rattle.machine.specs.Cells.{Cells, cellOf}
-use Rattle.machine.specs.Records as Records
-use Rattle.machine.specs.Records.{Code, Holds, recordWord, StateAt, expressionAt, partIn, nothingLeft}
+use Rattle.machine.specs.Records.{Code, Holds, recordWord, Control, environmentOf, StateAt, expressionAt, partIn, nothingLeft}
 use Rattle.machine.specs.Walks.{Behind, OperandAt, ChosenAt, VariableAt, outsideOf}
-use Rattle.steps.specs.declared.Control.{Control}
-use Rattle.steps.specs.declared.Control.the-variants as Control
 use Rattle.steps.specs.declared.Registers.{Registers}
 use Rattle.steps.specs.declared.Alternative.{Alternative}
 use Rattle.steps.specs.declared.Alternative.the-variants as Alternative
@@ -31,17 +28,15 @@ use Rattle.steps.specs.declared.Next.the-variants as Next
 abbrev pub outlineOf : List ℕ → List ℕ → List ℕ → Outline
 outlineOf file types functions = outlineAt file types functions 0
 
--- the control of the registers
-abbrev pub controlOf : Control → Records.Control
-controlOf (Control.Expression i r) = expressionAt i r
-controlOf (Control.Part x) = partIn x
-controlOf Control.Missing = nothingLeft
+-- what is being evaluated, by its kind, its place and its environment's record
+abbrev pub controlOf : ℕ → ℕ → ℕ → Control
+controlOf zero place env = nothingLeft
+controlOf (suc zero) place env = partIn place
+controlOf (suc (suc n)) place env = expressionAt place env
 
--- the record of the environment in which it is evaluated, or 0
-abbrev pub environmentOf : Control → ℕ
-environmentOf (Control.Expression i r) = r
-environmentOf (Control.Part x) = 0
-environmentOf Control.Missing = 0
+-- the control of the registers
+abbrev pub controlIn : Registers → Control
+controlIn r = controlOf (r .kind) (r .place) (r .env)
 
 -- The tables are those of a checked file: the program's types are those at the places, and every function's body stands where its record says.
 pub record FileOf (file types functions : List ℕ) (p : Program) : Type 0 where
@@ -57,7 +52,7 @@ Few w base t = (j : ℕ) → j < t → recordWord w base j 1 ≤ 255 * j
 -- The registers name records that are there, there is room for one record more, and the numbers are small.
 pub record Space (w : List ℕ) (base : ℕ) (r : Registers) : Type 0 where
   pub some-record : 0 < r .records
-  pub environment-below : environmentOf (r .control) < r .records
+  pub environment-below : environmentOf (controlIn r) < r .records
   pub frame-below : r .frame < r .records
   pub room : base + 4 * (r .records + 1) ≤ length w
   pub narrow : length w ≤ 1000000
@@ -68,7 +63,7 @@ pub record StandsFor (file types functions : List ℕ) (p : Program) (w : List �
   pub input : Cells (p .types) (sourceSlots p) w cells e
   pub apart : 5 * cells ≤ base
   pub zeros : Holds w base 0 0 0 0 0
-  pub state : StateAt file (outlineOf file types functions) w base (cellOf w) (controlOf (r .control)) (r .frame) s
+  pub state : StateAt file (outlineOf file types functions) w base (cellOf w) (controlIn r) (r .frame) s
   pub there : StateIn e s
   pub sound : Sound p e s
   pub space : Space w base r
@@ -84,7 +79,7 @@ pub record Standing (file types functions w : List ℕ) (base : ℕ) (r : Regist
 
 -- An expression of this code, at this place of the file and in this environment's record, is being evaluated.
 pub record Ready (file w : List ℕ) (base : ℕ) (r : Registers) (code i env : ℕ) : Type 0 where
-  pub control-is : r .control ≡ Control.Expression i env
+  pub control-is : controlIn r ≡ expressionAt i env
   pub code-is : getD file i 0 ≡ code
   pub within : i < length file
   pub small : length file ≤ 16384
@@ -103,8 +98,8 @@ pub record Wrote (w w′ : List ℕ) (base top a b c d : ℕ) : Type 0 where
 
 -- After a step to registers r′ the words stand for state s′ (there may be no room for a further record then).
 pub record Follows (file types functions w′ : List ℕ) (base records : ℕ) (r′ : Registers) (s′ : State) : Type 0 where
-  pub state : StateAt file (outlineOf file types functions) w′ base (cellOf w′) (controlOf (r′ .control)) (r′ .frame) s′
-  pub environment-below : environmentOf (r′ .control) < r′ .records
+  pub state : StateAt file (outlineOf file types functions) w′ base (cellOf w′) (controlIn r′) (r′ .frame) s′
+  pub environment-below : environmentOf (controlIn r′) < r′ .records
   pub frame-below : r′ .frame < r′ .records
   pub no-fewer : records ≤ r′ .records
   pub one-more : r′ .records ≤ records + 1
@@ -185,8 +180,8 @@ module _ (file types functions : List ℕ) where
   -- environment is the record at the top.
   pub data Chose (w w′ : List ℕ) (base : ℕ) (r : Registers) (c k first inner : ℕ) : Registers → Type 0 where
     chose-none : OnlyTop w w′ base (r .records) → Found (recordWord w base (r .frame) 0) c Alternative.Absent
-        → Chose w w′ base r c k first inner (record { control = Control.Missing; frame = 0; records = r .records })
+        → Chose w w′ base r c k first inner (record { kind = 0; place = 0; env = 0; frame = 0; records = r .records })
     chose-one : (i : ℕ)
         → Wrote w w′ base (r .records) (recordWord w base (r .frame) 2) (recordWord w base (recordWord w base (r .frame) 2) 1 + k) first inner
         → Found (recordWord w base (r .frame) 0) c (Alternative.Present i)
-        → Chose w w′ base r c k first inner (record { control = Control.Expression i (r .records); frame = recordWord w base (r .frame) 3; records = r .records + 1 })
+        → Chose w w′ base r c k first inner (record { kind = 2; place = i; env = r .records; frame = recordWord w base (r .frame) 3; records = r .records + 1 })

@@ -5,9 +5,9 @@ ghost use mathlib.Core.List.{List};
 ghost use Prim.Native.Nat.{ℕ, _+_, _*_, _≤_, _<_};
 ghost use lib.ListN.{getD, length};
 ghost use Rattle.machine.specs.Cells.{cellWord};
-ghost use Rattle.machine.specs.Records.{recordWord};
+ghost use Rattle.machine.specs.Records.{recordWord, expressionAt, partIn};
 ghost use Rattle.machine.specs.Walks.{outsideOf};
-ghost use Rattle.steps.specs.Stepping.{Space, Standing, Ready, Wrote, Leads, Stepped, VariableThere, Group, FieldCount, PassedOver, OperandIn, AlternativeThere, PassedAlternative, Found, Chose};
+ghost use Rattle.steps.specs.Stepping.{controlIn, Space, Standing, Ready, Wrote, Leads, Stepped, VariableThere, Group, FieldCount, PassedOver, OperandIn, AlternativeThere, PassedAlternative, Found, Chose};
 use lookups::Fields;
 use lookups::constructors_of;
 use lookups::fields_of;
@@ -18,17 +18,13 @@ use skipping::skip_expression;
 
 const NESTING_LIMIT: usize = 32;
 
-// What is being evaluated: an expression at a place of the file in an environment's record, a part of the input in its cell, or
-// nothing, an alternative being missing.
-pub enum Control {
-    Expression(usize, usize),
-    Part(usize),
-    Missing,
-}
-
-// The registers: what is being evaluated, the record of the innermost waiting case or 0, and how many records there are.
+// The registers: what is being evaluated, the record of the innermost waiting case or 0, and how many records there are. Kind 2 is the expression
+// at a place of the file in an environment's record, 1 the part of the input in the cell `place`, and 0 nothing, an alternative being missing. (Numbers and no
+// enum: the loop of a search carries them around, and copying an enum there costs more than a step.)
 pub struct Registers {
-    pub control: Control,
+    pub kind: usize,
+    pub place: usize,
+    pub env: usize,
     pub frame: usize,
     pub records: usize,
 }
@@ -205,14 +201,18 @@ fn step_variable<'a>(
     let inner = record_word(work, base, group, 3);
     if inner == 0 {
         return Registers {
-            control: Control::Part(first + slot),
+            kind: 1,
+            place: first + slot,
+            env: 0,
             frame: r.frame,
             records: r.records,
         };
     }
     let place = operand_at(file, types, functions, first, slot);
     Registers {
-        control: Control::Expression(place, inner - 1),
+        kind: 2,
+        place,
+        env: inner - 1,
         frame: r.frame,
         records: r.records,
     }
@@ -235,7 +235,9 @@ fn step_call<'a>(
     let top = r.records;
     put_record(work, base, top, 0, head.count, at + 2, env + 1);
     Registers {
-        control: Control::Expression(head.body, top),
+        kind: 2,
+        place: head.body,
+        env: top,
         frame: r.frame,
         records: top + 1,
     }
@@ -267,14 +269,18 @@ fn choose<'a>(
     let seen = record_word(work, base, env, 1);
     let Alternative::Present(place) = alternative_at(file, types, functions, alternatives, c) else {
         return Registers {
-            control: Control::Missing,
+            kind: 0,
+            place: 0,
+            env: 0,
             frame: 0,
             records: top,
         };
     };
     put_record(work, base, top, env, seen + k, first, inner);
     Registers {
-        control: Control::Expression(place, top),
+        kind: 2,
+        place,
+        env: top,
         frame: next,
         records: top + 1,
     }
@@ -333,7 +339,9 @@ fn step_case<'a>(
     let all = constructors_of(file, types, byte_or_zero(file, at + 1));
     put_record(work, base, top, alternatives, all.count, env, r.frame);
     Registers {
-        control: Control::Expression(at + 2, env),
+        kind: 2,
+        place: at + 2,
+        env,
         frame: top,
         records: top + 1,
     }
@@ -358,7 +366,9 @@ fn step_let<'a>(
     let seen = record_word(work, base, env, 1);
     put_record(work, base, top, env, seen + 1, at + 2, env + 1);
     Registers {
-        control: Control::Expression(body, top),
+        kind: 2,
+        place: body,
+        env: top,
         frame: r.frame,
         records: top + 1,
     }
@@ -374,7 +384,7 @@ fn step_part<'a>(
     cell: usize,
     r: Registers,
 ) -> Next
-    requires { ⌜ Standing (now file) (now types) (now functions) (now work) base r × (r .control ≡ Control.Part cell) ⌝ }
+    requires { ⌜ Standing (now file) (now types) (now functions) (now work) base r × (controlIn r ≡ partIn cell) ⌝ }
     ensures { λ x. ⌜ ((label : ℕ) → Stepped (now (file .entry)) (now (types .entry)) (now (functions .entry)) (now (work .entry)) (now (work .exit)) base label r x) ⌝ }
 {
     let frame = r.frame;
@@ -400,7 +410,9 @@ fn step_target(file: &[u8], label: usize, at: usize, env: usize, r: Registers) -
         return Next::Demands;
     }
     Next::Goes(Registers {
-        control: Control::Expression(at + 2, env),
+        kind: 2,
+        place: at + 2,
+        env,
         frame: r.frame,
         records: r.records,
     })
@@ -418,7 +430,7 @@ fn step_expression<'a>(
     env: usize,
     r: Registers,
 ) -> Next
-    requires { ⌜ Standing (now file) (now types) (now functions) (now work) base r × (r .control ≡ Control.Expression at env) ⌝ }
+    requires { ⌜ Standing (now file) (now types) (now functions) (now work) base r × (controlIn r ≡ expressionAt at env) ⌝ }
     ensures { λ x. ⌜ Stepped (now (file .entry)) (now (types .entry)) (now (functions .entry)) (now (work .entry)) (now (work .exit)) base label r x ⌝ }
 {
     let code = byte_or_zero(file, at);
@@ -445,20 +457,20 @@ pub fn step<'a>(
     requires { ⌜ Standing (now file) (now types) (now functions) (now work) base r ⌝ }
     ensures { λ x. ⌜ Stepped (now (file .entry)) (now (types .entry)) (now (functions .entry)) (now (work .entry)) (now (work .exit)) base label r x ⌝ }
 {
-    let control = r.control;
-    match control {
-        Control::Expression(at, env) => step_expression(
+    let kind = r.kind;
+    match kind {
+        0 => Next::Stops,
+        1 => step_part(file, types, functions, work, base, r.place, r),
+        _ => step_expression(
             file,
             types,
             functions,
             label,
             work,
             base,
-            at,
-            env,
+            r.place,
+            r.env,
             r,
         ),
-        Control::Part(cell) => step_part(file, types, functions, work, base, cell, r),
-        Control::Missing => Next::Stops,
     }
 }

@@ -42,8 +42,8 @@ put-record-requires c κs =
       small .3,
     )
 
-add-t31 : tie.Need-add-t31
-add-t31 c = omega (arith, c .before .before .before .before .before .before .before .before .before .before .before .before .before .before .before .before .before .before .before .before .pre .0 .room, c .before .before .before .before .before .before .before .before .before .before .before .before .before .before .before .before .before .before .before .before .pre .0 .narrow)
+add-t30 : tie.Need-add-t30
+add-t30 c = omega (arith, c .before .before .before .before .before .before .before .before .before .before .before .before .before .before .before .before .before .before .before .before .pre .0 .room, c .before .before .before .before .before .before .before .before .before .before .before .before .before .before .before .before .before .before .before .before .pre .0 .narrow)
 
 returns-2 : tie.Need-returns-2
 returns-2 c =
@@ -66,6 +66,6 @@ choose-spec =
     returns
     add-put-record
     put-record-requires
-    add-t31
+    add-t30
     (λ c. search needs)
     returns-2)
