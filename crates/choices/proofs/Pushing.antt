@@ -23,12 +23,11 @@ use Rattle.reach.proofs.Evaluation.{answer-waits, waits-free}
 use Rattle.reach.proofs.NeverStuck.{PartHas, never-stuck}
 use Rattle.machine.specs.Cells.{cellWord, cellOf}
 use Rattle.machine.proofs.Cells.{kept-cells}
-use Rattle.machine.specs.Records.{StateAt, inspecting-at, evaluating-at, missing-at}
+use Rattle.machine.specs.Records.{Control, partIn, StateAt, inspecting-at, evaluating-at, missing-at}
 use Rattle.forks.specs.Untried.{untried}
 use Rattle.forks.proofs.Untried.{untried-all}
-use Rattle.steps.specs.declared.Control.the-variants as Control
 use Rattle.steps.specs.declared.Registers.{Registers}
-use Rattle.steps.specs.Stepping.{StandsFor, outlineOf, controlOf}
+use Rattle.steps.specs.Stepping.{StandsFor, outlineOf, controlIn}
 use Rattle.choices.specs.Choices.{Setting, Given, choiceWord, reopened, waitingAt, Path, ChoiceAt, ChoicesAt, one-choice, Pushes}
 use Rattle.choices.proofs.Keeping.{Kept, path-kept, reopened-length, reopened-other, reopened-head, reopened-first, choices-kept}
 
@@ -69,22 +68,22 @@ inspects p e s q h = view-waits p s q ((answer-waits e (view p s) q h) .0)
 
 -- the registers that look at cell x, with the frames of others
 abbrev lookingAt : ℕ → Registers → Registers
-lookingAt x r = record { control = Control.Part x; frame = r .frame; records = r .records }
+lookingAt x r = record { kind = 1; place = x; env = 0; frame = r .frame; records = r .records }
 
 -- the path on which a case waits is that of the registers that look at the cell of the part
 module _ {g : Setting} {w : List ℕ} {cells done binds : ℕ} {r : Registers} {e : Parts} {s : State} (path : Path g w cells done binds r e s) where
   module _ {q : Question} {x : ℕ} (asks : next (g .program) e s ≡ waits q) (cell-is : cellOf w (q .place) ≡ x) where
     looking :
-        StateAt (g .file) (outlineOf (g .file) (g .types) (g .functions)) w (g .base) (cellOf w) (controlOf (r .control)) (r .frame) s
-        → StateAt (g .file) (outlineOf (g .file) (g .types) (g .functions)) w (g .base) (cellOf w) (controlOf (Control.Part x)) (r .frame) s
+        StateAt (g .file) (outlineOf (g .file) (g .types) (g .functions)) w (g .base) (cellOf w) (controlIn r) (r .frame) s
+        → StateAt (g .file) (outlineOf (g .file) (g .types) (g .functions)) w (g .base) (cellOf w) (partIn x) (r .frame) s
     looking state-at =
         let found = inspects (g .program) e s q asks in
         rw (found .1) (by-state (rw (found .1) at state-at))
       where
         by-state :
-            {fs : List Frame} {c : Rattle.machine.specs.Records.Control}
+            {fs : List Frame} {c : Control}
             → StateAt (g .file) (outlineOf (g .file) (g .types) (g .functions)) w (g .base) (cellOf w) c (r .frame) (inspecting (q .place) fs)
-            → StateAt (g .file) (outlineOf (g .file) (g .types) (g .functions)) w (g .base) (cellOf w) (controlOf (Control.Part x)) (r .frame) (inspecting (q .place) fs)
+            → StateAt (g .file) (outlineOf (g .file) (g .types) (g .functions)) w (g .base) (cellOf w) (partIn x) (r .frame) (inspecting (q .place) fs)
         by-state (inspecting-at is frames) = inspecting-at cell-is frames
 
     pub path-looking : Path g w cells done binds (lookingAt x r) e s

@@ -18,7 +18,6 @@ use Rattle.reach.proofs.NeverStuck.{Steps}
 use Rattle.machine.specs.Cells.{cellWord, cellOf, Cells}
 use Rattle.depths.specs.Table.{padded}
 use Rattle.forks.specs.Untried.{untried}
-use Rattle.steps.specs.declared.Control.the-variants as Control
 use Rattle.steps.specs.declared.Registers.{Registers}
 use Rattle.steps.specs.Stepping.{FileOf, StandsFor}
 
@@ -54,7 +53,7 @@ reopened stack w h = set (set w (5 * choiceWord stack w h 0) 0) (5 * choiceWord 
 
 -- the registers with which the case of choice point h waits
 abbrev pub waitingAt : ℕ → List ℕ → ℕ → Registers
-waitingAt stack w h = record { control = Control.Part (choiceWord stack w h 0); frame = choiceWord stack w h 2; records = choiceWord stack w h 3 }
+waitingAt stack w h = record { kind = 1; place = choiceWord stack w h 0; env = 0; frame = choiceWord stack w h 2; records = choiceWord stack w h 3 }
 
 -- A path: the words and registers stand for the state to which so many steps lead on the input, with cells for at most so many binds and records for
 -- the steps.

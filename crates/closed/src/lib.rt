@@ -20,7 +20,6 @@ use rulefile::label;
 use rulefile::load;
 use rulefile::source;
 use rulefile::steps;
-use steps::Control;
 use steps::Next;
 use steps::Registers;
 use steps::cell_word;
@@ -202,7 +201,9 @@ fn evaluate<'a>(
     let n = head.count;
     begin(file, types, input, work, base, first, n, depth(file, goal));
     let from = Registers {
-        control: Control::Expression(head.body, 1),
+        kind: 2,
+        place: head.body,
+        env: 1,
         frame: 0,
         records: 2,
     };

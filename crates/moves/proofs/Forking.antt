@@ -21,7 +21,6 @@ use Rattle.reach.proofs.NeverStuck.{never-stuck}
 use Rattle.machine.specs.Cells.{cellWord, cellOf, Binds}
 use Rattle.cells.proofs.Writing.{bytes-length}
 use Rattle.cells.proofs.Rooms.{cell-room}
-use Rattle.steps.specs.declared.Control.the-variants as Control
 use Rattle.steps.specs.declared.Registers.{Registers}
 use Rattle.steps.specs.declared.Next.{Next}
 use Rattle.steps.specs.declared.Next.the-variants as Next
@@ -192,7 +191,7 @@ module _
     (done-is : done ≡ choiceWord stack w h 5) (binds : Binds w w₁ x n cells k (bytesAt file i k) (cellWord w x 3 - 1))
   where
     abbrev from : Registers
-    from = record { control = Control.Part x; frame = frame; records = records }
+    from = record { kind = 1; place = x; env = 0; frame = frame; records = records }
 
     bound-there : Binds w w₁ (choiceWord stack w h 0) n (choiceWord stack w h 4) k (bytesAt file i k) (cellWord w (choiceWord stack w h 0) 3 - 1)
     bound-there = rw (x-is, cells-is) at binds

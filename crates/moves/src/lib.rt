@@ -9,7 +9,6 @@ use choices::choice_word;
 use choices::find_return;
 use choices::push_choice;
 use depths::Depths;
-use steps::Control;
 use steps::Next;
 use steps::Registers;
 use steps::step;
@@ -140,7 +139,9 @@ fn take_fork<'a>(
     let done = choice_word(work, stack, h, 5);
     bind_cell(file, work, x, c, fields, k, cells);
     let from = Registers {
-        control: Control::Part(x),
+        kind: 1,
+        place: x,
+        env: 0,
         frame,
         records,
     };

@@ -28,7 +28,6 @@ use rulefile::label;
 use rulefile::load;
 use rulefile::source;
 use rulefile::steps;
-use steps::Control;
 use steps::Registers;
 use steps::put_record;
 
@@ -220,7 +219,9 @@ fn search_checked<'a>(
     let n = head.count;
     open_input(file, work, base, first, n, depth(file, goal));
     let from = Registers {
-        control: Control::Expression(head.body, 1),
+        kind: 2,
+        place: head.body,
+        env: 1,
         frame: 0,
         records: 2,
     };
