@@ -31,7 +31,7 @@ pub struct Constructors {
 }
 
 // The entry of a table of places, or 0 past its end.
-fn place_or_zero(places: &[u16], n: usize) -> usize
+pub fn place_or_zero(places: &[u16], n: usize) -> usize
     ensures { λ r. ⌜ (r ≡ getD (now (places .entry)) n 0) × (r ≤ 65535) ⌝ }
 {
     if n < places.len() {

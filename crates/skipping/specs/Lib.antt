@@ -1,1 +1,1 @@
-pub mod Skip
+pub mod Ends

@@ -1,221 +1,107 @@
-// The place behind an expression that was read before, found by its codes and arities alone. Records of types and functions are
-// looked at where the first pass found them. Rests on crates records and lookups.
+// The table of the ends of expressions: an entry for each place of a rule file. Where an expression stands, its entry is the place
+// behind it. The table is filled once, from the last place to the first, each entry from entries behind it. Rests on crates records
+// and lookups; the definitions also on machine.
 ghost use mathlib.Core.Path.{_≡_};
-ghost use Rattle.records.specs.Steps.{stepOf};
-ghost use Rattle.skipping.specs.Skip.{skippedAt, skippedAllAt, skippedAlternativesAt, callPart, constructPart, casePart, letPart, numberPart, targetPart};
+ghost use Prim.Native.Nat.{max, _+_, _≤_, _<_};
+ghost use lib.ListN.{length};
+ghost use Rattle.skipping.specs.Ends.{passedOperands, passedAlternative, passedAlternatives, Ends, EndAt, EndsFrom};
 use lookups::Fields;
 use lookups::constructors_of;
 use lookups::fields_of;
 use lookups::head_of;
-use reach::Refusal;
-use records::Step;
-use records::Taken;
-use records::take_byte;
-use records::wide;
+use lookups::place_or_zero;
+use records::byte_or_zero;
 
-// An expression that nests at most so many deep, itself included.
-pub fn skip_expression<'a>(
+// The place behind n expressions that stand one after the other from a place on, by the table of ends.
+pub fn pass_operands(ends: &[u16], at: usize, n: usize) -> usize
+    ensures { λ r. ⌜ r ≡ passedOperands (now (ends .entry)) n at ⌝ }
+{
+    let mut place = at;
+    let mut more = n;
+    while 0 < more {
+        place = place_or_zero(ends, place);
+        more -= 1;
+    }
+    place
+}
+
+// The place behind one alternative, by the table of ends: a byte 0, or another byte and an expression.
+fn pass_alternative<'a>(file: &'a [u8], ends: &'a [u16], at: usize) -> usize
+    requires { ⌜ at ≤ 1100000 ⌝ }
+    ensures { λ r. ⌜ r ≡ passedAlternative (now (file .entry)) (now (ends .entry)) at ⌝ }
+    ensures near { λ r. ⌜ r ≤ max at 65535 + 1 ⌝ }
+{
+    if byte_or_zero(file, at) == 0 {
+        return at + 1;
+    }
+    place_or_zero(ends, at + 1)
+}
+
+// The place behind the alternatives of n constructors, by the table of ends: for each a byte 0, or another byte and an expression.
+pub fn pass_alternatives<'a>(file: &'a [u8], ends: &'a [u16], at: usize, n: usize) -> usize
+    requires { ⌜ (at ≤ 1000000) × (n ≤ 255) ⌝ }
+    ensures { λ r. ⌜ r ≡ passedAlternatives (now (file .entry)) (now (ends .entry)) n at ⌝ }
+    ensures near { λ r. ⌜ r ≤ 1100000 ⌝ }
+{
+    let mut place = at;
+    let mut left = n;
+    while 0 < left {
+        place = pass_alternative(file, ends, place);
+        left -= 1;
+    }
+    place
+}
+
+// The place behind the expression at a place, whose operands' ends are in the table.
+fn end_of<'a>(
     file: &'a [u8],
     types: &'a [u16],
     functions: &'a [u16],
+    ends: &'a [u16],
     at: usize,
-    left: usize,
-) -> Step
-    ensures { λ r. ⌜ r ≡ stepOf (skippedAt (now (file .entry)) (now (types .entry)) (now (functions .entry)) left (now (file .entry)) at) ⌝ }
+) -> usize
+    requires { ⌜ EndsFrom (now file) (now types) (now functions) (now ends) (at + 1) × (at < 16384) ⌝ }
+    ensures { λ r. ⌜ EndAt (now (file .entry)) (now (types .entry)) (now (functions .entry)) at r ⌝ }
 {
-    if left == 0 {
-        return Step::Refused(Refusal::OutOfRange);
-    }
-    let Taken::Byte(code, next) = take_byte(file, at) else {
-        return Step::Refused(Refusal::Truncated);
-    };
+    let code = byte_or_zero(file, at);
+    let first = byte_or_zero(file, at + 1);
     match code {
-        0 => skip_number(file, next),
-        1 => skip_call(file, types, functions, next, left - 1),
-        2 => skip_construct(file, types, functions, next, left - 1),
-        3 => skip_case(file, types, functions, next, left - 1),
-        4 => skip_let(file, types, functions, next, left - 1),
-        _ => skip_target(file, types, functions, next, left - 1),
+        0 => at + 2,
+        1 => {
+            let head = head_of(file, functions, first);
+            pass_operands(ends, at + 2, head.count)
+        }
+        2 => {
+            let Fields::At(_, n) = fields_of(file, types, first, byte_or_zero(file, at + 2)) else {
+                return 0;
+            };
+            pass_operands(ends, at + 3, n)
+        }
+        3 => {
+            let all = constructors_of(file, types, first);
+            pass_alternatives(file, ends, place_or_zero(ends, at + 2), all.count)
+        }
+        4 => pass_operands(ends, at + 2, 2),
+        _ => pass_operands(ends, at + 2, 1),
     }
 }
 
-// One number.
-fn skip_number(file: &[u8], at: usize) -> Step
-    ensures { λ r. ⌜ r ≡ stepOf (numberPart (now (file .entry)) at) ⌝ }
+// A place as an entry of the table, or 0 where it is too high for one.
+fn entry_of(place: usize) -> u16
+    ensures { λ r. ⌜ (place ≤ 65535 → r ≡ place) ⌝ }
 {
-    let Taken::Byte(_, next) = take_byte(file, at) else {
-        return Step::Refused(Refusal::Truncated);
-    };
-    Step::Next(next)
+    if place <= 65535 { place as u16 } else { 0 }
 }
 
-// A function's number and its arguments, each of which nests at most so many deep.
-fn skip_call<'a>(
-    file: &'a [u8],
-    types: &'a [u16],
-    functions: &'a [u16],
-    at: usize,
-    left: usize,
-) -> Step
-    ensures { λ r. ⌜ r ≡ stepOf (callPart (now (file .entry)) (now (types .entry)) (now (functions .entry)) left (now (file .entry)) at) ⌝ }
+// Fills the table of ends, from the last place of the file to the first.
+pub fn fill_ends<'a>(file: &'a [u8], types: &'a [u16], functions: &'a [u16], ends: &mut [u16])
+    requires { ⌜ (length (now file) ≤ 16384) × (length (now file) ≤ length (now ends)) ⌝ }
+    ensures { λ _. ⌜ Ends (now (file .entry)) (now (types .entry)) (now (functions .entry)) (now (ends .exit)) ⌝ }
 {
-    let Taken::Byte(number, next) = take_byte(file, at) else {
-        return Step::Refused(Refusal::Truncated);
-    };
-    let f = wide(number);
-    if functions.len() <= f {
-        return Step::Refused(Refusal::UnknownNumber);
+    let mut at = file.len();
+    while 0 < at {
+        at -= 1;
+        let end = end_of(file, types, functions, ends, at);
+        ends[at] = entry_of(end);
     }
-    let head = head_of(file, functions, f);
-    skip_all(file, types, functions, next, left, head.count)
-}
-
-// A type, a constructor and its fields.
-fn skip_construct<'a>(
-    file: &'a [u8],
-    types: &'a [u16],
-    functions: &'a [u16],
-    at: usize,
-    left: usize,
-) -> Step
-    ensures { λ r. ⌜ r ≡ stepOf (constructPart (now (file .entry)) (now (types .entry)) (now (functions .entry)) left (now (file .entry)) at) ⌝ }
-{
-    let Taken::Byte(t, middle) = take_byte(file, at) else {
-        return Step::Refused(Refusal::Truncated);
-    };
-    let Taken::Byte(c, next) = take_byte(file, middle) else {
-        return Step::Refused(Refusal::Truncated);
-    };
-    let Fields::At(_, n) = fields_of(file, types, wide(t), wide(c)) else {
-        return Step::Refused(Refusal::UnknownNumber);
-    };
-    skip_all(file, types, functions, next, left, n)
-}
-
-// A type, the scrutinee and the alternatives.
-fn skip_case<'a>(
-    file: &'a [u8],
-    types: &'a [u16],
-    functions: &'a [u16],
-    at: usize,
-    left: usize,
-) -> Step
-    ensures { λ r. ⌜ r ≡ stepOf (casePart (now (file .entry)) (now (types .entry)) (now (functions .entry)) left (now (file .entry)) at) ⌝ }
-{
-    let Taken::Byte(number, next) = take_byte(file, at) else {
-        return Step::Refused(Refusal::Truncated);
-    };
-    let t = wide(number);
-    if types.len() <= t {
-        return Step::Refused(Refusal::UnknownNumber);
-    }
-    let step = skip_expression(file, types, functions, next, left);
-    let Step::Next(first) = step else {
-        return step;
-    };
-    let all = constructors_of(file, types, t);
-    skip_alternatives(file, types, functions, first, left, all.count)
-}
-
-// A type, the bound expression and the body.
-fn skip_let<'a>(
-    file: &'a [u8],
-    types: &'a [u16],
-    functions: &'a [u16],
-    at: usize,
-    left: usize,
-) -> Step
-    ensures { λ r. ⌜ r ≡ stepOf (letPart (now (file .entry)) (now (types .entry)) (now (functions .entry)) left (now (file .entry)) at) ⌝ }
-{
-    let Taken::Byte(_, next) = take_byte(file, at) else {
-        return Step::Refused(Refusal::Truncated);
-    };
-    let step = skip_expression(file, types, functions, next, left);
-    let Step::Next(body) = step else {
-        return step;
-    };
-    skip_expression(file, types, functions, body, left)
-}
-
-// A label and the expression inside the target.
-fn skip_target<'a>(
-    file: &'a [u8],
-    types: &'a [u16],
-    functions: &'a [u16],
-    at: usize,
-    left: usize,
-) -> Step
-    ensures { λ r. ⌜ r ≡ stepOf (targetPart (now (file .entry)) (now (types .entry)) (now (functions .entry)) left (now (file .entry)) at) ⌝ }
-{
-    let Taken::Byte(_, next) = take_byte(file, at) else {
-        return Step::Refused(Refusal::Truncated);
-    };
-    skip_expression(file, types, functions, next, left)
-}
-
-// n expressions, one after the other.
-fn skip_all<'a>(
-    file: &'a [u8],
-    types: &'a [u16],
-    functions: &'a [u16],
-    at: usize,
-    left: usize,
-    n: usize,
-) -> Step
-    ensures { λ r. ⌜ r ≡ stepOf (skippedAllAt (now (file .entry)) (now (types .entry)) (now (functions .entry)) left n (now (file .entry)) at) ⌝ }
-{
-    let mut place = at;
-    let mut more = n;
-    while 0 < more {
-        let step = skip_expression(file, types, functions, place, left);
-        let Step::Next(next) = step else {
-            return step;
-        };
-        place = next;
-        more -= 1;
-    }
-    Step::Next(place)
-}
-
-// The alternatives of n constructors.
-fn skip_alternatives<'a>(
-    file: &'a [u8],
-    types: &'a [u16],
-    functions: &'a [u16],
-    at: usize,
-    left: usize,
-    n: usize,
-) -> Step
-    ensures { λ r. ⌜ r ≡ stepOf (skippedAlternativesAt (now (file .entry)) (now (types .entry)) (now (functions .entry)) left n (now (file .entry)) at) ⌝ }
-{
-    let mut place = at;
-    let mut more = n;
-    while 0 < more {
-        let step = skip_alternative(file, types, functions, place, left);
-        let Step::Next(next) = step else {
-            return step;
-        };
-        place = next;
-        more -= 1;
-    }
-    Step::Next(place)
-}
-
-// A byte: 0 for no alternative, or another and an expression.
-fn skip_alternative<'a>(
-    file: &'a [u8],
-    types: &'a [u16],
-    functions: &'a [u16],
-    at: usize,
-    left: usize,
-) -> Step
-    ensures { λ r. ⌜ r ≡ stepOf (Rattle.skipping.specs.Skip.alternativePart (now (file .entry)) (now (types .entry)) (now (functions .entry)) left (now (file .entry)) at) ⌝ }
-{
-    let Taken::Byte(b, next) = take_byte(file, at) else {
-        return Step::Refused(Refusal::Truncated);
-    };
-    if b == 0 {
-        return Step::Next(next);
-    }
-    skip_expression(file, types, functions, next, left)
 }
