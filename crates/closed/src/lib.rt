@@ -4,6 +4,7 @@ ghost use mathlib.Core.Path.{_≡_};
 ghost use Prim.Native.Nat.{ℕ, _+_, _*_, _≤_, _<_};
 ghost use lib.ListN.{length, getD};
 ghost use Rattle.reach.specs.Answers.{runAnswer};
+ghost use Rattle.skipping.specs.Ends.{Ends};
 ghost use Rattle.closed.specs.Running.{SomeUnderway, Bindable, BoundAs, AdvancesAll, Begins, EndsAs, endedAs, Begun, Runnable, RunsAs, answerOf, Unchanged, Leaves};
 use cells::bind_cell;
 use cells::start_cells;
@@ -20,6 +21,7 @@ use rulefile::label;
 use rulefile::load;
 use rulefile::source;
 use rulefile::steps;
+use skipping::fill_ends;
 use steps::Next;
 use steps::Registers;
 use steps::cell_word;
@@ -80,6 +82,7 @@ fn advance<'a>(
     file: &'a [u8],
     types: &'a [u16],
     functions: &'a [u16],
+    ends: &'a [u16],
     label: usize,
     input: &'a [u8],
     work: &mut [u32],
@@ -88,9 +91,10 @@ fn advance<'a>(
     r: Registers,
 ) -> Advanced
     requires { ⌜ SomeUnderway (now file) (now types) (now functions) (now input) label (now work) base cells r ⌝ }
+    requires { ⌜ Ends (now file) (now types) (now functions) (now ends) ⌝ }
     ensures { λ a. ⌜ AdvancesAll (now (file .entry)) (now (types .entry)) (now (functions .entry)) (now (input .entry)) label (now (work .entry)) (now (work .exit)) base cells r (a .cells) (a .next) ⌝ }
 {
-    let first = step(file, types, functions, label, work, base, r);
+    let first = step(file, types, functions, ends, label, work, base, r);
     match first {
         Next::Demands => Advanced {
             next: Next::Demands,
@@ -106,7 +110,7 @@ fn advance<'a>(
         },
         Next::Waits(x) => {
             let more = bind_asked(file, types, input, work, cells, x);
-            let next = step(file, types, functions, label, work, base, r);
+            let next = step(file, types, functions, ends, label, work, base, r);
             Advanced { next, cells: more }
         }
     }
@@ -130,6 +134,7 @@ fn go_on<'a>(
     file: &'a [u8],
     types: &'a [u16],
     functions: &'a [u16],
+    ends: &'a [u16],
     label: usize,
     input: &'a [u8],
     work: &mut [u32],
@@ -139,13 +144,25 @@ fn go_on<'a>(
     limit: usize,
 ) -> Outcome
     requires { ⌜ (limit ≤ 4096) × Begins (now file) (now types) (now functions) (now input) label limit (now work) base first from ⌝ }
+    requires { ⌜ Ends (now file) (now types) (now functions) (now ends) ⌝ }
     ensures { λ o. ⌜ EndsAs (now (file .entry)) (now (types .entry)) (now (functions .entry)) (now (input .entry)) label limit (now (work .entry)) (now (work .exit)) base first from o ⌝ }
 {
     let mut r = from;
     let mut cells = first;
     let mut done: usize = 0;
     while done < limit {
-        let turn = advance(file, types, functions, label, input, work, base, cells, r);
+        let turn = advance(
+            file,
+            types,
+            functions,
+            ends,
+            label,
+            input,
+            work,
+            base,
+            cells,
+            r,
+        );
         let next = turn.next;
         match next {
             Next::Goes(to) => r = to,
@@ -156,7 +173,18 @@ fn go_on<'a>(
         cells = turn.cells;
         done += 1;
     }
-    let turn = advance(file, types, functions, label, input, work, base, cells, r);
+    let turn = advance(
+            file,
+            types,
+            functions,
+            ends,
+            label,
+            input,
+            work,
+            base,
+            cells,
+            r,
+        );
     let next = turn.next;
     last(next, done)
 }
@@ -194,6 +222,8 @@ fn evaluate<'a>(
     requires { ⌜ Runnable (now file) (now types) (now functions) (now input) goal (now work) ⌝ }
     ensures { λ o. ⌜ RunsAs (now (file .entry)) (now (types .entry)) (now (functions .entry)) (now (input .entry)) goal (now (work .exit)) o ⌝ }
 {
+    let mut ends = [0u16; 16384];
+    fill_ends(file, types, functions, &mut ends);
     let limit = steps(file, goal);
     let base = 30 * limit + 80;
     let head = head_of(file, functions, source(file, goal));
@@ -211,6 +241,7 @@ fn evaluate<'a>(
         file,
         types,
         functions,
+        &ends,
         label(file, goal),
         input,
         work,

@@ -27,7 +27,7 @@ pub fn pass_operands(ends: &[u16], at: usize, n: usize) -> usize
 
 // The place behind one alternative, by the table of ends: a byte 0, or another byte and an expression.
 fn pass_alternative<'a>(file: &'a [u8], ends: &'a [u16], at: usize) -> usize
-    requires { ⌜ at ≤ 1100000 ⌝ }
+    requires { ⌜ at ≤ 8600000000 ⌝ }
     ensures { λ r. ⌜ r ≡ passedAlternative (now (file .entry)) (now (ends .entry)) at ⌝ }
     ensures near { λ r. ⌜ r ≤ max at 65535 + 1 ⌝ }
 {
@@ -39,9 +39,9 @@ fn pass_alternative<'a>(file: &'a [u8], ends: &'a [u16], at: usize) -> usize
 
 // The place behind the alternatives of n constructors, by the table of ends: for each a byte 0, or another byte and an expression.
 pub fn pass_alternatives<'a>(file: &'a [u8], ends: &'a [u16], at: usize, n: usize) -> usize
-    requires { ⌜ (at ≤ 1000000) × (n ≤ 255) ⌝ }
+    requires { ⌜ (at < 4294967296) × (n < 4294967296) ⌝ }
     ensures { λ r. ⌜ r ≡ passedAlternatives (now (file .entry)) (now (ends .entry)) n at ⌝ }
-    ensures near { λ r. ⌜ r ≤ 1100000 ⌝ }
+    ensures near { λ r. ⌜ r ≤ 8600000000 ⌝ }
 {
     let mut place = at;
     let mut left = n;

@@ -20,7 +20,7 @@ use Rattle.steps.specs.declared.Registers.{Registers}
 use Rattle.steps.specs.declared.Alternative.{Alternative}
 use Rattle.steps.specs.declared.Alternative.the-variants as Alternative
 use Rattle.steps.specs.declared.Next.the-variants as Next
-use Rattle.steps.specs.Stepping.{outlineOf, controlIn, FileOf, StandsFor, Standing, Ready, OnlyTop, Wrote, Follows, Stepped, StepMeans, FieldCount, AlternativeThere, Found, Chose, chose-none, chose-one}
+use Rattle.steps.specs.Stepping.{outlineOf, controlIn, FileOf, StandsFor, Standing, Ready, OnlyTop, Wrote, Follows, Stepped, StepMeans, FieldCount, Found, Chose, chose-none, chose-one}
 use Rattle.steps.proofs.Words.{few-kept, nothing-written}
 use Rattle.steps.proofs.Which.{when-construct, when-missing, when-no-frame, when-waiting}
 use Rattle.steps.proofs.Kept.{Met, shown, state-of, frames-there, operands-there, few-added}
@@ -161,14 +161,10 @@ module _ (file types functions w : List ℕ) (base i env : ℕ) (r : Registers) 
         subst (λ (d : ℕ). Code file (outlineOf file types functions) i (construct t d es) → Chooses p t d alts outer (operands outer es env′) → G (Eval.evaluating (construct t d es) env′ (waiting alts outer ∷ rest))) (sym same)
         (λ code chooses. show t es env′ alts outer rest code (met′ .env-at) (met′ .env-in) here chooses) (met′ .code) (sound .1)) (met′ .sound)) met)
 
-    pub construct-chooses :
-        Standing file types functions w base r
-        → AlternativeThere file types functions (recordWord w base (r .frame) 0) c × (recordWord w base (r .frame) 2 < r .records)
+    pub construct-chooses : Standing file types functions w base r → recordWord w base (r .frame) 2 < r .records
     construct-chooses standing =
-        constructed (standing .program) (standing .cells) (standing .input) (standing .state)
-        (λ s. AlternativeThere file types functions (recordWord w base (r .frame) 0) c × (recordWord w base (r .frame) 2 < r .records)) (standing .stands)
-        (λ t es env′ alts outer rest code env-at env-in here chooses.
-        ((operands outer es env′, rest, choose alts c (operands outer es env′) rest, pending-there here chooses), omega (arith, here .env-before, ready .space .frame-below)))
+        constructed (standing .program) (standing .cells) (standing .input) (standing .state) (λ s. recordWord w base (r .frame) 2 < r .records) (standing .stands)
+        (λ t es env′ alts outer rest code env-at env-in here chooses. omega (arith, here .env-before, ready .space .frame-below))
 
     pub construct-goes :
         {w′ : List ℕ} {t′ k : ℕ} {r′ : Registers} → t′ ≡ getD file (i + 1) 0 → FieldCount file types t′ c k

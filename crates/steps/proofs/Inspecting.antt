@@ -17,7 +17,7 @@ use Rattle.machine.proofs.Cells.{walk-field, head-open, head-constructor}
 use Rattle.machine.proofs.Records.{count-word, parts-added}
 use Rattle.steps.specs.declared.Registers.{Registers}
 use Rattle.steps.specs.declared.Next.the-variants as Next
-use Rattle.steps.specs.Stepping.{outlineOf, controlIn, StandsFor, Standing, Wrote, Stepped, StepMeans, FieldCount, AlternativeThere, Chose}
+use Rattle.steps.specs.Stepping.{outlineOf, controlIn, StandsFor, Standing, Wrote, Stepped, StepMeans, FieldCount, Chose}
 use Rattle.steps.proofs.Words.{records-same, cells-same, nothing-written}
 use Rattle.steps.proofs.Which.{when-part, when-no-frame}
 use Rattle.steps.proofs.Kept.{state-of}
@@ -99,16 +99,10 @@ module _ (file types functions w : List ℕ) (base cell : ℕ) (r : Registers) (
           let bound = head-constructor (stands .input) q there (head - 1) (ap (λ (x : ℕ). cellWord w x 0) is ∙ (sym is-head ∙ z)) in
           show q alts outer rest (bound .0) (met .0) is there (bound .1) here (met .1) (met .3 (head - 1) (bound .0) (bound .1))) sound)
 
-      pub part-chooses :
-          Standing file types functions w base r
-          → AlternativeThere file types functions (recordWord w base (r .frame) 0) (head - 1) × (recordWord w base (r .frame) 2 < r .records)
+      pub part-chooses : Standing file types functions w base r → recordWord w base (r .frame) 2 < r .records
       part-chooses standing =
-          bound-there (standing .program) (standing .cells) (standing .input) (standing .state)
-          (λ s. AlternativeThere file types functions (recordWord w base (r .frame) 0) (head - 1) × (recordWord w base (r .frame) 2 < r .records)) (standing .stands)
-          (λ q alts outer rest k t is there bound here has-type chooses. (
-            (inputParts outer (fieldsOf q) k, rest, choose alts (head - 1) (inputParts outer (fieldsOf q) k) rest, pending-there here chooses),
-            omega (arith, here .env-before, standing .stands .space .frame-below),
-          ))
+          bound-there (standing .program) (standing .cells) (standing .input) (standing .state) (λ s. recordWord w base (r .frame) 2 < r .records) (standing .stands)
+          (λ q alts outer rest k t is there bound here has-type chooses. omega (arith, here .env-before, standing .stands .space .frame-below))
 
       -- the record at the top is the group of the part's fields
       fields-there :

@@ -166,13 +166,6 @@ cased :
 unfolding outlineAt
 cased file types functions t alts cs is many = many ∙ ap length (sym (mapped (typeAt file) types 0 t cs is .1))
 
--- the place behind an expression is a place of the file
-pub behind-small :
-    (file : List ℕ) (o : Outline) (i next : ℕ) (x : Expr) → i ≤ length file → Code file o i x → Behind file o i next → next ≤ length file
-behind-small file o i next x from code passed =
-    let z : i + length (encode x) ≡ next = cc (code-behind file o i x code, passed) in
-    omega (arith, z, simp (length-drop, length-append) at (ap length (code .0 .1)))
-
 module _
     (file types functions w w′ : List ℕ) (base i env : ℕ) (r : Registers) {alternatives : ℕ} (all : Constructors) (ready : Ready file w base r 3 i env)
     (found : PassedOver file types functions (i + 2) alternatives)
@@ -214,17 +207,6 @@ module _
           steps-by file types functions w w′ base i env r p e (Next.Goes case-after) ready stands
           (λ x coded. when-case (StepsAt file types functions w w′ base i env r p e (Next.Goes case-after)) coded (λ t y alts. case-follows p cells e s stands t y alts));
     }
-
--- the place of the alternatives is small enough to be written
-pub case-small :
-    (file types functions w : List ℕ) (base i env : ℕ) (r : Registers) {alternatives : ℕ} → Standing file types functions w base r → Ready file w base r 3 i env
-    → PassedOver file types functions (i + 2) alternatives → alternatives ≤ 16384
-case-small file types functions w base i env r {alternatives} standing ready found =
-    shown file types functions w base i env r (standing .program) (standing .input) (λ s. alternatives ≤ 16384) ready (standing .stands)
-    (λ x env′ fs coded met. when-case (λ y. Code file (outlineOf file types functions) i y → alternatives ≤ 16384) coded (λ t y alts code.
-    let at = code-case file (outlineOf file types functions) i t y alts code in
-    let first = code-kind file (outlineOf file types functions) (i + 2) y (at .2) in
-    omega (arith, ready .small, behind-small file (outlineOf file types functions) (i + 2) alternatives y (omega (arith, first .0)) (at .2) (found y (at .2)))) (met .code))
 
 -- A target.
 

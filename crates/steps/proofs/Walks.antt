@@ -1,42 +1,42 @@
--- What the parts of a step find: the place behind an expression, the fields of a constructor, and the walk outward to a variable's group.
--- Rests on Stepping, on machine's laws of codes and records, and on the answers of records, lookups and skipping.
+-- What the parts of a step find: what the table of ends gives, the fields of a constructor, and the walk outward to a variable's group.
+-- Rests on Stepping, on machine's laws of codes and records, on skipping's Finding and on the answers of lookups.
 use Prim.Native.Nat.{ℕ, zero, suc, _+_, _≤_, _<_}
-use mathlib.Core.Path.{_≡_, sym, _∙_, ap}
+use mathlib.Core.Path.{_≡_, refl, sym, _∙_, ap}
 use mathlib.Core.List.{List, [], _∷_, map}
 use mathlib.Core.Option.{some, Option·some-injective, Option·none-ne-some}
 use native.Mathlib.Omega.{arith}
 use lib.ListN.{length, getD, getElem?}
-use Rattle.reach.specs.Limits.{nestingLimit}
-use Rattle.reach.specs.Syntax.{Expr, fieldTypes}
-use Rattle.reach.specs.Encoding.{encode}
+use Rattle.reach.specs.Syntax.{fieldTypes}
 use Rattle.reach.specs.Places.{bytesAt, constructorsAt, typeAt}
-use Rattle.reach.specs.declared.Refusal.{Refusal}
 use Rattle.reach.proofs.Base.{clash}
-use Rattle.records.specs.declared.Step.{Step}
-use Rattle.records.specs.Steps.{stepOf}
 use Rattle.lookups.specs.declared.Fields.{Fields}
 use Rattle.lookups.specs.Fields.{fieldsOf, fieldsIn}
 use Rattle.lookups.proofs.Tables.{bytes-length}
-use Rattle.skipping.specs.Skip.{skippedAt}
-use Rattle.machine.specs.Records.{Code, recordWord}
-use Rattle.machine.proofs.Codes.{code-behind}
+use Rattle.skipping.specs.Ends.{Ends, passedOperands, passedAlternatives}
+use Rattle.skipping.proofs.Finding.{operand-found, alternative-found}
+use Rattle.machine.specs.Records.{recordWord}
+use Rattle.machine.proofs.Codes.{chosen-missing, chosen-present}
 use Rattle.machine.specs.Walks.{outsideOf}
 use Rattle.machine.proofs.Records.{variable-outer, variable-outside}
-use Rattle.steps.specs.Stepping.{outlineOf, Outward, VariableThere, FieldCount, PassedOver}
+use Rattle.steps.specs.Stepping.{outlineOf, Outward, VariableThere, FieldCount, PassedOver, OperandIn, Found}
+use Rattle.steps.specs.declared.Alternative.the-variants as Alternative
 
--- The place behind an expression, by the answer to passing over it.
-module _ (file types functions : List ℕ) (i : ℕ) {step : Step} (told : step ≡ stepOf (skippedAt file types functions nestingLimit file i)) where
-  answer-is : (x : Expr) → Code file (outlineOf file types functions) i x → step ≡ Step.Next (i + length (encode x))
-  answer-is x code = told ∙ ap stepOf (code-behind file (outlineOf file types functions) i x code)
+-- What the table of ends gives: the place behind an expression, an operand, and an alternative, missing or with its expression.
+module _ (file types functions ends : List ℕ) (filled : Ends file types functions ends) where
+  pub entry-behind : (i : ℕ) {next : ℕ} → next ≡ getD ends i 0 → PassedOver file types functions i next
+  entry-behind i is x code = rw is (filled i x code)
 
-  pub behind-found : {next : ℕ} → step ≡ Step.Next next → PassedOver file types functions i next
-  behind-found {next} is x code =
-      let z : i + length (encode x) ≡ next = cc (answer-is x code) in
-      rw z at (code-behind file (outlineOf file types functions) i x code)
+  pub operand-there : (i n : ℕ) {place : ℕ} → place ≡ passedOperands ends n i → OperandIn file types functions i n place
+  operand-there i n is x there = rw is (operand-found file types functions ends filled i n x there)
 
-  -- an expression is not refused
-  pub behind-refused : {why : Refusal} {A : Type 0} → step ≡ Step.Refused why → (x : Expr) → Code file (outlineOf file types functions) i x → A
-  behind-refused is x code = absurd (clash (cc (answer-is x code)))
+  module _ (i c : ℕ) {place : ℕ} (is : place ≡ passedAlternatives file ends c i) where
+    pub found-absent : getD file place 0 ≡ 0 → Found file types functions i c Alternative.Absent
+    found-absent none new fs s there =
+        chosen-missing file (outlineOf file types functions) new fs place 0 s (rw is (alternative-found file types functions ends filled new fs i c s there)) refl none
+
+    pub found-present : (getD file place 0 ≡ 0 → ⊥) → Found file types functions i c (Alternative.Present (place + 1))
+    found-present other new fs s there =
+        chosen-present file (outlineOf file types functions) new fs place 0 s (rw is (alternative-found file types functions ends filled new fs i c s there)) refl other
 
 -- The fields of a constructor are as many as a byte says.
 module _ (file : List ℕ) (bytes : (i : ℕ) → getD file i 0 ≤ 255) where

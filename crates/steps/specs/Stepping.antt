@@ -157,16 +157,6 @@ module _ (file types functions : List ℕ) where
   abbrev pub OperandIn : ℕ → ℕ → ℕ → Type 0
   OperandIn i n place = (x : Expr) → OperandAt file (outlineOf file types functions) i n x → Code file (outlineOf file types functions) place x
 
-  -- an alternative is there for constructor c, of alternatives that begin at i, or its absence
-  abbrev pub AlternativeThere : ℕ → ℕ → Type 0
-  AlternativeThere i c = (new : Env) × (fs : List Frame) × (s : State) × ChosenAt file (outlineOf file types functions) new fs i c s
-
-  -- where alternatives begin at i, those after the first begin at next
-  abbrev pub PassedAlternative : ℕ → ℕ → Type 0
-  PassedAlternative i next =
-      (new : Env) (fs : List Frame) (c : ℕ) (s : State) → ChosenAt file (outlineOf file types functions) new fs i c s → 0 < c
-      → ChosenAt file (outlineOf file types functions) new fs next (c - 1) s
-
   -- what the alternative found says of the state that the case goes on to
   abbrev pub AlternativeMeans : Env → List Frame → State → Alternative → Type 0
   AlternativeMeans new fs s Alternative.Absent = s ≡ Eval.missing

@@ -7,16 +7,16 @@ ghost use lib.ListN.{getD, length};
 ghost use Rattle.machine.specs.Cells.{cellWord};
 ghost use Rattle.machine.specs.Records.{recordWord, expressionAt, partIn};
 ghost use Rattle.machine.specs.Walks.{outsideOf};
-ghost use Rattle.steps.specs.Stepping.{controlIn, Space, Standing, Ready, Wrote, Leads, Stepped, VariableThere, Group, FieldCount, PassedOver, OperandIn, AlternativeThere, PassedAlternative, Found, Chose};
+ghost use Rattle.steps.specs.Stepping.{controlIn, Space, Standing, Ready, Wrote, Leads, Stepped, VariableThere, Group, FieldCount, Found, Chose};
+ghost use Rattle.skipping.specs.Ends.{Ends};
 use lookups::Fields;
 use lookups::constructors_of;
 use lookups::fields_of;
 use lookups::head_of;
-use records::Step;
+use lookups::place_or_zero;
 use records::byte_or_zero;
-use skipping::skip_expression;
-
-const NESTING_LIMIT: usize = 32;
+use skipping::pass_alternatives;
+use skipping::pass_operands;
 
 // The registers: what is being evaluated, the record of the innermost waiting case or 0, and how many records there are. Kind 2 is the expression
 // at a place of the file in an environment's record, 1 the part of the input in the cell `place`, and 0 nothing, an alternative being missing. (Numbers and no
@@ -91,68 +91,12 @@ pub fn put_record(work: &mut [u32], base: usize, top: usize, a: usize, b: usize,
     work[at + 3] = narrow(d);
 }
 
-// The place behind an expression.
-fn behind<'a>(file: &'a [u8], types: &'a [u16], functions: &'a [u16], at: usize) -> usize
-    ensures { λ r. ⌜ PassedOver (now (file .entry)) (now (types .entry)) (now (functions .entry)) at r ⌝ }
-{
-    match skip_expression(file, types, functions, at, NESTING_LIMIT) {
-        Step::Next(next) => next,
-        Step::Refused(_) => at,
-    }
-}
-
-// The place of operand n of those that begin at a place.
-fn operand_at<'a>(
-    file: &'a [u8],
-    types: &'a [u16],
-    functions: &'a [u16],
-    at: usize,
-    n: usize,
-) -> usize
-    ensures { λ r. ⌜ OperandIn (now (file .entry)) (now (types .entry)) (now (functions .entry)) at n r ⌝ }
-{
-    let mut place = at;
-    let mut more = n;
-    while 0 < more {
-        place = behind(file, types, functions, place);
-        more -= 1;
-    }
-    place
-}
-
-// The place behind one alternative.
-fn behind_alternative<'a>(
-    file: &'a [u8],
-    types: &'a [u16],
-    functions: &'a [u16],
-    at: usize,
-) -> usize
-    requires { ⌜ at ≤ 1000000 ⌝ }
-    ensures { λ r. ⌜ PassedAlternative (now (file .entry)) (now (types .entry)) (now (functions .entry)) at r ⌝ }
-{
-    if byte_or_zero(file, at) == 0 {
-        return at + 1;
-    }
-    behind(file, types, functions, at + 1)
-}
-
 // The alternative for constructor c of those that begin at a place.
-fn alternative_at<'a>(
-    file: &'a [u8],
-    types: &'a [u16],
-    functions: &'a [u16],
-    at: usize,
-    c: usize,
-) -> Alternative
-    requires { ⌜ AlternativeThere (now file) (now types) (now functions) at c × (length (now file) ≤ 16384) ⌝ }
-    ensures { λ r. ⌜ Found (now (file .entry)) (now (types .entry)) (now (functions .entry)) at c r ⌝ }
+fn alternative_at<'a>(file: &'a [u8], ends: &'a [u16], at: usize, c: usize) -> Alternative
+    requires { ⌜ (at < 4294967296) × (c < 4294967296) ⌝ }
+    ensures { λ r. ⌜ ((types functions : List ℕ) → Ends (now (file .entry)) types functions (now (ends .entry)) → Found (now (file .entry)) types functions at c r) ⌝ }
 {
-    let mut place = at;
-    let mut more = c;
-    while 0 < more {
-        place = behind_alternative(file, types, functions, place);
-        more -= 1;
-    }
+    let place = pass_alternatives(file, ends, at, c);
     if byte_or_zero(file, place) == 0 {
         Alternative::Absent
     } else {
@@ -183,16 +127,15 @@ fn group_of(work: &[u32], base: usize, env: usize, n: usize) -> usize
 // A variable is followed to what it stands for.
 fn step_variable<'a>(
     file: &'a [u8],
-    types: &'a [u16],
-    functions: &'a [u16],
+    ends: &'a [u16],
     work: &'a [u32],
     base: usize,
     at: usize,
     env: usize,
     r: Registers,
 ) -> Registers
-    requires { ⌜ Standing (now file) (now types) (now functions) (now work) base r × Ready (now file) (now work) base r 0 at env ⌝ }
-    ensures { λ x. ⌜ Leads (now (file .entry)) (now (types .entry)) (now (functions .entry)) (now (work .entry)) (now (work .entry)) base r x ⌝ }
+    requires { ⌜ ((types functions : List ℕ) × Standing (now file) types functions (now work) base r) × Ready (now file) (now work) base r 0 at env ⌝ }
+    ensures { λ x. ⌜ ((types functions : List ℕ) → Ends (now (file .entry)) types functions (now (ends .entry)) → Leads (now (file .entry)) types functions (now (work .entry)) (now (work .entry)) base r x) ⌝ }
 {
     let n = byte_or_zero(file, at + 1);
     let group = group_of(work, base, env, n);
@@ -208,7 +151,7 @@ fn step_variable<'a>(
             records: r.records,
         };
     }
-    let place = operand_at(file, types, functions, first, slot);
+    let place = pass_operands(ends, first, slot);
     Registers {
         kind: 2,
         place,
@@ -246,8 +189,7 @@ fn step_call<'a>(
 // The alternative for constructor c is chosen for the innermost waiting case; its k fields begin at `first` and stand in `inner`.
 fn choose<'a>(
     file: &'a [u8],
-    types: &'a [u16],
-    functions: &'a [u16],
+    ends: &'a [u16],
     work: &mut [u32],
     base: usize,
     r: Registers,
@@ -257,9 +199,8 @@ fn choose<'a>(
     inner: usize,
 ) -> Registers
     requires { ⌜ Space (now work) base r ⌝ }
-    requires { ⌜ AlternativeThere (now file) (now types) (now functions) (recordWord (now work) base (r .frame) 0) c × (length (now file) ≤ 16384) ⌝ }
-    requires { ⌜ (recordWord (now work) base (r .frame) 2 < r .records) × (k ≤ 255) × (first < 4294967296) × (inner < 4294967296) ⌝ }
-    ensures { λ x. ⌜ Chose (now (file .entry)) (now (types .entry)) (now (functions .entry)) (now (work .entry)) (now (work .exit)) base r c k first inner x ⌝ }
+    requires { ⌜ (c < 4294967296) × (recordWord (now work) base (r .frame) 2 < r .records) × (k ≤ 255) × (first < 4294967296) × (inner < 4294967296) ⌝ }
+    ensures { λ x. ⌜ ((types functions : List ℕ) → Ends (now (file .entry)) types functions (now (ends .entry)) → Chose (now (file .entry)) types functions (now (work .entry)) (now (work .exit)) base r c k first inner x) ⌝ }
 {
     let frame = r.frame;
     let top = r.records;
@@ -267,7 +208,7 @@ fn choose<'a>(
     let env = record_word(work, base, frame, 2);
     let next = record_word(work, base, frame, 3);
     let seen = record_word(work, base, env, 1);
-    let Alternative::Present(place) = alternative_at(file, types, functions, alternatives, c) else {
+    let Alternative::Present(place) = alternative_at(file, ends, alternatives, c) else {
         return Registers {
             kind: 0,
             place: 0,
@@ -300,15 +241,15 @@ pub fn field_count<'a>(file: &'a [u8], types: &'a [u16], t: usize, c: usize) -> 
 fn step_construct<'a>(
     file: &'a [u8],
     types: &'a [u16],
-    functions: &'a [u16],
+    ends: &'a [u16],
     work: &mut [u32],
     base: usize,
     at: usize,
     env: usize,
     r: Registers,
 ) -> Next
-    requires { ⌜ Standing (now file) (now types) (now functions) (now work) base r × Ready (now file) (now work) base r 2 at env ⌝ }
-    ensures { λ x. ⌜ ((label : ℕ) → Stepped (now (file .entry)) (now (types .entry)) (now (functions .entry)) (now (work .entry)) (now (work .exit)) base label r x) ⌝ }
+    requires { ⌜ ((functions : List ℕ) × Standing (now file) (now types) functions (now work) base r) × Ready (now file) (now work) base r 2 at env ⌝ }
+    ensures { λ x. ⌜ ((functions : List ℕ) (label : ℕ) → Ends (now (file .entry)) (now (types .entry)) functions (now (ends .entry)) → Stepped (now (file .entry)) (now (types .entry)) functions (now (work .entry)) (now (work .exit)) base label r x) ⌝ }
 {
     let frame = r.frame;
     if frame == 0 {
@@ -317,25 +258,25 @@ fn step_construct<'a>(
     let t = byte_or_zero(file, at + 1);
     let c = byte_or_zero(file, at + 2);
     let k = field_count(file, types, t, c);
-    Next::Goes(choose(file, types, functions, work, base, r, c, k, at + 3, env + 1))
+    Next::Goes(choose(file, ends, work, base, r, c, k, at + 3, env + 1))
 }
 
 // A case turns to its scrutinee and waits.
 fn step_case<'a>(
     file: &'a [u8],
     types: &'a [u16],
-    functions: &'a [u16],
+    ends: &'a [u16],
     work: &mut [u32],
     base: usize,
     at: usize,
     env: usize,
     r: Registers,
 ) -> Registers
-    requires { ⌜ Standing (now file) (now types) (now functions) (now work) base r × Ready (now file) (now work) base r 3 at env ⌝ }
-    ensures { λ x. ⌜ Leads (now (file .entry)) (now (types .entry)) (now (functions .entry)) (now (work .entry)) (now (work .exit)) base r x ⌝ }
+    requires { ⌜ Ready (now file) (now work) base r 3 at env ⌝ }
+    ensures { λ x. ⌜ ((functions : List ℕ) → Ends (now (file .entry)) (now (types .entry)) functions (now (ends .entry)) → Leads (now (file .entry)) (now (types .entry)) functions (now (work .entry)) (now (work .exit)) base r x) ⌝ }
 {
     let top = r.records;
-    let alternatives = behind(file, types, functions, at + 2);
+    let alternatives = place_or_zero(ends, at + 2);
     let all = constructors_of(file, types, byte_or_zero(file, at + 1));
     put_record(work, base, top, alternatives, all.count, env, r.frame);
     Registers {
@@ -350,8 +291,7 @@ fn step_case<'a>(
 // A let is opened: its body sees one more variable.
 fn step_let<'a>(
     file: &'a [u8],
-    types: &'a [u16],
-    functions: &'a [u16],
+    ends: &'a [u16],
     work: &mut [u32],
     base: usize,
     at: usize,
@@ -359,10 +299,10 @@ fn step_let<'a>(
     r: Registers,
 ) -> Registers
     requires { ⌜ Ready (now file) (now work) base r 4 at env ⌝ }
-    ensures { λ x. ⌜ Leads (now (file .entry)) (now (types .entry)) (now (functions .entry)) (now (work .entry)) (now (work .exit)) base r x ⌝ }
+    ensures { λ x. ⌜ ((types functions : List ℕ) → Ends (now (file .entry)) types functions (now (ends .entry)) → Leads (now (file .entry)) types functions (now (work .entry)) (now (work .exit)) base r x) ⌝ }
 {
     let top = r.records;
-    let body = behind(file, types, functions, at + 2);
+    let body = place_or_zero(ends, at + 2);
     let seen = record_word(work, base, env, 1);
     put_record(work, base, top, env, seen + 1, at + 2, env + 1);
     Registers {
@@ -375,17 +315,17 @@ fn step_let<'a>(
 }
 
 // A part of the input is the value that a waiting case looks at, or the end; the case waits where the part is open.
-fn step_part<'a>(
+pub fn step_part<'a>(
     file: &'a [u8],
     types: &'a [u16],
-    functions: &'a [u16],
+    ends: &'a [u16],
     work: &mut [u32],
     base: usize,
     cell: usize,
     r: Registers,
 ) -> Next
-    requires { ⌜ Standing (now file) (now types) (now functions) (now work) base r × (controlIn r ≡ partIn cell) ⌝ }
-    ensures { λ x. ⌜ ((label : ℕ) → Stepped (now (file .entry)) (now (types .entry)) (now (functions .entry)) (now (work .entry)) (now (work .exit)) base label r x) ⌝ }
+    requires { ⌜ ((functions : List ℕ) × Standing (now file) (now types) functions (now work) base r) × (controlIn r ≡ partIn cell) ⌝ }
+    ensures { λ x. ⌜ ((functions : List ℕ) (label : ℕ) → Ends (now (file .entry)) (now (types .entry)) functions (now (ends .entry)) → Stepped (now (file .entry)) (now (types .entry)) functions (now (work .entry)) (now (work .exit)) base label r x) ⌝ }
 {
     let frame = r.frame;
     if frame == 0 {
@@ -398,7 +338,7 @@ fn step_part<'a>(
     let first = cell_word(work, cell, 1);
     let t = cell_word(work, cell, 2);
     let k = field_count(file, types, t, head - 1);
-    Next::Goes(choose(file, types, functions, work, base, r, head - 1, k, first, 0))
+    Next::Goes(choose(file, ends, work, base, r, head - 1, k, first, 0))
 }
 
 // A target of another label is passed to its inner expression; the sought one is demanded.
@@ -423,6 +363,7 @@ fn step_expression<'a>(
     file: &'a [u8],
     types: &'a [u16],
     functions: &'a [u16],
+    ends: &'a [u16],
     label: usize,
     work: &mut [u32],
     base: usize,
@@ -430,16 +371,16 @@ fn step_expression<'a>(
     env: usize,
     r: Registers,
 ) -> Next
-    requires { ⌜ Standing (now file) (now types) (now functions) (now work) base r × (controlIn r ≡ expressionAt at env) ⌝ }
+    requires { ⌜ Ends (now file) (now types) (now functions) (now ends) × Standing (now file) (now types) (now functions) (now work) base r × (controlIn r ≡ expressionAt at env) ⌝ }
     ensures { λ x. ⌜ Stepped (now (file .entry)) (now (types .entry)) (now (functions .entry)) (now (work .entry)) (now (work .exit)) base label r x ⌝ }
 {
     let code = byte_or_zero(file, at);
     match code {
-        0 => Next::Goes(step_variable(file, types, functions, work, base, at, env, r)),
+        0 => Next::Goes(step_variable(file, ends, work, base, at, env, r)),
         1 => Next::Goes(step_call(file, functions, work, base, at, env, r)),
-        2 => step_construct(file, types, functions, work, base, at, env, r),
-        3 => Next::Goes(step_case(file, types, functions, work, base, at, env, r)),
-        4 => Next::Goes(step_let(file, types, functions, work, base, at, env, r)),
+        2 => step_construct(file, types, ends, work, base, at, env, r),
+        3 => Next::Goes(step_case(file, types, ends, work, base, at, env, r)),
+        4 => Next::Goes(step_let(file, ends, work, base, at, env, r)),
         _ => step_target(file, label, at, env, r),
     }
 }
@@ -449,22 +390,24 @@ pub fn step<'a>(
     file: &'a [u8],
     types: &'a [u16],
     functions: &'a [u16],
+    ends: &'a [u16],
     label: usize,
     work: &mut [u32],
     base: usize,
     r: Registers,
 ) -> Next
-    requires { ⌜ Standing (now file) (now types) (now functions) (now work) base r ⌝ }
+    requires { ⌜ Ends (now file) (now types) (now functions) (now ends) × Standing (now file) (now types) (now functions) (now work) base r ⌝ }
     ensures { λ x. ⌜ Stepped (now (file .entry)) (now (types .entry)) (now (functions .entry)) (now (work .entry)) (now (work .exit)) base label r x ⌝ }
 {
     let kind = r.kind;
     match kind {
         0 => Next::Stops,
-        1 => step_part(file, types, functions, work, base, r.place, r),
+        1 => step_part(file, types, ends, work, base, r.place, r),
         _ => step_expression(
             file,
             types,
             functions,
+            ends,
             label,
             work,
             base,
