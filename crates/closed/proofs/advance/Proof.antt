@@ -7,10 +7,10 @@ use Rattle.closed.proofs.advance.Statement.{statement}
 use Rattle.closed.proofs.advance.Tie as tie
 
 bind-asked-requires : tie.Need-bind-asked-requires
-bind-asked-requires c κs = asks (c .before .before .before .before .before .before .before .before .before .before .before .before .before .pre .5) (c .before .before .before .before .before .before .step .ensures) (c .before .before .first2 .given .1)
+bind-asked-requires c κs = asks (c .before .before .before .before .before .before .before .before .before .before .before .before .before .before .pre .0 .5) (c .before .before .before .before .before .before .step .ensures) (c .before .before .first2 .given .1)
 
 step-requires-2 : tie.Need-step-requires-2
-step-requires-2 c κs = standing (c .before .before .before .before .before .before .before .before .before .before .before .before .before .before .before .before .before .pre .5) (c .before .before .before .before .before .before .before .before .before .before .step .ensures) (c .before .before .before .before .before .before .first2 .given .1) (c .before .before .before .bind-asked .ensures)
+step-requires-2 c κs = (c .before .before .before .before .before .before .before .before .before .before .before .before .before .before .before .before .before .before .pre .1, standing (c .before .before .before .before .before .before .before .before .before .before .before .before .before .before .before .before .before .before .pre .0 .5) (c .before .before .before .before .before .before .before .before .before .before .step .ensures) (c .before .before .before .before .before .before .first2 .given .1) (c .before .before .before .bind-asked .ensures))
 
 returns : tie.Need-returns
 returns c = λ limit done p j s h. went h (c .before .before .before .before .step .ensures) Next.Demands (c .enum-told .given .1) (λ x is. absurd (clash (cc)))
