@@ -365,7 +365,7 @@ fn step_let<'a>(
 }
 
 // A part of the input is the value that a waiting case looks at, or the end; the case waits where the part is open.
-fn step_part<'a>(
+pub fn step_part<'a>(
     file: &'a [u8],
     types: &'a [u16],
     functions: &'a [u16],
