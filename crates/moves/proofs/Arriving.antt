@@ -23,7 +23,6 @@ use Rattle.steps.specs.declared.Next.the-variants as Next
 use Rattle.steps.specs.Stepping.{Standing, StepMeans, Stepped}
 use Rattle.choices.specs.Choices.{Setting, Given, Path, ChoicesAt, Pushes}
 use Rattle.choices.specs.Weights.{power, weight}
-use Rattle.choices.specs.Returning.{setting}
 use Rattle.choices.proofs.Keeping.{choices-kept, choices-more}
 use Rattle.choices.proofs.Pushing.{newChoice, choices-pushed}
 use Rattle.choices.proofs.Taking.{step-kept, path-stays, path-goes}
@@ -33,7 +32,7 @@ use Rattle.moves.specs.declared.Walk.{Walk}
 use Rattle.moves.specs.declared.Listing.{Listing}
 use Rattle.moves.specs.declared.Listing.the-variants as Listing
 use Rattle.moves.specs.declared.Moved.{Moved}
-use Rattle.moves.specs.Moving.{noRegisters, UnderWay, EntryIn, Lists, Makes}
+use Rattle.moves.specs.Moving.{endedWalk, UnderWay, EntryIn, Lists, Makes}
 
 -- The model's arrival, by what comes next.
 module _ (p : Program) (table : List ℕ) (left n : ℕ) (e : Parts) (s : State) (cs : List Choice) (es : List Entry) where
@@ -77,8 +76,7 @@ module _ (p : Program) (table : List ℕ) (left n : ℕ) (e : Parts) (s : State)
 
 -- what `over` answers
 abbrev pub ended : ℕ → ℕ → ℕ → Listing → Moved
-ended cells done height listing =
-    record { walk = record { paths = 0; registers = noRegisters; cells = cells; done = done; height = height }; listing = listing }
+ended cells done height listing = record { walk = endedWalk cells done height; listing = listing }
 
 -- what stands for a path under way is what a step asks
 pub step-standing :

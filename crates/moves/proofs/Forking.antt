@@ -1,17 +1,16 @@
 -- A choice point takes its next constructor: the cell is bound, and one step leads behind the case, where the model's path arrives.
 -- Rests on specs/Moving, Arriving, and choices' Keeping, Taking and Weights.
-use Prim.Native.Nat.{ℕ, zero, suc, _+_, _*_, _-_, _≤_, _<_}
+use Prim.Native.Nat.{ℕ, suc, _+_, _*_, _-_, _≤_, _<_}
 use mathlib.Core.Path.{_≡_, refl, sym, _∙_, ap, subst}
-use mathlib.Core.List.{List, [], _∷_, _++_}
-use mathlib.Core.Option.{some}
+use mathlib.Core.List.{List, _∷_}
 use native.Mathlib.Omega.{arith}
-use lib.ListN.{length, getD}
+use lib.ListN.{length}
 use Rattle.reach.specs.Syntax.{Program, sourceTypes}
 use Rattle.reach.specs.Parts.{Parts, bindAt}
 use Rattle.reach.specs.Types.{sourceSlots, leastDepths}
 use Rattle.reach.specs.Places.{bytesAt}
 use Rattle.reach.specs.Eval as Eval
-use Rattle.reach.specs.Eval.{State, answered}
+use Rattle.reach.specs.Eval.{answered}
 use Rattle.reach.specs.Search.{Entry}
 use Rattle.reach.specs.Moves as Model
 use Rattle.reach.specs.Moves.{Choice, takeFork}
@@ -32,8 +31,7 @@ use Rattle.choices.specs.Returning.{setting}
 use Rattle.choices.proofs.Keeping.{reopened-other, there, cell-below, choices-kept, choices-more}
 use Rattle.choices.proofs.Taking.{path-taken, goes-taken, choices-taken, step-kept, path-goes}
 use Rattle.choices.proofs.Weights.{weight-kept, weight-taken}
-use Rattle.choices.proofs.Returning.{limit-few, stack-small, height-small, long, cells-small}
-use Rattle.moves.specs.declared.Walk.{Walk}
+use Rattle.choices.proofs.Returning.{stack-small, height-small, long, cells-small}
 use Rattle.moves.specs.Moving.{UnderWay, ComesTo, registersAfter, Forking, SomeForking, Takes}
 use Rattle.moves.proofs.Arriving.{step-standing}
 

@@ -1,9 +1,9 @@
 -- One move: the path that the search goes on with, by where it stands: the one under way, or behind its end the one to which it returns, or none;
 -- and the arrival of that path.
 -- Rests on specs/Moving, on Arriving and on choices' Returning and Weights.
-use Prim.Native.Nat.{ℕ, zero, suc, _+_, _*_, _-_, _≤_, _<_}
+use Prim.Native.Nat.{ℕ, zero, suc, _-_, _<_}
 use mathlib.Core.Path.{_≡_, refl, sym, _∙_, ap, subst}
-use mathlib.Core.List.{List, [], _∷_, _++_, append-nil}
+use mathlib.Core.List.{List, [], append-nil}
 use native.Mathlib.Omega.{arith}
 use lib.ListN.{length}
 use Rattle.reach.specs.Syntax.{Program}
@@ -14,16 +14,16 @@ use Rattle.reach.specs.Moves.{Choice, moveFrom, return}
 use Rattle.steps.specs.declared.Registers.{Registers}
 use Rattle.choices.specs.declared.Return.{Return}
 use Rattle.choices.specs.declared.Return.the-variants as Return
-use Rattle.choices.specs.Choices.{Setting, Given, ChoicesAt}
+use Rattle.choices.specs.Choices.{Given, ChoicesAt}
 use Rattle.choices.specs.Weights.{power, weight}
-use Rattle.choices.specs.Returning.{setting, ReturnsTo, ReturnMeans, Returns, SomeChoices}
+use Rattle.choices.specs.Returning.{setting, ReturnMeans, Returns, SomeChoices}
 use Rattle.choices.proofs.Weights.{weight-some}
 use Rattle.moves.specs.declared.Position.{Position}
 use Rattle.moves.specs.declared.Position.the-variants as Position
 use Rattle.moves.specs.declared.Walk.{Walk}
 use Rattle.moves.specs.declared.Listing.the-variants as Listing
 use Rattle.moves.specs.declared.Moved.{Moved}
-use Rattle.moves.specs.Moving.{positionOf, UnderWay, PositionAt, StandsAs, positionWeight, walkWeight, Makes, ComesTo, ResumesAt, SomeUnderWay, Arrives, SomeForking, Takes, ActiveAt, Active, Resumable, Resumes, Standing, Moves}
+use Rattle.moves.specs.Moving.{positionOf, endedWalk, PositionAt, StandsAs, positionWeight, walkWeight, ComesTo, ResumesAt, SomeUnderWay, Arrives, SomeForking, Takes, ActiveAt, Active, Resumable, Resumes, Standing, Moves}
 use Rattle.moves.proofs.Arriving.{ended}
 
 move-over : (p : Program) (table : List ℕ) (cs : List Choice) (es : List Entry) → moveFrom p table Model.over cs es ≡ return p table cs es
@@ -82,7 +82,7 @@ module _ (file types functions least : List ℕ) (w : List ℕ) (base stack : �
           (same-length, subst (ReturnMeans (setting file types functions least p limit base stack) w w₁ (x .height) cs) is means)
 
       -- no choice point has a constructor left: the search is over
-      pub back-nowhere : found ≡ Return.Nowhere → Active x → Resumes file types functions least w w₁ base stack x (ended (x .cells) (x .done) 0 Listing.Nothing .walk)
+      pub back-nowhere : found ≡ Return.Nowhere → Active x → Resumes file types functions least w w₁ base stack x (endedWalk (x .cells) (x .done) 0)
       back-nowhere is active p limit at cs given stands =
           let (over, there) = behind p limit at cs stands in
           let (same-length, (returns, (some, records, none))) = back-means Return.Nowhere is p limit at cs given stands in
@@ -167,7 +167,7 @@ module _
         (sym position-is ∙ is) (resumes p limit at cs given stands)
 
     -- there is none
-    pub none-moves : position ≡ Position.Over → Moves file types functions least label w w₁ limit base stack x (record { walk = x₁; listing = Listing.Nothing })
+    pub none-moves : position ≡ Position.Over → Moves file types functions least label w w₁ limit base stack x (ended (x₁ .cells) (x₁ .done) (x₁ .height) Listing.Nothing)
     none-moves is p at cs given sought stands = resumed Position.Over is p at cs given stands
 
     module _ {r : Registers} (is : position ≡ Position.On r) where

@@ -31,9 +31,10 @@ abbrev pub positionOf : ℕ → Registers → Position
 positionOf zero r = Position.Over
 positionOf (suc n) r = Position.On r
 
--- the registers behind the end of a path, which say nothing
-abbrev pub noRegisters : Registers
-noRegisters = record { control = Control.Missing; frame = 0; records = 0 }
+-- the walk behind the end of a path, whose registers say nothing
+abbrev pub endedWalk : ℕ → ℕ → ℕ → Walk
+endedWalk cells done height =
+    record { paths = 0; registers = record { control = Control.Missing; frame = 0; records = 0 }; cells = cells; done = done; height = height }
 
 -- A path under way: the steps done are no more than the limit, and there are no more choice points than steps.
 pub record UnderWay (g : Setting) (w : List ℕ) (cells done height : ℕ) (r : Registers) (e : Parts) (s : State) (cs : List Choice) : Type 0 where
@@ -98,7 +99,8 @@ pub record ComesTo (g : Setting) (w w′ : List ℕ) (bound : ℕ) (x : Walk) (m
 -- or it is behind the end of the last one, and that is the model's move
 abbrev pub ResumesAt : Setting → List ℕ → List ℕ → ℕ → Walk → (List Entry → Model.Walk) → Position → Type 0
 ResumesAt g w w′ bound x model (Position.On r) = ComesTo g w w′ bound x model r
-ResumesAt g w w′ bound x model Position.Over = Makes g w w′ bound (record { walk = x; listing = Listing.Nothing }) model
+ResumesAt g w w′ bound x model Position.Over =
+    Makes g w w′ bound (record { walk = endedWalk (x .cells) (x .done) (x .height); listing = Listing.Nothing }) model
 
 -- some path is under way
 abbrev pub SomeUnderWay : List ℕ → List ℕ → List ℕ → ℕ → List ℕ → ℕ → ℕ → ℕ → ℕ → ℕ → ℕ → Registers → Type 0

@@ -2,7 +2,7 @@
 // a constructor left, taking it. Rests on crates cells, steps and choices.
 ghost use mathlib.Core.Path.{_≡_};
 ghost use Prim.Native.Nat.{_≤_};
-ghost use Rattle.moves.specs.Moving.{positionOf, noRegisters, registersAfter, SomeUnderWay, Arrives, SomeForking, Takes, Active, Resumable, Resumes, Standing, Moves};
+ghost use Rattle.moves.specs.Moving.{positionOf, endedWalk, registersAfter, SomeUnderWay, Arrives, SomeForking, Takes, Active, Resumable, Resumes, Standing, Moves};
 use cells::bind_cell;
 use choices::Return;
 use choices::choice_word;
@@ -56,7 +56,7 @@ fn position_of(paths: usize, registers: Registers) -> Position
 
 // The walk behind the end of a path, whose registers say nothing.
 fn ended(cells: usize, done: usize, height: usize) -> Walk
-    ensures { λ x. ⌜ x ≡ record { paths = 0; registers = noRegisters; cells = cells; done = done; height = height } ⌝ }
+    ensures { λ x. ⌜ x ≡ endedWalk cells done height ⌝ }
 {
     Walk {
         paths: 0,
@@ -73,7 +73,7 @@ fn ended(cells: usize, done: usize, height: usize) -> Walk
 
 // Behind the end of a path, with what the move lists.
 fn over(cells: usize, done: usize, height: usize, listing: Listing) -> Moved
-    ensures { λ m. ⌜ m ≡ record { walk = record { paths = 0; registers = noRegisters; cells = cells; done = done; height = height }; listing = listing } ⌝ }
+    ensures { λ m. ⌜ m ≡ record { walk = endedWalk cells done height; listing = listing } ⌝ }
 {
     Moved {
         walk: ended(cells, done, height),
@@ -161,7 +161,7 @@ fn take_fork<'a>(
     let frame = choice_word(work, stack, h, 2);
     let records = choice_word(work, stack, h, 3);
     let cells = choice_word(work, stack, h, 4);
-    let done = choice_word(work, stack, h, 5);
+    let steps = choice_word(work, stack, h, 5);
     bind_cell(file, work, x, c, fields, k, cells);
     let from = Registers {
         control: Control::Part(x),
@@ -174,7 +174,7 @@ fn take_fork<'a>(
         paths: 1,
         registers: to,
         cells: cells + k,
-        done: done + 1,
+        done: steps + 1,
         height: h + 1,
     }
 }
@@ -241,10 +241,7 @@ pub fn make_move<'a>(
     let registers = from.registers;
     let position = position_of(from.paths, registers);
     let Position::On(r) = position else {
-        return Moved {
-            walk: from,
-            listing: Listing::Nothing,
-        };
+        return over(from.cells, from.done, from.height, Listing::Nothing);
     };
     arrive(
         file,

@@ -1,6 +1,5 @@
 -- `moves::go_back` meets its contract, by where the return leads. Rests on Returning.
 use Rattle.moves.proofs.Returning.{back-some, back-nowhere, back-forking, back-taken}
-use native.Mathlib.Omega.{arith}
 use borrow.Author.Needs.{needs}
 use Rattle.moves.proofs.go_back.Statement.{statement}
 use Rattle.moves.proofs.go_back.Tie as tie

@@ -1,6 +1,5 @@
 -- `moves::make_move` meets its contract, by whether there is a path to go on with. Rests on Returning.
 use Rattle.moves.proofs.Returning.{none-moves, on-some, on-moves}
-use native.Mathlib.Omega.{arith}
 use borrow.Author.Needs.{needs}
 use Rattle.moves.proofs.make_move.Statement.{statement}
 use Rattle.moves.proofs.make_move.Tie as tie
@@ -20,13 +19,16 @@ enum-known-position c = search needs
 enum-told : tie.Need-enum-told
 enum-told c = search needs
 
+over-requires : tie.Need-over-requires
+over-requires c κs = search needs
+
 same-length : tie.Need-same-length
 same-length c = search needs
 
 returns : tie.Need-returns
 returns c =
-    let a = c .before .before .before .before .before .before .before .before .before .before .before .before .args in
-    none-moves (a .file .now) (a .types .now) (a .functions .now) (a .least .of) (a .label) (a .work .now) _ (a .limit) (a .base) (a .stack) (a .walk) (c .before .before .before .before .before .before .resume .result) (c .before .before .before .before .before .before .resume .ensures) (c .before .before .position-of .ensures) (c .enum-told .given .1)
+    let a = c .before .before .before .before .before .before .before .before .before .before .before .before .before .args in
+    rw (c .over .ensures) (none-moves (a .file .now) (a .types .now) (a .functions .now) (a .least .of) (a .label) (a .work .now) _ (a .limit) (a .base) (a .stack) (a .walk) (c .before .before .before .before .before .before .before .resume .result) (c .before .before .before .before .before .before .before .resume .ensures) (c .before .before .before .position-of .ensures) (c .before .enum-told .given .1))
 
 arrive-requires : tie.Need-arrive-requires
 arrive-requires c κs =
@@ -50,6 +52,7 @@ make-move-spec =
     position-of-requires
     enum-known-position
     enum-told
+    over-requires
     same-length
     returns
     arrive-requires

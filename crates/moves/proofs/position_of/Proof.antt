@@ -1,7 +1,6 @@
 -- `moves::position_of` meets its contract, by whether there is a path. Rests on Returning.
 use mathlib.Core.Path.{sym}
 use Rattle.moves.proofs.Returning.{on-path}
-use native.Mathlib.Omega.{arith}
 use borrow.Author.Needs.{needs}
 use Rattle.moves.proofs.position_of.Statement.{statement}
 use Rattle.moves.proofs.position_of.Tie as tie

@@ -1,6 +1,5 @@
 -- `moves::resume` meets its contract, by whether a path is under way. Rests on Returning.
 use Rattle.moves.proofs.Returning.{on-resumes}
-use native.Mathlib.Omega.{arith}
 use borrow.Author.Needs.{needs}
 use Rattle.moves.proofs.resume.Statement.{statement}
 use Rattle.moves.proofs.resume.Tie as tie

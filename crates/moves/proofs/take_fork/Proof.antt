@@ -1,5 +1,4 @@
 -- `moves::take_fork` meets its contract: the cell is bound, and a step leads behind the case. Rests on Forking.
-use Prim.Native.Nat.{_≤_}
 use mathlib.Core.Path.{refl}
 use Rattle.moves.proofs.Forking.{height-few, stack-few, bindable, fork-standing, fork-takes}
 use native.Mathlib.Omega.{arith}

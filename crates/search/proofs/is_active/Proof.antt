@@ -1,7 +1,6 @@
 -- `search::is_active` meets its contract, by where the search stands. Rests on Exploring.
 use Rattle.search.proofs.Exploring.{active-on, active-over}
 use native.Mathlib.Omega.{arith}
-use borrow.Author.Needs.{needs}
 use Rattle.search.proofs.is_active.Statement.{statement}
 use Rattle.search.proofs.is_active.Tie as tie
 
