@@ -23,18 +23,16 @@ use Rattle.steps.specs.declared.Next.the-variants as Next
 use Rattle.steps.specs.Stepping.{Standing, StepMeans, Stepped}
 use Rattle.choices.specs.Choices.{Setting, Given, Path, ChoicesAt, Pushes}
 use Rattle.choices.specs.Weights.{power, weight}
-use Rattle.choices.specs.Returning.{setting}
 use Rattle.choices.proofs.Keeping.{choices-kept, choices-more}
 use Rattle.choices.proofs.Pushing.{newChoice, choices-pushed}
 use Rattle.choices.proofs.Taking.{step-kept, path-stays, path-goes}
 use Rattle.choices.proofs.Weights.{power-positive, power-more, weight-kept, weight-pushed}
 use Rattle.choices.proofs.Returning.{limit-few}
-use Rattle.moves.specs.declared.Position.the-variants as Position
 use Rattle.moves.specs.declared.Walk.{Walk}
 use Rattle.moves.specs.declared.Listing.{Listing}
 use Rattle.moves.specs.declared.Listing.the-variants as Listing
 use Rattle.moves.specs.declared.Moved.{Moved}
-use Rattle.moves.specs.Moving.{UnderWay, EntryIn, Lists, Makes, SomeUnderWay}
+use Rattle.moves.specs.Moving.{endedWalk, UnderWay, EntryIn, Lists, Makes}
 
 -- The model's arrival, by what comes next.
 module _ (p : Program) (table : List ℕ) (left n : ℕ) (e : Parts) (s : State) (cs : List Choice) (es : List Entry) where
@@ -78,7 +76,7 @@ module _ (p : Program) (table : List ℕ) (left n : ℕ) (e : Parts) (s : State)
 
 -- what `over` answers
 abbrev pub ended : ℕ → ℕ → ℕ → Listing → Moved
-ended cells done height listing = record { walk = record { position = Position.Over; cells = cells; done = done; height = height }; listing = listing }
+ended cells done height listing = record { walk = endedWalk cells done height; listing = listing }
 
 -- what stands for a path under way is what a step asks
 pub step-standing :
@@ -162,7 +160,7 @@ module _
       -- one step more
       pub arrive-goes :
           {to : Registers} → n ≡ Next.Goes to
-          → Makes g w w′ bound (record { walk = record { position = Position.On to; cells = cells; done = done + 1; height = height }; listing = Listing.Nothing }) model
+          → Makes g w w′ bound (record { walk = record { paths = 1; registers = to; cells = cells; done = done + 1; height = height }; listing = Listing.Nothing }) model
       arrive-goes {to} is =
           let (s′, next, follows) = means (Next.Goes to) is in
           let one : done + 1 ≡ suc done = omega arith in

@@ -1,17 +1,16 @@
--- A choice point takes its next constructor: the cell is bound, one step leads behind the case, and the path arrives there.
+-- A choice point takes its next constructor: the cell is bound, and one step leads behind the case, where the model's path arrives.
 -- Rests on specs/Moving, Arriving, and choices' Keeping, Taking and Weights.
-use Prim.Native.Nat.{ℕ, zero, suc, _+_, _*_, _-_, _≤_, _<_}
+use Prim.Native.Nat.{ℕ, suc, _+_, _*_, _-_, _≤_, _<_}
 use mathlib.Core.Path.{_≡_, refl, sym, _∙_, ap, subst}
-use mathlib.Core.List.{List, [], _∷_, _++_}
-use mathlib.Core.Option.{some}
+use mathlib.Core.List.{List, _∷_}
 use native.Mathlib.Omega.{arith}
-use lib.ListN.{length, getD}
+use lib.ListN.{length}
 use Rattle.reach.specs.Syntax.{Program, sourceTypes}
 use Rattle.reach.specs.Parts.{Parts, bindAt}
 use Rattle.reach.specs.Types.{sourceSlots, leastDepths}
 use Rattle.reach.specs.Places.{bytesAt}
 use Rattle.reach.specs.Eval as Eval
-use Rattle.reach.specs.Eval.{State, answered}
+use Rattle.reach.specs.Eval.{answered}
 use Rattle.reach.specs.Search.{Entry}
 use Rattle.reach.specs.Moves as Model
 use Rattle.reach.specs.Moves.{Choice, takeFork}
@@ -27,12 +26,12 @@ use Rattle.steps.specs.declared.Next.the-variants as Next
 use Rattle.steps.specs.Stepping.{Standing, StepMeans, Stepped}
 use Rattle.choices.specs.Choices.{Setting, Given, choiceWord, reopened, waitingAt, Path, ChoicesAt}
 use Rattle.choices.specs.Weights.{power, weight}
+use Rattle.choices.specs.Returning.{setting}
 use Rattle.choices.proofs.Keeping.{reopened-other, there, cell-below, choices-kept, choices-more}
 use Rattle.choices.proofs.Taking.{path-taken, goes-taken, choices-taken, step-kept, path-goes}
 use Rattle.choices.proofs.Weights.{weight-kept, weight-taken}
-use Rattle.choices.proofs.Returning.{limit-few, stack-small, height-small, long, cells-small}
-use Rattle.moves.specs.declared.Moved.{Moved}
-use Rattle.moves.specs.Moving.{UnderWay, Makes, SomeUnderWay, Arrives, registersAfter, Forking, SomeForking, Takes}
+use Rattle.choices.proofs.Returning.{stack-small, height-small, long, cells-small}
+use Rattle.moves.specs.Moving.{UnderWay, ComesTo, registersAfter, Forking, SomeForking, Takes}
 use Rattle.moves.proofs.Arriving.{step-standing}
 
 -- the model's fork, where the choice point's numbers are known
@@ -158,14 +157,11 @@ module _ {g : Setting} (given : Given g) {w : List ℕ} {h n i k : ℕ} (f : For
               choices = choices-more (omega arith) (follows .no-fewer) (choices-kept w₂ choices₁ (step-kept given path₁ in-time₁ (stepped .only-top) (suc h)));
             })
 
-        -- and the path arrives
+        -- where the walk is, the model's fork arrives
         pub taken :
-            {w₃ : List ℕ} {m : Moved}
-            → Makes g w₂ w₃ (power (g .limit - (d + 1)) + weight (g .stack) (g .limit) w₂ (h + 1)) m
-            (Model.arrive (g .program) (leastDepths (g .program .types)) (g .limit - (d + 1)) (d + 1) bound (answered (c .question) n k) (afterwards ∷ f .before))
-            → Makes g w w₃ (weight (g .stack) (g .limit) w (suc h)) m
-            (takeFork (g .program) (leastDepths (g .program .types)) c (record { constructor = n; fields = k }) (f .next-at .rest) (f .before))
-        taken makes =
+            ComesTo g w w₂ (weight (g .stack) (g .limit) w (suc h)) (record { paths = 1; registers = to; cells = choiceWord (g .stack) w h 4 + k; done = d + 1; height = h + 1 })
+            (takeFork (g .program) (leastDepths (g .program .types)) c (record { constructor = n; fields = k }) (f .next-at .rest) (f .before)) to
+        taken =
             let one : suc d ≡ d + 1 = omega arith in
             let high : suc h ≡ h + 1 = omega arith in
             let left : c .left ≡ g .limit - (d + 1) = f .next-at .choice-at .left-is ∙ ap (λ y. g .limit - y) one in
@@ -174,19 +170,18 @@ module _ {g : Setting} (given : Given g) {w : List ℕ} {h n i k : ℕ} (f : For
             let heavy : weight (g .stack) (g .limit) w₂ (h + 1) ≡ weight (g .stack) (g .limit) w₁ (suc h) = ap (weight (g .stack) (g .limit) w₂) (sym high) ∙ kept₂ in
             let same-power : power (g .limit - (d + 1)) ≡ power (g .limit - suc d) = ap (λ y. power (g .limit - y)) (sym one) in
             record {
-              position = makes .position;
-              choices = makes .choices;
-              new = makes .new;
-              model-is = λ es. take-is (g .program) _ c n k (g .limit - (d + 1)) (d + 1) (f .next-at .rest) (f .before) es left done ∙ makes .model-is es;
-              stands = makes .stands;
-              lists = makes .lists;
-              lighter = omega (arith, makes .lighter);
-              same-length = makes .same-length ∙ stepped .only-top .same-length ∙ binds .same-length;
+              input = bound;
+              state = answered (c .question) n k;
+              choices = afterwards ∷ f .before;
+              under = under;
+              model-is = λ es. take-is (g .program) _ c n k (g .limit - (d + 1)) (d + 1) (f .next-at .rest) (f .before) es left done;
+              no-heavier = omega arith;
+              same-length = stepped .only-top .same-length ∙ binds .same-length;
             }
 
 -- What `take_fork` does, by what its callees ensure.
 module _
-    (file types functions : List ℕ) (label : ℕ) (w w₁ : List ℕ) (limit base stack h n i k : ℕ) {x frame records cells done : ℕ} (x-is : x ≡ choiceWord stack w h 0)
+    (file types functions : List ℕ) (w w₁ : List ℕ) (base stack h n i k : ℕ) {x frame records cells done : ℕ} (x-is : x ≡ choiceWord stack w h 0)
     (frame-is : frame ≡ choiceWord stack w h 2) (records-is : records ≡ choiceWord stack w h 3) (cells-is : cells ≡ choiceWord stack w h 4)
     (done-is : done ≡ choiceWord stack w h 5) (binds : Binds w w₁ x n cells k (bytesAt file i k) (cellWord w x 3 - 1))
   where
@@ -196,27 +191,29 @@ module _
     bound-there : Binds w w₁ (choiceWord stack w h 0) n (choiceWord stack w h 4) k (bytesAt file i k) (cellWord w (choiceWord stack w h 0) 3 - 1)
     bound-there = rw (x-is, cells-is) at binds
 
-    pub fork-standing : SomeForking file types functions label w limit base stack h n i k → Standing file types functions w₁ base from
-    fork-standing (least, p, given, sought, f) = rw (x-is, frame-is, records-is) (take-standing given f bound-there)
+    pub fork-standing : SomeForking file types functions w base stack h n i k → Standing file types functions w₁ base from
+    fork-standing (least, p, limit, given, f) = rw (x-is, frame-is, records-is) (take-standing given f bound-there)
 
-    module _ {w₂ : List ℕ} {next : Next} {to : Registers} (stepped : Stepped file types functions w₁ w₂ base label from next) (to-is : to ≡ registersAfter next from) where
-      stepped-there : Stepped file types functions w₁ w₂ base label (waitingAt stack w h) next
-      stepped-there = rw (x-is, frame-is, records-is) at stepped
+    module _
+        {w₂ : List ℕ} {next : Next} {to : Registers} (stepped : (label : ℕ) → Stepped file types functions w₁ w₂ base label from next)
+        (to-is : to ≡ registersAfter next from)
+      where
+        stepped-there : (label : ℕ) → Stepped file types functions w₁ w₂ base label (waitingAt stack w h) next
+        stepped-there label = rw (x-is, frame-is, records-is) at (stepped label)
 
-      to-there : (y : Registers) → next ≡ Next.Goes y → to ≡ y
-      to-there y is = to-is ∙ ap (λ m. registersAfter m from) is
+        to-there : (y : Registers) → next ≡ Next.Goes y → to ≡ y
+        to-there y is = to-is ∙ ap (λ m. registersAfter m from) is
 
-      pub fork-under :
-          SomeForking file types functions label w limit base stack h n i k
-          → SomeUnderWay file types functions label w₂ limit base stack (cells + k) (done + 1) (h + 1) to
-      fork-under (least, p, given, sought, f) =
-          let (y, is) = goes-on given f bound-there sought stepped-there in
-          rw (cells-is, done-is, to-there y is) (least, p, _, _, _, given, sought, under given f bound-there sought stepped-there is)
-
-      pub fork-takes :
-          {w₃ : List ℕ} {m : Moved} → Arrives file types functions label w₂ w₃ limit base stack (cells + k) (done + 1) (h + 1) to m
-          → Takes file types functions label w w₃ limit base stack h n i k m
-      fork-takes arrives least p given sought f =
-          let (y, is) = goes-on given f bound-there sought stepped-there in
-          let there = rw (cells-is, done-is, to-there y is) at arrives in
-          taken given f bound-there sought stepped-there is (there least p _ _ _ given sought (under given f bound-there sought stepped-there is))
+        pub fork-takes :
+            Takes file types functions w w₂ base stack h n i k (record { paths = 1; registers = to; cells = cells + k; done = done + 1; height = h + 1 })
+        fork-takes = (refl, taken-there)
+          where
+            taken-there :
+                (least : List ℕ) (p : Program) (limit : ℕ) → (given : Given (setting file types functions least p limit base stack))
+                → (f : Forking (setting file types functions least p limit base stack) w h n i k)
+                → ComesTo (setting file types functions least p limit base stack) w w₂ (weight stack limit w (suc h))
+                (record { paths = 1; registers = to; cells = cells + k; done = done + 1; height = h + 1 })
+                (takeFork p (leastDepths (p .types)) (f .choice) (record { constructor = n; fields = k }) (f .next-at .rest) (f .before)) to
+            taken-there least p limit given f =
+                let (y, is) = goes-on given f bound-there refl (stepped-there (p .label)) in
+                rw (cells-is, done-is, to-there y is) (taken given f bound-there refl (stepped-there (p .label)) is)

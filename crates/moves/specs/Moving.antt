@@ -1,6 +1,6 @@
 -- Where the search stands between two moves, in the words and in numbers, and what a move promises: it is a move of reach's Moves.
 -- Rests on reach's Moves, on choices' Choices, Weights and Returning, and on the types of src/lib.rt.
-use Prim.Native.Nat.{ℕ, suc, _+_, _-_, _≤_, _<_}
+use Prim.Native.Nat.{ℕ, zero, suc, _+_, _-_, _≤_, _<_}
 use mathlib.Core.Path.{_≡_}
 use mathlib.Core.List.{List, [], _∷_, _++_}
 use lib.ListN.{length}
@@ -12,6 +12,7 @@ use Rattle.reach.specs.Search.{Kind, RE, UN, Entry}
 use Rattle.reach.specs.Moves as Model
 use Rattle.reach.specs.Moves.{Choice, takeFork, moveFrom}
 use Rattle.machine.specs.Cells.{Cells}
+use Rattle.steps.specs.declared.Control.the-variants as Control
 use Rattle.steps.specs.declared.Registers.{Registers}
 use Rattle.steps.specs.declared.Next.{Next}
 use Rattle.steps.specs.declared.Next.the-variants as Next
@@ -24,6 +25,16 @@ use Rattle.moves.specs.declared.Walk.{Walk}
 use Rattle.moves.specs.declared.Listing.{Listing}
 use Rattle.moves.specs.declared.Listing.the-variants as Listing
 use Rattle.moves.specs.declared.Moved.{Moved}
+
+-- where a walk stands: behind the end of a path, or on one
+abbrev pub positionOf : ℕ → Registers → Position
+positionOf zero r = Position.Over
+positionOf (suc n) r = Position.On r
+
+-- the walk behind the end of a path, whose registers say nothing
+abbrev pub endedWalk : ℕ → ℕ → ℕ → Walk
+endedWalk cells done height =
+    record { paths = 0; registers = record { control = Control.Missing; frame = 0; records = 0 }; cells = cells; done = done; height = height }
 
 -- A path under way: the steps done are no more than the limit, and there are no more choice points than steps.
 pub record UnderWay (g : Setting) (w : List ℕ) (cells done height : ℕ) (r : Registers) (e : Parts) (s : State) (cs : List Choice) : Type 0 where
@@ -41,7 +52,7 @@ PositionAt g w cells done height Position.Over (Model.on x) cs = ⊥
 PositionAt g w cells done height Position.Over Model.over cs = (some : ℕ) × (records : ℕ) × ChoicesAt g w height some records cs
 
 abbrev pub StandsAs : Setting → List ℕ → Walk → Model.Position → List Choice → Type 0
-StandsAs g w x position cs = PositionAt g w (x .cells) (x .done) (x .height) (x .position) position cs
+StandsAs g w x position cs = PositionAt g w (x .cells) (x .done) (x .height) (positionOf (x .paths) (x .registers)) position cs
 
 -- the entry of the input that the cells stand for
 abbrev pub EntryIn : Setting → List ℕ → Walk → Kind → List Entry → Type 0
@@ -61,7 +72,7 @@ positionWeight limit done (Position.On r) = power (limit - done)
 positionWeight limit done Position.Over = 0
 
 abbrev pub walkWeight : ℕ → ℕ → List ℕ → Walk → ℕ
-walkWeight stack limit w x = positionWeight limit (x .done) (x .position) + weight stack limit w (x .height)
+walkWeight stack limit w x = positionWeight limit (x .done) (positionOf (x .paths) (x .registers)) + weight stack limit w (x .height)
 
 -- What is done is what the model does, whatever is listed already; it lists these entries more, and is lighter than so much.
 pub record Makes (g : Setting) (w w′ : List ℕ) (bound : ℕ) (m : Moved) (model : List Entry → Model.Walk) : Type 0 where
@@ -73,6 +84,23 @@ pub record Makes (g : Setting) (w w′ : List ℕ) (bound : ℕ) (m : Moved) (mo
   pub lists : Lists g w′ (m .walk) (m .listing) new
   pub lighter : walkWeight (g .stack) (g .limit) w′ (m .walk) < bound
   pub same-length : length w′ ≡ length w
+
+-- The walk is on a path under way, at whose state the model arrives, whatever is listed already; what is left weighs no more than so much.
+pub record ComesTo (g : Setting) (w w′ : List ℕ) (bound : ℕ) (x : Walk) (model : List Entry → Model.Walk) (r : Registers) : Type 0 where
+  pub input : Parts
+  pub state : State
+  pub choices : List Choice
+  pub under : UnderWay g w′ (x .cells) (x .done) (x .height) r input state choices
+  pub model-is : (es : List Entry)
+      → model es ≡ Model.arrive (g .program) (leastDepths (g .program .types)) (g .limit - x .done) (x .done) input state choices es
+  pub no-heavier : power (g .limit - x .done) + weight (g .stack) (g .limit) w′ (x .height) ≤ bound
+  pub same-length : length w′ ≡ length w
+
+-- or it is behind the end of the last one, and that is the model's move
+abbrev pub ResumesAt : Setting → List ℕ → List ℕ → ℕ → Walk → (List Entry → Model.Walk) → Position → Type 0
+ResumesAt g w w′ bound x model (Position.On r) = ComesTo g w w′ bound x model r
+ResumesAt g w w′ bound x model Position.Over =
+    Makes g w w′ bound (record { walk = endedWalk (x .cells) (x .done) (x .height); listing = Listing.Nothing }) model
 
 -- some path is under way
 abbrev pub SomeUnderWay : List ℕ → List ℕ → List ℕ → ℕ → List ℕ → ℕ → ℕ → ℕ → ℕ → ℕ → ℕ → Registers → Type 0
@@ -102,18 +130,19 @@ pub record Forking (g : Setting) (w : List ℕ) (h n i k : ℕ) : Type 0 where
   pub next-at : NextAt g w choice h n i k
   pub before-at : ChoicesAt g (reopened (g .stack) w h) h (choiceWord (g .stack) w h 4) (choiceWord (g .stack) w h 3) before
 
-abbrev pub SomeForking : List ℕ → List ℕ → List ℕ → ℕ → List ℕ → ℕ → ℕ → ℕ → ℕ → ℕ → ℕ → ℕ → Type 0
-SomeForking file types functions label w limit base stack h n i k =
-    (least : List ℕ) × (p : Program) × Given (setting file types functions least p limit base stack) × (label ≡ p .label)
+abbrev pub SomeForking : List ℕ → List ℕ → List ℕ → List ℕ → ℕ → ℕ → ℕ → ℕ → ℕ → ℕ → Type 0
+SomeForking file types functions w base stack h n i k =
+    (least : List ℕ) × (p : Program) × (limit : ℕ) × Given (setting file types functions least p limit base stack)
     × Forking (setting file types functions least p limit base stack) w h n i k
 
 -- the constructor is taken
-abbrev pub Takes : List ℕ → List ℕ → List ℕ → ℕ → List ℕ → List ℕ → ℕ → ℕ → ℕ → ℕ → ℕ → ℕ → ℕ → Moved → Type 0
-Takes file types functions label w w′ limit base stack h n i k m =
-    (least : List ℕ) (p : Program) → Given (setting file types functions least p limit base stack) → label ≡ p .label
+abbrev pub Takes : List ℕ → List ℕ → List ℕ → List ℕ → List ℕ → ℕ → ℕ → ℕ → ℕ → ℕ → ℕ → Walk → Type 0
+Takes file types functions w w′ base stack h n i k x =
+    (x .paths ≡ 1)
+    × ((least : List ℕ) (p : Program) (limit : ℕ) → Given (setting file types functions least p limit base stack)
     → (f : Forking (setting file types functions least p limit base stack) w h n i k)
-    → Makes (setting file types functions least p limit base stack) w w′ (weight stack limit w (suc h)) m
-    (takeFork p (leastDepths (p .types)) (f .choice) (record { constructor = n; fields = k }) (f .next-at .rest) (f .before))
+    → ComesTo (setting file types functions least p limit base stack) w w′ (weight stack limit w (suc h)) x
+    (takeFork p (leastDepths (p .types)) (f .choice) (record { constructor = n; fields = k }) (f .next-at .rest) (f .before)) (x .registers))
 
 -- The search is not over: a path is under way, or there is a choice point.
 abbrev pub ActiveAt : Position → ℕ → Type 0
@@ -121,9 +150,23 @@ ActiveAt (Position.On r) h = Unit {0}
 ActiveAt Position.Over h = 0 < h
 
 abbrev pub Active : Walk → Type 0
-Active x = ActiveAt (x .position) (x .height)
+Active x = ActiveAt (positionOf (x .paths) (x .registers)) (x .height)
 
--- it stands somewhere
+-- it stands somewhere, in a search of any label
+abbrev pub Resumable : List ℕ → List ℕ → List ℕ → List ℕ → List ℕ → ℕ → ℕ → Walk → Type 0
+Resumable file types functions least w base stack x =
+    (p : Program) × (limit : ℕ) × (position : Model.Position) × (cs : List Choice) × Given (setting file types functions least p limit base stack)
+    × StandsAs (setting file types functions least p limit base stack) w x position cs
+
+-- the path whose arrival is its next move, or the end of the search
+abbrev pub Resumes : List ℕ → List ℕ → List ℕ → List ℕ → List ℕ → List ℕ → ℕ → ℕ → Walk → Walk → Type 0
+Resumes file types functions least w w′ base stack x x′ =
+    (p : Program) (limit : ℕ) (position : Model.Position) (cs : List Choice) → Given (setting file types functions least p limit base stack)
+    → StandsAs (setting file types functions least p limit base stack) w x position cs
+    → ResumesAt (setting file types functions least p limit base stack) w w′ (walkWeight stack limit w x) x′ (moveFrom p (leastDepths (p .types)) position cs)
+    (positionOf (x′ .paths) (x′ .registers))
+
+-- it stands somewhere, in a search of this label
 abbrev pub Standing : List ℕ → List ℕ → List ℕ → List ℕ → ℕ → List ℕ → ℕ → ℕ → ℕ → Walk → Type 0
 Standing file types functions least label w limit base stack x =
     (p : Program) × (position : Model.Position) × (cs : List Choice) × Given (setting file types functions least p limit base stack) × (label ≡ p .label)

@@ -2,7 +2,7 @@
 // a constructor left, taking it. Rests on crates cells, steps and choices.
 ghost use mathlib.Core.Path.{_≡_};
 ghost use Prim.Native.Nat.{_≤_};
-ghost use Rattle.moves.specs.Moving.{registersAfter, SomeUnderWay, Arrives, SomeForking, Takes, Active, Standing, Moves};
+ghost use Rattle.moves.specs.Moving.{positionOf, endedWalk, registersAfter, SomeUnderWay, Arrives, SomeForking, Takes, Active, Resumable, Resumes, Standing, Moves};
 use cells::bind_cell;
 use choices::Return;
 use choices::choice_word;
@@ -12,6 +12,7 @@ use depths::Depths;
 use steps::Next;
 use steps::Registers;
 use steps::step;
+use steps::step_part;
 
 // Where the search stands: on a path, whose registers these are, or behind the end of one.
 pub enum Position {
@@ -19,9 +20,11 @@ pub enum Position {
     Over,
 }
 
-// The search between two moves: where it stands, the cells in use, the steps done, and how many choice points there are.
+// The search between two moves: 1 where it stands on a path or 0 behind the end of one, the registers of the path, the cells in use,
+// the steps done, and how many choice points there are.
 pub struct Walk {
-    pub position: Position,
+    pub paths: usize,
+    pub registers: Registers,
     pub cells: usize,
     pub done: usize,
     pub height: usize,
@@ -40,17 +43,39 @@ pub struct Moved {
     pub listing: Listing,
 }
 
-// Behind the end of a path.
+// Where a walk with so many paths and these registers stands.
+fn position_of(paths: usize, registers: Registers) -> Position
+    ensures { λ r. ⌜ r ≡ positionOf paths registers ⌝ }
+{
+    if paths == 0 {
+        return Position::Over;
+    }
+    Position::On(registers)
+}
+
+// The walk behind the end of a path, whose registers say nothing.
+fn ended(cells: usize, done: usize, height: usize) -> Walk
+    ensures { λ x. ⌜ x ≡ endedWalk cells done height ⌝ }
+{
+    Walk {
+        paths: 0,
+        registers: Registers {
+            control: Control::Missing,
+            frame: 0,
+            records: 0,
+        },
+        cells,
+        done,
+        height,
+    }
+}
+
+// Behind the end of a path, with what the move lists.
 fn over(cells: usize, done: usize, height: usize, listing: Listing) -> Moved
-    ensures { λ m. ⌜ m ≡ record { walk = record { position = Position.Over; cells = cells; done = done; height = height }; listing = listing } ⌝ }
+    ensures { λ m. ⌜ m ≡ record { walk = endedWalk cells done height; listing = listing } ⌝ }
 {
     Moved {
-        walk: Walk {
-            position: Position::Over,
-            cells,
-            done,
-            height,
-        },
+        walk: ended(cells, done, height),
         listing,
     }
 }
@@ -81,7 +106,8 @@ fn arrive<'a>(
             if done < limit {
                 return Moved {
                     walk: Walk {
-                        position: Position::On(to),
+                        paths: 1,
+                        registers: to,
                         cells,
                         done: done + 1,
                         height,
@@ -119,24 +145,22 @@ fn take_fork<'a>(
     file: &'a [u8],
     types: &'a [u16],
     functions: &'a [u16],
-    label: usize,
     work: &mut [u32],
-    limit: usize,
     base: usize,
     stack: usize,
     h: usize,
     c: usize,
     fields: usize,
     k: usize,
-) -> Moved
-    requires { ⌜ SomeForking (now file) (now types) (now functions) label (now work) limit base stack h c fields k ⌝ }
-    ensures { λ m. ⌜ Takes (now (file .entry)) (now (types .entry)) (now (functions .entry)) label (now (work .entry)) (now (work .exit)) limit base stack h c fields k m ⌝ }
+) -> Walk
+    requires { ⌜ SomeForking (now file) (now types) (now functions) (now work) base stack h c fields k ⌝ }
+    ensures { λ x. ⌜ Takes (now (file .entry)) (now (types .entry)) (now (functions .entry)) (now (work .entry)) (now (work .exit)) base stack h c fields k x ⌝ }
 {
     let x = choice_word(work, stack, h, 0);
     let frame = choice_word(work, stack, h, 2);
     let records = choice_word(work, stack, h, 3);
     let cells = choice_word(work, stack, h, 4);
-    let done = choice_word(work, stack, h, 5);
+    let steps = choice_word(work, stack, h, 5);
     bind_cell(file, work, x, c, fields, k, cells);
     let from = Registers {
         kind: 1,
@@ -145,61 +169,60 @@ fn take_fork<'a>(
         frame,
         records,
     };
-    let next = step(file, types, functions, label, work, base, from);
+    let next = step_part(file, types, functions, work, base, x, from);
     let to = registers_after(next, from);
-    arrive(
-        file,
-        types,
-        functions,
-        label,
-        work,
-        limit,
-        base,
-        stack,
-        cells + k,
-        done + 1,
-        h + 1,
-        to,
-    )
+    Walk {
+        paths: 1,
+        registers: to,
+        cells: cells + k,
+        done: steps + 1,
+        height: h + 1,
+    }
 }
 
-// Behind the end of a path: the return to the last choice point with a constructor left, or the end of the search.
+// Behind the end of a path: the return to the last choice point with a constructor left, taking it, or the end of the search.
 fn go_back<'a>(
     file: &'a [u8],
     types: &'a [u16],
     functions: &'a [u16],
     least: Depths,
-    label: usize,
     work: &mut [u32],
-    limit: usize,
     base: usize,
     stack: usize,
     walk: Walk,
-) -> Moved
-    requires { ⌜ Standing (now file) (now types) (now functions) (least .of) label (now work) limit base stack walk × (walk .position ≡ Position.Over) × Active walk ⌝ }
-    ensures { λ m. ⌜ Moves (now (file .entry)) (now (types .entry)) (now (functions .entry)) (least .of) label (now (work .entry)) (now (work .exit)) limit base stack walk m ⌝ }
+) -> Walk
+    requires { ⌜ Resumable (now file) (now types) (now functions) (least .of) (now work) base stack walk × (walk .paths ≡ 0) × Active walk ⌝ }
+    ensures { λ x. ⌜ Resumes (now (file .entry)) (now (types .entry)) (now (functions .entry)) (least .of) (now (work .entry)) (now (work .exit)) base stack walk x ⌝ }
 {
     let found = find_return(file, types, least, work, stack, walk.height);
     let Return::To(h, c, fields, k) = found else {
-        return over(walk.cells, walk.done, 0, Listing::Nothing);
+        return ended(walk.cells, walk.done, 0);
     };
-    take_fork(
-        file,
-        types,
-        functions,
-        label,
-        work,
-        limit,
-        base,
-        stack,
-        h,
-        c,
-        fields,
-        k,
-    )
+    take_fork(file, types, functions, work, base, stack, h, c, fields, k)
 }
 
-// One move.
+// The path whose arrival is the next move: the one under way, or behind its end the one to which the search goes back. Where there
+// is none the search is over.
+fn resume<'a>(
+    file: &'a [u8],
+    types: &'a [u16],
+    functions: &'a [u16],
+    least: Depths,
+    work: &mut [u32],
+    base: usize,
+    stack: usize,
+    walk: Walk,
+) -> Walk
+    requires { ⌜ Resumable (now file) (now types) (now functions) (least .of) (now work) base stack walk × Active walk ⌝ }
+    ensures { λ x. ⌜ Resumes (now (file .entry)) (now (types .entry)) (now (functions .entry)) (least .of) (now (work .entry)) (now (work .exit)) base stack walk x ⌝ }
+{
+    if walk.paths == 0 {
+        return go_back(file, types, functions, least, work, base, stack, walk);
+    }
+    walk
+}
+
+// One move: the path that the search goes on with arrives at its state.
 pub fn make_move<'a>(
     file: &'a [u8],
     types: &'a [u16],
@@ -215,20 +238,11 @@ pub fn make_move<'a>(
     requires { ⌜ Standing (now file) (now types) (now functions) (least .of) label (now work) limit base stack walk × Active walk ⌝ }
     ensures { λ m. ⌜ Moves (now (file .entry)) (now (types .entry)) (now (functions .entry)) (least .of) label (now (work .entry)) (now (work .exit)) limit base stack walk m ⌝ }
 {
-    let position = walk.position;
+    let from = resume(file, types, functions, least, work, base, stack, walk);
+    let registers = from.registers;
+    let position = position_of(from.paths, registers);
     let Position::On(r) = position else {
-        return go_back(
-            file,
-            types,
-            functions,
-            least,
-            label,
-            work,
-            limit,
-            base,
-            stack,
-            walk,
-        );
+        return over(from.cells, from.done, from.height, Listing::Nothing);
     };
     arrive(
         file,
@@ -239,9 +253,9 @@ pub fn make_move<'a>(
         limit,
         base,
         stack,
-        walk.cells,
-        walk.done,
-        walk.height,
+        from.cells,
+        from.done,
+        from.height,
         r,
     )
 }

@@ -27,13 +27,12 @@ use Rattle.steps.specs.declared.Registers.{Registers}
 use Rattle.choices.specs.Choices.{Setting, Given, AllOpen, ChoicesAt, no-choice, one-choice}
 use Rattle.choices.specs.Returning.{setting}
 use Rattle.choices.proofs.Returning.{limit-few}
-use Rattle.moves.specs.declared.Position.{Position}
 use Rattle.moves.specs.declared.Position.the-variants as Position
 use Rattle.moves.specs.declared.Walk.{Walk}
 use Rattle.moves.specs.declared.Listing.{Listing}
 use Rattle.moves.specs.declared.Listing.the-variants as Listing
 use Rattle.moves.specs.declared.Moved.{Moved}
-use Rattle.moves.specs.Moving.{PositionAt, StandsAs, EntryIn, Lists, walkWeight, Makes, ActiveAt, Active, Standing, Moves}
+use Rattle.moves.specs.Moving.{positionOf, PositionAt, StandsAs, EntryIn, Lists, walkWeight, Makes, ActiveAt, Active, Standing, Moves}
 use Rattle.listing.specs.declared.Mark.{Mark}
 use Rattle.listing.specs.declared.Mark.the-variants as Mark
 use Rattle.listing.specs.declared.Written.{Written}
@@ -46,14 +45,18 @@ use Rattle.search.specs.Exploring.{firstWalk, GoesOn, verdictAfter, List
 use Rattle.search.proofs.Cutting.{verdict-more, size-more, written-none, written-length, written-more}
 
 -- the search goes on while a path is under way, and behind the end of one while there is a choice point
-pub active-on : (x : Walk) {r : Registers} → x .position ≡ Position.On r → Active x
-active-on x is = subst (λ y. ActiveAt y (x .height)) (sym is) tt
+pub active-on : (x : Walk) → 0 < x .paths → Active x
+active-on x some = by-paths (x .paths) some
+  where
+    by-paths : (n : ℕ) → 0 < n → ActiveAt (positionOf n (x .registers)) (x .height)
+    by-paths zero none = absurd (omega arith)
+    by-paths (suc n) one = tt
 
-pub active-over : (x : Walk) → x .position ≡ Position.Over → GoesOn x (ltb 0 (x .height))
+pub active-over : (x : Walk) → x .paths ≡ 0 → GoesOn x (ltb 0 (x .height))
 active-over x is = by-height (ltb 0 (x .height)) refl
   where
     by-height : (b : Bool) → ltb 0 (x .height) ≡ b → GoesOn x b
-    by-height true h = subst (λ y. ActiveAt y (x .height)) (sym is) (ltb-true 0 (x .height) h)
+    by-height true h = subst (λ n. ActiveAt (positionOf n (x .registers)) (x .height)) (sym is) (ltb-true 0 (x .height) h)
     by-height false h = (is, omega (arith, ltb-false 0 (x .height) h))
 
 -- at the beginning everything is still to come
@@ -134,7 +137,7 @@ module _ (file types functions least : List ℕ) (label : ℕ) (w₀ : List ℕ)
     came-over goes is p begins =
         let now = came p begins in
         let (over, lowest) = subst (GoesOn x) is goes in
-        let last = at-end p (now .position) (now .choices) (subst (λ y. PositionAt (at-program p) w (x .cells) (x .done) (x .height) y (now .position) (now .choices)) over (now .stands)) lowest in
+        let last = at-end p (now .position) (now .choices) (subst (λ n. PositionAt (at-program p) w (x .cells) (x .done) (x .height) (positionOf n (x .registers)) (now .position) (now .choices)) over (now .stands)) lowest in
         let whole : now .listed ≡ entries p =
         sym (append-nil (now .listed)) ∙ ap (λ es. now .listed ++ es) (sym (last .0)) ∙ now .owed-is in
         record {

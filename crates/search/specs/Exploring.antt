@@ -20,7 +20,6 @@ use Rattle.steps.specs.Stepping.{Wrote, FileOf}
 use Rattle.depths.specs.Table.{padded}
 use Rattle.choices.specs.Choices.{Setting, Given, AllOpen}
 use Rattle.choices.specs.Returning.{setting}
-use Rattle.moves.specs.declared.Position.the-variants as Position
 use Rattle.moves.specs.declared.Walk.{Walk}
 use Rattle.moves.specs.declared.Listing.{Listing}
 use Rattle.moves.specs.declared.Listing.the-variants as Listing
@@ -44,12 +43,12 @@ pub record Opened (file w w′ : List ℕ) (base first n depth : ℕ) : Type 0 w
 
 -- the walk at the beginning
 abbrev pub firstWalk : ℕ → Registers → Walk
-firstWalk parameters from = record { position = Position.On from; cells = parameters; done = 0; height = 0 }
+firstWalk parameters from = record { paths = 1; registers = from; cells = parameters; done = 0; height = 0 }
 
 -- whether the search goes on
 abbrev pub GoesOn : Walk → Bool → Type 0
 GoesOn x true = Active x
-GoesOn x false = (x .position ≡ Position.Over) × (x .height ≡ 0)
+GoesOn x false = (x .paths ≡ 0) × (x .height ≡ 0)
 
 -- the verdict after a move
 abbrev pub verdictAfter : Verdict → Listing → Verdict

@@ -17,7 +17,6 @@ use listing::Written;
 use listing::write_entry;
 use lookups::head_of;
 use moves::Listing;
-use moves::Position;
 use moves::Walk;
 use moves::make_move;
 use reach::Refusal;
@@ -43,11 +42,10 @@ pub enum Answer {
 fn is_active(walk: Walk) -> bool
     ensures { λ r. ⌜ GoesOn walk r ⌝ }
 {
-    let position = walk.position;
-    match position {
-        Position::On(_) => true,
-        Position::Over => 0 < walk.height,
+    if 0 < walk.paths {
+        return true;
     }
+    0 < walk.height
 }
 
 // The verdict after a move.
@@ -123,7 +121,8 @@ fn first_walk(parameters: usize, from: Registers) -> Walk
     ensures { λ r. ⌜ r ≡ firstWalk parameters from ⌝ }
 {
     Walk {
-        position: Position::On(from),
+        paths: 1,
+        registers: from,
         cells: parameters,
         done: 0,
         height: 0,

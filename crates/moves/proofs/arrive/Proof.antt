@@ -37,8 +37,8 @@ returns-2 c = λ least p e s cs given sought under. rw (c .over2 .ensures) (arri
 enum-known-next : tie.Need-enum-known-next
 enum-known-next c = search needs
 
-add-t22 : tie.Need-add-t22
-add-t22 c = search needs
+add-t21 : tie.Need-add-t21
+add-t21 c = search needs
 
 same-length-3 : tie.Need-same-length-3
 same-length-3 c = search needs
@@ -98,7 +98,7 @@ arrive-spec =
     same-length-2
     returns-2
     enum-known-next
-    add-t22
+    add-t21
     same-length-3
     returns-3
     over-requires-3

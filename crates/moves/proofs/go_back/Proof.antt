@@ -1,6 +1,5 @@
 -- `moves::go_back` meets its contract, by where the return leads. Rests on Returning.
 use Rattle.moves.proofs.Returning.{back-some, back-nowhere, back-forking, back-taken}
-use native.Mathlib.Omega.{arith}
 use borrow.Author.Needs.{needs}
 use Rattle.moves.proofs.go_back.Statement.{statement}
 use Rattle.moves.proofs.go_back.Tie as tie
@@ -9,7 +8,7 @@ find-return-requires : tie.Need-find-return-requires
 find-return-requires c κs =
     let o = c .before .before .before .before .before in
     let a = o .args in
-    back-some (a .file .now) (a .types .now) (a .functions .now) (a .least .of) (a .label) (a .work .now) (a .limit) (a .base) (a .stack) (a .walk) (o .pre .1) (o .pre .0)
+    back-some (a .file .now) (a .types .now) (a .functions .now) (a .least .of) (a .work .now) (a .base) (a .stack) (a .walk) (o .pre .1) (o .pre .0)
 
 enum-known-found : tie.Need-enum-known-found
 enum-known-found c = search needs
@@ -17,8 +16,8 @@ enum-known-found c = search needs
 enum-told : tie.Need-enum-told
 enum-told c = search needs
 
-over-requires : tie.Need-over-requires
-over-requires c κs = search needs
+ended-requires : tie.Need-ended-requires
+ended-requires c κs = search needs
 
 same-length : tie.Need-same-length
 same-length c = search needs
@@ -27,13 +26,13 @@ returns : tie.Need-returns
 returns c =
     let o = c .before .before .before .before .before .before .before .before .before .before .before in
     let a = o .args in
-    rw (c .over .ensures) (back-nowhere (a .file .now) (a .types .now) (a .functions .now) (a .least .of) (a .label) (a .work .now) (a .limit) (a .base) (a .stack) (a .walk) (o .pre .1) _ _ (c .before .before .before .before .before .find-return .ensures) (c .before .enum-told .given .1) (o .pre .2))
+    rw (c .ended .ensures) (back-nowhere (a .file .now) (a .types .now) (a .functions .now) (a .least .of) (a .work .now) (a .base) (a .stack) (a .walk) (o .pre .1) _ _ (c .before .before .before .before .before .find-return .ensures) (c .before .enum-told .given .1) (o .pre .2))
 
 take-fork-requires : tie.Need-take-fork-requires
 take-fork-requires c κs =
     let o = c .before .before .before .before .before .before .before .before .before .before .before .before in
     let a = o .args in
-    back-forking (a .file .now) (a .types .now) (a .functions .now) (a .least .of) (a .label) (a .work .now) (a .limit) (a .base) (a .stack) (a .walk) (o .pre .1) _ _ (c .before .before .before .before .before .before .find-return .ensures) (c .before .before .found .given .1) (o .pre .0)
+    back-forking (a .file .now) (a .types .now) (a .functions .now) (a .least .of) (a .work .now) (a .base) (a .stack) (a .walk) (o .pre .1) _ _ (c .before .before .before .before .before .before .find-return .ensures) (c .before .before .found .given .1) (o .pre .0)
 
 same-length-2 : tie.Need-same-length-2
 same-length-2 c = search needs
@@ -42,7 +41,7 @@ returns-2 : tie.Need-returns-2
 returns-2 c =
     let o = c .before .before .before .before .before .before .before .before .before .before .before .before .before .before .before in
     let a = o .args in
-    back-taken (a .file .now) (a .types .now) (a .functions .now) (a .least .of) (a .label) (a .work .now) (a .limit) (a .base) (a .stack) (a .walk) (o .pre .1) _ _ (c .before .before .before .before .before .before .before .before .before .find-return .ensures) (c .before .before .before .before .before .found .given .1) (c .before .before .take-fork .ensures)
+    back-taken (a .file .now) (a .types .now) (a .functions .now) (a .least .of) (a .work .now) (a .base) (a .stack) (a .walk) (o .pre .1) _ _ (c .before .before .before .before .before .before .before .before .before .find-return .ensures) (c .before .before .before .before .before .found .given .1) (c .before .before .take-fork .ensures)
 
 pub go-back-spec : {M : Type 1} → statement M
 go-back-spec =
@@ -51,7 +50,7 @@ go-back-spec =
     find-return-requires
     enum-known-found
     enum-told
-    over-requires
+    ended-requires
     same-length
     returns
     take-fork-requires

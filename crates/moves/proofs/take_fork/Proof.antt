@@ -1,6 +1,6 @@
--- `moves::take_fork` meets its contract: the cell is bound, a step leads behind the case, and the path arrives there. Rests on Forking.
-use Prim.Native.Nat.{_≤_}
-use Rattle.moves.proofs.Forking.{height-few, stack-few, bindable, fork-standing, fork-under, fork-takes}
+-- `moves::take_fork` meets its contract: the cell is bound, and a step leads behind the case. Rests on Forking.
+use mathlib.Core.Path.{refl}
+use Rattle.moves.proofs.Forking.{height-few, stack-few, bindable, fork-standing, fork-takes}
 use native.Mathlib.Omega.{arith}
 use borrow.Author.Needs.{needs}
 use Rattle.moves.proofs.take_fork.Statement.{statement}
@@ -8,36 +8,36 @@ use Rattle.moves.proofs.take_fork.Tie as tie
 
 choice-word-requires : tie.Need-choice-word-requires
 choice-word-requires c κs =
-    let (least, p, given, sought, f) = c .before .before .before .before .before .pre in
+    let (least, p, limit, given, f) = c .before .before .before .before .before .pre in
     (stack-few given f, omega (arith, height-few given f), omega arith)
 
 choice-word-requires-2 : tie.Need-choice-word-requires-2
 choice-word-requires-2 c κs =
-    let (least, p, given, sought, f) = c .before .before .before .before .before .before .before .pre in
+    let (least, p, limit, given, f) = c .before .before .before .before .before .before .before .pre in
     (stack-few given f, omega (arith, height-few given f), omega arith)
 
 choice-word-requires-3 : tie.Need-choice-word-requires-3
 choice-word-requires-3 c κs =
-    let (least, p, given, sought, f) = c .before .before .before .before .before .before .before .before .before .pre in
+    let (least, p, limit, given, f) = c .before .before .before .before .before .before .before .before .before .pre in
     (stack-few given f, omega (arith, height-few given f), omega arith)
 
 choice-word-requires-4 : tie.Need-choice-word-requires-4
 choice-word-requires-4 c κs =
-    let (least, p, given, sought, f) = c .before .before .before .before .before .before .before .before .before .before .before .pre in
+    let (least, p, limit, given, f) = c .before .before .before .before .before .before .before .before .before .before .before .pre in
     (stack-few given f, omega (arith, height-few given f), omega arith)
 
 choice-word-requires-5 : tie.Need-choice-word-requires-5
 choice-word-requires-5 c κs =
-    let (least, p, given, sought, f) = c .before .before .before .before .before .before .before .before .before .before .before .before .before .pre in
+    let (least, p, limit, given, f) = c .before .before .before .before .before .before .before .before .before .before .before .before .before .pre in
     (stack-few given f, omega (arith, height-few given f), omega arith)
 
 bind-cell-requires : tie.Need-bind-cell-requires
 bind-cell-requires c κs =
-    let (least, p, given, sought, f) = c .before .before .before .before .before .before .before .before .before .before .before .before .before .before .before .pre in
+    let (least, p, limit, given, f) = c .before .before .before .before .before .before .before .before .before .before .before .before .before .before .before .pre in
     rw (c .before .before .before .before .before .before .before .before .before .choice-word .ensures .0, c .before .before .before .choice-word4 .ensures .0) (bindable given f)
 
-step-requires : tie.Need-step-requires
-step-requires c κs =
+step-part-requires : tie.Need-step-part-requires
+step-part-requires c κs =
     let w5 = c .before .before .before .before .before in
     let w4 = w5 .before .before in
     let w3 = w4 .before .before in
@@ -45,48 +45,38 @@ step-requires c κs =
     let w1 = w2 .before .before in
     let o = w1 .before .before .before .before .before .before in
     let a = o .args in
-    fork-standing (a .file .now) (a .types .now) (a .functions .now) (a .label) (a .work .now) _ (a .limit) (a .base) (a .stack) (a .h) (a .c) (a .fields) (a .k) (w1 .choice-word .ensures .0) (w2 .choice-word2 .ensures .0) (w3 .choice-word3 .ensures .0) (w4 .choice-word4 .ensures .0) (w5 .choice-word5 .ensures .0) (c .before .before .before .bind-cell .ensures) (o .pre)
+    (fork-standing (a .file .now) (a .types .now) (a .functions .now) (a .work .now) _ (a .base) (a .stack) (a .h) (a .c) (a .fields) (a .k) (w1 .choice-word .ensures .0) (w2 .choice-word2 .ensures .0) (w3 .choice-word3 .ensures .0) (w4 .choice-word4 .ensures .0) (w5 .choice-word5 .ensures .0) (c .before .before .before .bind-cell .ensures) (o .pre), refl)
 
 registers-after-requires : tie.Need-registers-after-requires
 registers-after-requires c κs = search needs
 
-add-arrive : tie.Need-add-arrive
-add-arrive c =
-    let (least, p, given, sought, f) = c .before .before .before .before .before .before .before .before .before .before .before .before .before .before .before .before .before .before .before .before .before .before .before .before .pre in
+add-t35 : tie.Need-add-t35
+add-t35 c =
+    let (least, p, limit, given, f) = c .before .before .before .before .before .before .before .before .before .before .before .before .before .before .before .before .before .before .before .before .before .before .before .pre in
     let b = bindable given f in
-    omega (arith, c .before .before .before .before .before .before .before .before .before .before .before .before .choice-word4 .ensures .0, b .3, b .5)
+    omega (arith, c .before .before .before .before .before .before .before .before .before .before .before .choice-word4 .ensures .0, b .3, b .5)
 
-add-arrive-2 : tie.Need-add-arrive-2
-add-arrive-2 c = search needs
+add-t36 : tie.Need-add-t36
+add-t36 c = search needs
 
-add-arrive-3 : tie.Need-add-arrive-3
-add-arrive-3 c =
-    let (least, p, given, sought, f) = c .before .before .before .before .before .before .before .before .before .before .before .before .before .before .before .before .before .before .before .before .before .before .before .before .pre in
+add-t37 : tie.Need-add-t37
+add-t37 c =
+    let (least, p, limit, given, f) = c .before .before .before .before .before .before .before .before .before .before .before .before .before .before .before .before .before .before .before .before .before .before .before .pre in
     omega (arith, height-few given f)
-
-arrive-requires : tie.Need-arrive-requires
-arrive-requires c κs =
-    let w5 = c .before .before .before .before .before .before .before .before .before .before in
-    let w4 = w5 .before .before in
-    let w3 = w4 .before .before in
-    let w2 = w3 .before .before in
-    let w1 = w2 .before .before in
-    let o = w1 .before .before .before .before .before .before in
-    let a = o .args in
-    fork-under (a .file .now) (a .types .now) (a .functions .now) (a .label) (a .work .now) _ (a .limit) (a .base) (a .stack) (a .h) (a .c) (a .fields) (a .k) (w1 .choice-word .ensures .0) (w2 .choice-word2 .ensures .0) (w3 .choice-word3 .ensures .0) (w4 .choice-word4 .ensures .0) (w5 .choice-word5 .ensures .0) (c .before .before .before .before .before .before .before .before .bind-cell .ensures) (c .before .before .before .before .step .ensures) (c .before .registers-after .ensures) (o .pre)
 
 same-length : tie.Need-same-length
 same-length c = search needs
 
 returns : tie.Need-returns
 returns c =
-    let w5 = c .before .before .before .before .before .before .before .before .before .before .before .before .before in
+    let w5 = c .before .before .before .before .before .before .before .before .before in
     let w4 = w5 .before .before in
     let w3 = w4 .before .before in
     let w2 = w3 .before .before in
     let w1 = w2 .before .before in
-    let a = w1 .before .before .before .before .before .before .args in
-    fork-takes (a .file .now) (a .types .now) (a .functions .now) (a .label) (a .work .now) _ (a .limit) (a .base) (a .stack) (a .h) (a .c) (a .fields) (a .k) (w1 .choice-word .ensures .0) (w2 .choice-word2 .ensures .0) (w3 .choice-word3 .ensures .0) (w4 .choice-word4 .ensures .0) (w5 .choice-word5 .ensures .0) (c .before .before .before .before .before .before .before .before .before .before .before .bind-cell .ensures) (c .before .before .before .before .before .before .before .step .ensures) (c .before .before .before .before .registers-after .ensures) (c .before .before .arrive .ensures)
+    let o = w1 .before .before .before .before .before .before in
+    let a = o .args in
+    fork-takes (a .file .now) (a .types .now) (a .functions .now) (a .work .now) _ (a .base) (a .stack) (a .h) (a .c) (a .fields) (a .k) (w1 .choice-word .ensures .0) (w2 .choice-word2 .ensures .0) (w3 .choice-word3 .ensures .0) (w4 .choice-word4 .ensures .0) (w5 .choice-word5 .ensures .0) (c .before .before .before .before .before .before .before .bind-cell .ensures) (c .before .before .before .step-part .ensures) (c .registers-after .ensures)
 
 pub take-fork-spec : {M : Type 1} → statement M
 take-fork-spec =
@@ -98,11 +88,10 @@ take-fork-spec =
     choice-word-requires-4
     choice-word-requires-5
     bind-cell-requires
-    step-requires
+    step-part-requires
     registers-after-requires
-    add-arrive
-    add-arrive-2
-    add-arrive-3
-    arrive-requires
+    add-t35
+    add-t36
+    add-t37
     same-length
     returns)
