@@ -12,7 +12,6 @@ use Rattle.reach.specs.Search.{Kind, RE, UN, Entry}
 use Rattle.reach.specs.Moves as Model
 use Rattle.reach.specs.Moves.{Choice, takeFork, moveFrom}
 use Rattle.machine.specs.Cells.{Cells}
-use Rattle.steps.specs.declared.Control.the-variants as Control
 use Rattle.steps.specs.declared.Registers.{Registers}
 use Rattle.steps.specs.declared.Next.{Next}
 use Rattle.steps.specs.declared.Next.the-variants as Next
@@ -34,7 +33,7 @@ positionOf (suc n) r = Position.On r
 -- the walk behind the end of a path, whose registers say nothing
 abbrev pub endedWalk : ℕ → ℕ → ℕ → Walk
 endedWalk cells done height =
-    record { paths = 0; registers = record { control = Control.Missing; frame = 0; records = 0 }; cells = cells; done = done; height = height }
+    record { paths = 0; registers = record { kind = 0; place = 0; env = 0; frame = 0; records = 0 }; cells = cells; done = done; height = height }
 
 -- A path under way: the steps done are no more than the limit, and there are no more choice points than steps.
 pub record UnderWay (g : Setting) (w : List ℕ) (cells done height : ℕ) (r : Registers) (e : Parts) (s : State) (cs : List Choice) : Type 0 where

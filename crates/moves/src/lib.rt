@@ -2,6 +2,7 @@
 // a constructor left, taking it. Rests on crates cells, steps and choices.
 ghost use mathlib.Core.Path.{_≡_};
 ghost use Prim.Native.Nat.{_≤_};
+ghost use Rattle.skipping.specs.Ends.{Ends};
 ghost use Rattle.moves.specs.Moving.{positionOf, endedWalk, registersAfter, SomeUnderWay, Arrives, SomeForking, Takes, Active, Resumable, Resumes, Standing, Moves};
 use cells::bind_cell;
 use choices::Return;
@@ -60,7 +61,9 @@ fn ended(cells: usize, done: usize, height: usize) -> Walk
     Walk {
         paths: 0,
         registers: Registers {
-            control: Control::Missing,
+            kind: 0,
+            place: 0,
+            env: 0,
             frame: 0,
             records: 0,
         },
@@ -85,6 +88,7 @@ fn arrive<'a>(
     file: &'a [u8],
     types: &'a [u16],
     functions: &'a [u16],
+    ends: &'a [u16],
     label: usize,
     work: &mut [u32],
     limit: usize,
@@ -96,9 +100,10 @@ fn arrive<'a>(
     r: Registers,
 ) -> Moved
     requires { ⌜ SomeUnderWay (now file) (now types) (now functions) label (now work) limit base stack cells done height r ⌝ }
+    requires { ⌜ Ends (now file) (now types) (now functions) (now ends) ⌝ }
     ensures { λ m. ⌜ Arrives (now (file .entry)) (now (types .entry)) (now (functions .entry)) label (now (work .entry)) (now (work .exit)) limit base stack cells done height r m ⌝ }
 {
-    let next = step(file, types, functions, label, work, base, r);
+    let next = step(file, types, functions, ends, label, work, base, r);
     match next {
         Next::Demands => return over(cells, done, height, Listing::Reached),
         Next::Stops => return over(cells, done, height, Listing::Nothing),
@@ -145,6 +150,7 @@ fn take_fork<'a>(
     file: &'a [u8],
     types: &'a [u16],
     functions: &'a [u16],
+    ends: &'a [u16],
     work: &mut [u32],
     base: usize,
     stack: usize,
@@ -154,6 +160,7 @@ fn take_fork<'a>(
     k: usize,
 ) -> Walk
     requires { ⌜ SomeForking (now file) (now types) (now functions) (now work) base stack h c fields k ⌝ }
+    requires { ⌜ Ends (now file) (now types) (now functions) (now ends) ⌝ }
     ensures { λ x. ⌜ Takes (now (file .entry)) (now (types .entry)) (now (functions .entry)) (now (work .entry)) (now (work .exit)) base stack h c fields k x ⌝ }
 {
     let x = choice_word(work, stack, h, 0);
@@ -169,7 +176,7 @@ fn take_fork<'a>(
         frame,
         records,
     };
-    let next = step_part(file, types, functions, work, base, x, from);
+    let next = step_part(file, types, ends, work, base, x, from);
     let to = registers_after(next, from);
     Walk {
         paths: 1,
@@ -185,6 +192,7 @@ fn go_back<'a>(
     file: &'a [u8],
     types: &'a [u16],
     functions: &'a [u16],
+    ends: &'a [u16],
     least: Depths,
     work: &mut [u32],
     base: usize,
@@ -192,13 +200,14 @@ fn go_back<'a>(
     walk: Walk,
 ) -> Walk
     requires { ⌜ Resumable (now file) (now types) (now functions) (least .of) (now work) base stack walk × (walk .paths ≡ 0) × Active walk ⌝ }
+    requires { ⌜ Ends (now file) (now types) (now functions) (now ends) ⌝ }
     ensures { λ x. ⌜ Resumes (now (file .entry)) (now (types .entry)) (now (functions .entry)) (least .of) (now (work .entry)) (now (work .exit)) base stack walk x ⌝ }
 {
     let found = find_return(file, types, least, work, stack, walk.height);
     let Return::To(h, c, fields, k) = found else {
         return ended(walk.cells, walk.done, 0);
     };
-    take_fork(file, types, functions, work, base, stack, h, c, fields, k)
+    take_fork(file, types, functions, ends, work, base, stack, h, c, fields, k)
 }
 
 // The path whose arrival is the next move: the one under way, or behind its end the one to which the search goes back. Where there
@@ -207,6 +216,7 @@ fn resume<'a>(
     file: &'a [u8],
     types: &'a [u16],
     functions: &'a [u16],
+    ends: &'a [u16],
     least: Depths,
     work: &mut [u32],
     base: usize,
@@ -214,10 +224,11 @@ fn resume<'a>(
     walk: Walk,
 ) -> Walk
     requires { ⌜ Resumable (now file) (now types) (now functions) (least .of) (now work) base stack walk × Active walk ⌝ }
+    requires { ⌜ Ends (now file) (now types) (now functions) (now ends) ⌝ }
     ensures { λ x. ⌜ Resumes (now (file .entry)) (now (types .entry)) (now (functions .entry)) (least .of) (now (work .entry)) (now (work .exit)) base stack walk x ⌝ }
 {
     if walk.paths == 0 {
-        return go_back(file, types, functions, least, work, base, stack, walk);
+        return go_back(file, types, functions, ends, least, work, base, stack, walk);
     }
     walk
 }
@@ -227,6 +238,7 @@ pub fn make_move<'a>(
     file: &'a [u8],
     types: &'a [u16],
     functions: &'a [u16],
+    ends: &'a [u16],
     least: Depths,
     label: usize,
     work: &mut [u32],
@@ -236,9 +248,10 @@ pub fn make_move<'a>(
     walk: Walk,
 ) -> Moved
     requires { ⌜ Standing (now file) (now types) (now functions) (least .of) label (now work) limit base stack walk × Active walk ⌝ }
+    requires { ⌜ Ends (now file) (now types) (now functions) (now ends) ⌝ }
     ensures { λ m. ⌜ Moves (now (file .entry)) (now (types .entry)) (now (functions .entry)) (least .of) label (now (work .entry)) (now (work .exit)) limit base stack walk m ⌝ }
 {
-    let from = resume(file, types, functions, least, work, base, stack, walk);
+    let from = resume(file, types, functions, ends, least, work, base, stack, walk);
     let registers = from.registers;
     let position = position_of(from.paths, registers);
     let Position::On(r) = position else {
@@ -248,6 +261,7 @@ pub fn make_move<'a>(
         file,
         types,
         functions,
+        ends,
         label,
         work,
         limit,

@@ -7,8 +7,8 @@ use Rattle.moves.proofs.arrive.Tie as tie
 
 step-requires : tie.Need-step-requires
 step-requires c κs =
-    let (least, p, e, s, cs, given, sought, under) = c .before .before .before .before .before .pre in
-    step-standing given (under .path)
+    let (least, p, e, s, cs, given, sought, under) = c .before .before .before .before .before .before .pre .0 in
+    (c .before .before .before .before .before .before .pre .1, step-standing given (under .path))
 
 enum-told : tie.Need-enum-told
 enum-told c = search needs
@@ -37,8 +37,8 @@ returns-2 c = λ least p e s cs given sought under. rw (c .over2 .ensures) (arri
 enum-known-next : tie.Need-enum-known-next
 enum-known-next c = search needs
 
-add-t21 : tie.Need-add-t21
-add-t21 c = search needs
+add-t22 : tie.Need-add-t22
+add-t22 c = search needs
 
 same-length-3 : tie.Need-same-length-3
 same-length-3 c = search needs
@@ -69,7 +69,7 @@ returns-5 c = λ least p e s cs given sought under. rw (c .over4 .ensures) (arri
 
 push-choice-requires : tie.Need-push-choice-requires
 push-choice-requires c κs =
-    let (least, p, e, s, cs, given, sought, under) = c .before .before .before .before .before .before .before .before .before .before .before .before .before .pre in
+    let (least, p, e, s, cs, given, sought, under) = c .before .before .before .before .before .before .before .before .before .before .before .before .before .before .pre .0 in
     push-bounds given under sought (c .before .before .before .before .before .before .before .step .ensures) (omega arith) (c .before .before .before .next2 .given .1)
 
 add-over : tie.Need-add-over
@@ -98,7 +98,7 @@ arrive-spec =
     same-length-2
     returns-2
     enum-known-next
-    add-t21
+    add-t22
     same-length-3
     returns-3
     over-requires-3

@@ -6,9 +6,9 @@ use Rattle.moves.proofs.go_back.Tie as tie
 
 find-return-requires : tie.Need-find-return-requires
 find-return-requires c κs =
-    let o = c .before .before .before .before .before in
+    let o = c .before .before .before .before .before .before in
     let a = o .args in
-    back-some (a .file .now) (a .types .now) (a .functions .now) (a .least .of) (a .work .now) (a .base) (a .stack) (a .walk) (o .pre .1) (o .pre .0)
+    back-some (a .file .now) (a .types .now) (a .functions .now) (a .least .of) (a .work .now) (a .base) (a .stack) (a .walk) (o .pre .0 .1) (o .pre .0 .0)
 
 enum-known-found : tie.Need-enum-known-found
 enum-known-found c = search needs
@@ -24,24 +24,24 @@ same-length c = search needs
 
 returns : tie.Need-returns
 returns c =
-    let o = c .before .before .before .before .before .before .before .before .before .before .before in
+    let o = c .before .before .before .before .before .before .before .before .before .before .before .before in
     let a = o .args in
-    rw (c .ended .ensures) (back-nowhere (a .file .now) (a .types .now) (a .functions .now) (a .least .of) (a .work .now) (a .base) (a .stack) (a .walk) (o .pre .1) _ _ (c .before .before .before .before .before .find-return .ensures) (c .before .enum-told .given .1) (o .pre .2))
+    rw (c .ended .ensures) (back-nowhere (a .file .now) (a .types .now) (a .functions .now) (a .least .of) (a .work .now) (a .base) (a .stack) (a .walk) (o .pre .0 .1) _ _ (c .before .before .before .before .before .find-return .ensures) (c .before .enum-told .given .1) (o .pre .0 .2))
 
 take-fork-requires : tie.Need-take-fork-requires
 take-fork-requires c κs =
-    let o = c .before .before .before .before .before .before .before .before .before .before .before .before in
+    let o = c .before .before .before .before .before .before .before .before .before .before .before .before .before in
     let a = o .args in
-    back-forking (a .file .now) (a .types .now) (a .functions .now) (a .least .of) (a .work .now) (a .base) (a .stack) (a .walk) (o .pre .1) _ _ (c .before .before .before .before .before .before .find-return .ensures) (c .before .before .found .given .1) (o .pre .0)
+    (back-forking (a .file .now) (a .types .now) (a .functions .now) (a .least .of) (a .work .now) (a .base) (a .stack) (a .walk) (o .pre .0 .1) _ _ (c .before .before .before .before .before .before .find-return .ensures) (c .before .before .found .given .1) (o .pre .0 .0), o .pre .1)
 
 same-length-2 : tie.Need-same-length-2
 same-length-2 c = search needs
 
 returns-2 : tie.Need-returns-2
 returns-2 c =
-    let o = c .before .before .before .before .before .before .before .before .before .before .before .before .before .before .before in
+    let o = c .before .before .before .before .before .before .before .before .before .before .before .before .before .before .before .before in
     let a = o .args in
-    back-taken (a .file .now) (a .types .now) (a .functions .now) (a .least .of) (a .work .now) (a .base) (a .stack) (a .walk) (o .pre .1) _ _ (c .before .before .before .before .before .before .before .before .before .find-return .ensures) (c .before .before .before .before .before .found .given .1) (c .before .before .take-fork .ensures)
+    back-taken (a .file .now) (a .types .now) (a .functions .now) (a .least .of) (a .work .now) (a .base) (a .stack) (a .walk) (o .pre .0 .1) _ _ (c .before .before .before .before .before .before .before .before .before .find-return .ensures) (c .before .before .before .before .before .found .given .1) (c .before .before .take-fork .ensures)
 
 pub go-back-spec : {M : Type 1} → statement M
 go-back-spec =

@@ -6,9 +6,9 @@ use Rattle.moves.proofs.make_move.Tie as tie
 
 resume-requires : tie.Need-resume-requires
 resume-requires c κs =
-    let o = c .before .before .before .before .before in
-    let ((p, position, cs, given, sought, stands), active) = o .pre in
-    ((p, o .args .limit, position, cs, given, stands), active)
+    let o = c .before .before .before .before .before .before in
+    let ((p, position, cs, given, sought, stands), active) = o .pre .0 in
+    (((p, o .args .limit, position, cs, given, stands), active), o .pre .1)
 
 position-of-requires : tie.Need-position-of-requires
 position-of-requires c κs = search needs
@@ -27,21 +27,21 @@ same-length c = search needs
 
 returns : tie.Need-returns
 returns c =
-    let a = c .before .before .before .before .before .before .before .before .before .before .before .before .before .args in
+    let a = c .before .before .before .before .before .before .before .before .before .before .before .before .before .before .args in
     rw (c .over .ensures) (none-moves (a .file .now) (a .types .now) (a .functions .now) (a .least .of) (a .label) (a .work .now) _ (a .limit) (a .base) (a .stack) (a .walk) (c .before .before .before .before .before .before .before .resume .result) (c .before .before .before .before .before .before .before .resume .ensures) (c .before .before .before .position-of .ensures) (c .before .enum-told .given .1))
 
 arrive-requires : tie.Need-arrive-requires
 arrive-requires c κs =
-    let o = c .before .before .before .before .before .before .before .before .before .before .before .before .before .before in
+    let o = c .before .before .before .before .before .before .before .before .before .before .before .before .before .before .before in
     let a = o .args in
-    on-some (a .file .now) (a .types .now) (a .functions .now) (a .least .of) (a .label) (a .work .now) _ (a .limit) (a .base) (a .stack) (a .walk) (c .before .before .before .before .before .before .before .before .resume .result) (c .before .before .before .before .before .before .before .before .resume .ensures) (c .before .before .before .before .position-of .ensures) (c .before .before .position .given .1) (o .pre .0)
+    (on-some (a .file .now) (a .types .now) (a .functions .now) (a .least .of) (a .label) (a .work .now) _ (a .limit) (a .base) (a .stack) (a .walk) (c .before .before .before .before .before .before .before .before .resume .result) (c .before .before .before .before .before .before .before .before .resume .ensures) (c .before .before .before .before .position-of .ensures) (c .before .before .position .given .1) (o .pre .0 .0), o .pre .1)
 
 same-length-2 : tie.Need-same-length-2
 same-length-2 c = search needs
 
 returns-2 : tie.Need-returns-2
 returns-2 c =
-    let a = c .before .before .before .before .before .before .before .before .before .before .before .before .before .before .before .before .before .args in
+    let a = c .before .before .before .before .before .before .before .before .before .before .before .before .before .before .before .before .before .before .args in
     on-moves (a .file .now) (a .types .now) (a .functions .now) (a .least .of) (a .label) (a .work .now) _ (a .limit) (a .base) (a .stack) (a .walk) (c .before .before .before .before .before .before .before .before .before .before .before .resume .result) (c .before .before .before .before .before .before .before .before .before .before .before .resume .ensures) (c .before .before .before .before .before .before .before .position-of .ensures) (c .before .before .before .before .before .position .given .1) (c .before .before .arrive .ensures)
 
 pub make-move-spec : {M : Type 1} → statement M

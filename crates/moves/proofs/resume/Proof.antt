@@ -5,7 +5,7 @@ use Rattle.moves.proofs.resume.Statement.{statement}
 use Rattle.moves.proofs.resume.Tie as tie
 
 go-back-requires : tie.Need-go-back-requires
-go-back-requires c κs = let pre = c .before .before .before .before .before .before .before .pre in (pre .0, c .before .if1 .taken, pre .1)
+go-back-requires c κs = let start = c .before .before .before .before .before .before .before .before in ((start .pre .0 .0, c .before .if1 .taken, start .pre .0 .1), start .pre .1)
 
 same-length : tie.Need-same-length
 same-length c = search needs
@@ -15,7 +15,7 @@ returns c = search needs
 
 returns-2 : tie.Need-returns-2
 returns-2 c =
-    let a = c .before .before .before .before .before .before .args in
+    let a = c .before .before .before .before .before .before .before .args in
     on-resumes (a .file .now) (a .types .now) (a .functions .now) (a .least .of) (a .work .now) (a .base) (a .stack) (a .walk) (c .if1 .left)
 
 pub resume-spec : {M : Type 1} → statement M
