@@ -7,6 +7,7 @@ ghost use lib.ListN.{length};
 ghost use Rattle.reach.specs.Syntax.{Program};
 ghost use Rattle.reach.specs.Lists.{written};
 ghost use Rattle.reach.specs.Answers.{searchAnswer, listed};
+ghost use Rattle.skipping.specs.Ends.{Ends};
 ghost use Rattle.search.specs.Answering.{answerOf};
 ghost use Rattle.search.specs.Exploring.{Opened, firstWalk, GoesOn, verdictAfter, ListableAs, WroteAs, SomeBegins, Explores, Searchable, settingOf, Explored, WordsAfter};
 use cells::start_cells;
@@ -27,6 +28,7 @@ use rulefile::label;
 use rulefile::load;
 use rulefile::source;
 use rulefile::steps;
+use skipping::fill_ends;
 use steps::Registers;
 use steps::put_record;
 
@@ -134,6 +136,7 @@ fn explore<'a>(
     file: &'a [u8],
     types: &'a [u16],
     functions: &'a [u16],
+    ends: &'a [u16],
     least: Depths,
     label: usize,
     work: &mut [u32],
@@ -145,6 +148,7 @@ fn explore<'a>(
     list: &mut [u8],
 ) -> Answer
     requires { ⌜ SomeBegins (now file) (now types) (now functions) (least .of) label (now work) limit base stack parameters from ⌝ }
+    requires { ⌜ Ends (now file) (now types) (now functions) (now ends) ⌝ }
     ensures { λ a. ⌜ Explores (now (file .entry)) (now (types .entry)) (now (functions .entry)) (least .of) label (now (work .entry)) (now (work .exit)) limit base stack parameters from (now (list .entry)) (now (list .exit)) a ⌝ }
 {
     let mut walk = first_walk(parameters, from);
@@ -155,6 +159,7 @@ fn explore<'a>(
             file,
             types,
             functions,
+            ends,
             least,
             label,
             work,
@@ -210,6 +215,8 @@ fn search_checked<'a>(
     requires { ⌜ ((p : Program) × Searchable (now file) (now types) (now functions) (least .of) goal (now work) p) ⌝ }
     ensures { λ a. ⌜ ((p : Program) → Searchable (now (file .entry)) (now (types .entry)) (now (functions .entry)) (least .of) goal (now (work .entry)) p → Explored (settingOf (now (file .entry)) (now (types .entry)) (now (functions .entry)) (least .of) p) (now (list .entry)) (now (list .exit)) (now (work .exit)) a) ⌝ }
 {
+    let mut ends = [0u16; 16384];
+    fill_ends(file, types, functions, &mut ends);
     let limit = steps(file, goal);
     let base = 30 * limit + 80;
     let stack = 34 * limit + 96;
@@ -228,6 +235,7 @@ fn search_checked<'a>(
         file,
         types,
         functions,
+        &ends,
         least,
         label(file, goal),
         work,

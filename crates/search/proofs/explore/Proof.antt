@@ -12,25 +12,33 @@ use Rattle.search.proofs.explore.Statement.{statement}
 use Rattle.search.proofs.explore.Tie as tie
 
 abbrev Inv-loop : tie.InvT-loop
-Inv-loop file types functions least label work₀ limit base stack parameters list₀ walk₀ at₀ verdict₀ work list walk at verdict = (length work ≡ length work₀) × (length list ≡ length list₀) × CameFrom file types functions (least .of) label work₀ limit base stack parameters list₀ walk₀ work walk list at verdict
+Inv-loop file types functions ends least label work₀ limit base stack parameters list₀ walk₀ at₀ verdict₀ work list walk at verdict = (length work ≡ length work₀) × (length list ≡ length list₀) × CameFrom file types functions (least .of) label work₀ limit base stack parameters list₀ walk₀ work walk list at verdict
 
 abbrev μ-loop : tie.MeasureT-loop
-μ-loop file types functions least label work₀ limit base stack parameters list₀ walk₀ at₀ verdict₀ work list walk at verdict = walkWeight stack limit work walk
+μ-loop file types functions ends least label work₀ limit base stack parameters list₀ walk₀ at₀ verdict₀ work list walk at verdict = walkWeight stack limit work walk
 
 first-walk-requires : tie.Need-first-walk-requires Inv-loop μ-loop
 first-walk-requires c κs = search needs
 
 loop-holds : tie.Need-loop-holds Inv-loop μ-loop
-loop-holds c = (refl, refl, came-begin (c .before .before .before .before .before .before .args .file .now) (c .before .before .before .before .before .before .args .types .now) (c .before .before .before .before .before .before .args .functions .now) (c .before .before .before .before .before .before .args .least .of) (c .before .before .before .before .before .before .args .label) (c .before .before .before .before .before .before .args .work .now) (c .before .before .before .before .before .before .args .limit) (c .before .before .before .before .before .before .args .base) (c .before .before .before .before .before .before .args .stack) (c .before .before .before .before .before .before .args .parameters) (c .before .before .before .before .before .before .args .list .now) _)
+loop-holds c =
+    let a = c .before .before .before .before .before .before .before .args in
+    (refl, refl, came-begin (a .file .now) (a .types .now) (a .functions .now) (a .least .of) (a .label) (a .work .now) (a .limit) (a .base) (a .stack) (a .parameters) (a .list .now) _)
 
 is-active-requires : tie.Need-is-active-requires Inv-loop μ-loop
 is-active-requires c κs = search needs
 
 make-move-requires : tie.Need-make-move-requires Inv-loop μ-loop
-make-move-requires c κs = (came-standing (c .before .before .before .before .before .before .before .before .before .before .args .file .now) (c .before .before .before .before .before .before .before .before .before .before .args .types .now) (c .before .before .before .before .before .before .before .before .before .before .args .functions .now) (c .before .before .before .before .before .before .before .before .before .before .args .least .of) (c .before .before .before .before .before .before .before .before .before .before .args .label) (c .before .before .before .before .before .before .before .before .before .before .args .work .now) (c .before .before .before .before .before .before .before .before .before .before .args .limit) (c .before .before .before .before .before .before .before .before .before .before .args .base) (c .before .before .before .before .before .before .before .before .before .before .args .stack) (c .before .before .before .before .before .before .before .before .before .before .args .parameters) (c .before .before .before .before .before .before .before .before .before .before .args .from) (c .before .before .before .before .before .before .before .before .before .before .args .list .now) (c .before .before .before .loop .work) (c .before .before .before .loop .walk) (c .before .before .before .loop .list) (c .before .before .before .loop .at) (c .before .before .before .loop .verdict) (c .before .before .before .loop .inv .2 (c .before .before .before .before .before .before .before .before .before .before .args .from) (c .before .before .before .before .first-walk .ensures)) (c .before .before .before .before .before .before .before .before .before .before .pre), subst (GoesOn (c .before .before .before .loop .walk)) (c .before .if1 .taken) (c .before .before .is-active .ensures))
+make-move-requires c κs =
+    let a = c .before .before .before .before .before .before .before .before .before .before .before .args in
+    let l = c .before .before .before .loop in
+    ((came-standing (a .file .now) (a .types .now) (a .functions .now) (a .least .of) (a .label) (a .work .now) (a .limit) (a .base) (a .stack) (a .parameters) (a .from) (a .list .now) (l .work) (l .walk) (l .list) (l .at) (l .verdict) (l .inv .2 (a .from) (c .before .before .before .before .first-walk .ensures)) (c .before .before .before .before .before .before .before .before .before .before .before .pre .0), subst (GoesOn (l .walk)) (c .before .if1 .taken) (c .before .before .is-active .ensures)), c .before .before .before .before .before .before .before .before .before .before .before .pre .1)
 
 write-listing-requires : tie.Need-write-listing-requires Inv-loop μ-loop
-write-listing-requires c κs = (move-listable (c .before .before .before .before .before .before .before .before .before .before .before .before .before .before .before .before .args .file .now) (c .before .before .before .before .before .before .before .before .before .before .before .before .before .before .before .before .args .types .now) (c .before .before .before .before .before .before .before .before .before .before .before .before .before .before .before .before .args .functions .now) (c .before .before .before .before .before .before .before .before .before .before .before .before .before .before .before .before .args .least .of) (c .before .before .before .before .before .before .before .before .before .before .before .before .before .before .before .before .args .label) (c .before .before .before .before .before .before .before .before .before .before .before .before .before .before .before .before .args .work .now) (c .before .before .before .before .before .before .before .before .before .before .before .before .before .before .before .before .args .limit) (c .before .before .before .before .before .before .before .before .before .before .before .before .before .before .before .before .args .base) (c .before .before .before .before .before .before .before .before .before .before .before .before .before .before .before .before .args .stack) (c .before .before .before .before .before .before .before .before .before .before .before .before .before .before .before .before .args .parameters) (c .before .before .before .before .before .before .before .before .before .before .before .before .before .before .before .before .args .from) (c .before .before .before .before .before .before .before .before .before .before .before .before .before .before .before .before .args .list .now) (c .before .before .before .before .before .before .before .before .before .loop .work) (c .before .before .before .before .before .before .before .before .before .loop .walk) (c .before .before .before .before .before .before .before .before .before .loop .list) (c .before .before .before .before .before .before .before .before .before .loop .at) (c .before .before .before .before .before .before .before .before .before .loop .verdict) (c .before .before .before .before .before .before .before .before .before .loop .inv .2 (c .before .before .before .before .before .before .before .before .before .before .before .before .before .before .before .before .args .from) (c .before .before .before .before .before .before .before .before .before .before .first-walk .ensures)) (c .before .before .before .before .before .make-move .ensures) (c .before .before .before .before .before .before .before .before .before .loop .inv .0) (c .before .before .before .before .before .before .before .before .before .before .before .before .before .before .before .before .pre), let room = same-room (c .before .before .before .before .before .before .before .before .before .before .before .before .before .before .before .before .args .file .now) (c .before .before .before .before .before .before .before .before .before .before .before .before .before .before .before .before .args .types .now) (c .before .before .before .before .before .before .before .before .before .before .before .before .before .before .before .before .args .functions .now) (c .before .before .before .before .before .before .before .before .before .before .before .before .before .before .before .before .args .least .of) (c .before .before .before .before .before .before .before .before .before .before .before .before .before .before .before .before .args .label) (c .before .before .before .before .before .before .before .before .before .before .before .before .before .before .before .before .args .work .now) (c .before .before .before .before .before .before .before .before .before .before .before .before .before .before .before .before .args .limit) (c .before .before .before .before .before .before .before .before .before .before .before .before .before .before .before .before .args .base) (c .before .before .before .before .before .before .before .before .before .before .before .before .before .before .before .before .args .stack) (c .before .before .before .before .before .before .before .before .before .before .before .before .before .before .before .before .args .parameters) (c .before .before .before .before .before .before .before .before .before .before .before .before .before .before .before .before .args .from) (c .before .before .before .before .before .before .before .before .before .before .before .before .before .before .before .before .args .list .now) (c .before .before .before .before .before .before .before .before .before .loop .work) (c .before .before .before .before .before .before .before .before .before .loop .walk) (c .before .before .before .before .before .before .before .before .before .loop .list) (c .before .before .before .before .before .before .before .before .before .loop .at) (c .before .before .before .before .before .before .before .before .before .loop .verdict) (c .before .before .before .before .before .before .before .before .before .loop .inv .2 (c .before .before .before .before .before .before .before .before .before .before .before .before .before .before .before .before .args .from) (c .before .before .before .before .before .before .before .before .before .before .first-walk .ensures)) (c .before .before .before .before .before .before .before .before .before .before .before .before .before .before .before .before .pre) in omega (arith, c .before .before .before .before .before .before .before .before .before .loop .inv .1, room .1))
+write-listing-requires c κs =
+    let a = c .before .before .before .before .before .before .before .before .before .before .before .before .before .before .before .before .before .args in
+    let l = c .before .before .before .before .before .before .before .before .before .loop in
+    (move-listable (a .file .now) (a .types .now) (a .functions .now) (a .least .of) (a .label) (a .work .now) (a .limit) (a .base) (a .stack) (a .parameters) (a .from) (a .list .now) (l .work) (l .walk) (l .list) (l .at) (l .verdict) (l .inv .2 (a .from) (c .before .before .before .before .before .before .before .before .before .before .first-walk .ensures)) (c .before .before .before .before .before .make-move .ensures) (l .inv .0) (c .before .before .before .before .before .before .before .before .before .before .before .before .before .before .before .before .before .pre .0), let room = same-room (a .file .now) (a .types .now) (a .functions .now) (a .least .of) (a .label) (a .work .now) (a .limit) (a .base) (a .stack) (a .parameters) (a .from) (a .list .now) (l .work) (l .walk) (l .list) (l .at) (l .verdict) (l .inv .2 (a .from) (c .before .before .before .before .before .before .before .before .before .before .first-walk .ensures)) (c .before .before .before .before .before .before .before .before .before .before .before .before .before .before .before .before .before .pre .0) in omega (arith, l .inv .1, room .1))
 
 enum-known-written : tie.Need-enum-known-written Inv-loop μ-loop
 enum-known-written c = search needs
@@ -45,16 +53,25 @@ same-length-2 : tie.Need-same-length-2 Inv-loop μ-loop
 same-length-2 c = search needs
 
 returns : tie.Need-returns Inv-loop μ-loop
-returns c = came-full (c .before .before .before .before .before .before .before .before .before .before .before .before .before .before .before .before .before .before .before .before .before .args .file .now) (c .before .before .before .before .before .before .before .before .before .before .before .before .before .before .before .before .before .before .before .before .before .args .types .now) (c .before .before .before .before .before .before .before .before .before .before .before .before .before .before .before .before .before .before .before .before .before .args .functions .now) (c .before .before .before .before .before .before .before .before .before .before .before .before .before .before .before .before .before .before .before .before .before .args .least .of) (c .before .before .before .before .before .before .before .before .before .before .before .before .before .before .before .before .before .before .before .before .before .args .label) (c .before .before .before .before .before .before .before .before .before .before .before .before .before .before .before .before .before .before .before .before .before .args .work .now) (c .before .before .before .before .before .before .before .before .before .before .before .before .before .before .before .before .before .before .before .before .before .args .limit) (c .before .before .before .before .before .before .before .before .before .before .before .before .before .before .before .before .before .before .before .before .before .args .base) (c .before .before .before .before .before .before .before .before .before .before .before .before .before .before .before .before .before .before .before .before .before .args .stack) (c .before .before .before .before .before .before .before .before .before .before .before .before .before .before .before .before .before .before .before .before .before .args .parameters) (c .before .before .before .before .before .before .before .before .before .before .before .before .before .before .before .before .before .before .before .before .before .args .from) (c .before .before .before .before .before .before .before .before .before .before .before .before .before .before .before .before .before .before .before .before .before .args .list .now) (c .before .before .before .before .before .before .before .before .before .before .before .before .before .before .loop .work) (c .before .before .before .before .before .before .before .before .before .before .before .before .before .before .loop .walk) (c .before .before .before .before .before .before .before .before .before .before .before .before .before .before .loop .list) (c .before .before .before .before .before .before .before .before .before .before .before .before .before .before .loop .at) (c .before .before .before .before .before .before .before .before .before .before .before .before .before .before .loop .verdict) (c .before .before .before .before .before .before .before .before .before .before .before .before .before .before .loop .inv .2 (c .before .before .before .before .before .before .before .before .before .before .before .before .before .before .before .before .before .before .before .before .before .args .from) (c .before .before .before .before .before .before .before .before .before .before .before .before .before .before .before .first-walk .ensures)) (c .before .before .before .before .before .before .before .before .before .before .make-move .ensures) (c .before .before .before .before .before .before .before .before .before .before .before .before .before .before .loop .inv .0) _ _ (c .before .before .before .before .write-listing .ensures) (c .enum-told .given .1)
+returns c =
+    let a = c .before .before .before .before .before .before .before .before .before .before .before .before .before .before .before .before .before .before .before .before .before .before .args in
+    let l = c .before .before .before .before .before .before .before .before .before .before .before .before .before .before .loop in
+    came-full (a .file .now) (a .types .now) (a .functions .now) (a .least .of) (a .label) (a .work .now) (a .limit) (a .base) (a .stack) (a .parameters) (a .from) (a .list .now) (l .work) (l .walk) (l .list) (l .at) (l .verdict) (l .inv .2 (a .from) (c .before .before .before .before .before .before .before .before .before .before .before .before .before .before .before .first-walk .ensures)) (c .before .before .before .before .before .before .before .before .before .before .make-move .ensures) (l .inv .0) _ _ (c .before .before .before .before .write-listing .ensures) (c .enum-told .given .1)
 
 verdict-after-requires : tie.Need-verdict-after-requires Inv-loop μ-loop
 verdict-after-requires c κs = search needs
 
 loop-less : tie.Need-loop-less Inv-loop μ-loop
-loop-less c = move-lighter (c .before .before .before .before .before .before .before .before .before .before .before .before .before .before .before .before .before .before .before .before .before .before .before .args .file .now) (c .before .before .before .before .before .before .before .before .before .before .before .before .before .before .before .before .before .before .before .before .before .before .before .args .types .now) (c .before .before .before .before .before .before .before .before .before .before .before .before .before .before .before .before .before .before .before .before .before .before .before .args .functions .now) (c .before .before .before .before .before .before .before .before .before .before .before .before .before .before .before .before .before .before .before .before .before .before .before .args .least .of) (c .before .before .before .before .before .before .before .before .before .before .before .before .before .before .before .before .before .before .before .before .before .before .before .args .label) (c .before .before .before .before .before .before .before .before .before .before .before .before .before .before .before .before .before .before .before .before .before .before .before .args .work .now) (c .before .before .before .before .before .before .before .before .before .before .before .before .before .before .before .before .before .before .before .before .before .before .before .args .limit) (c .before .before .before .before .before .before .before .before .before .before .before .before .before .before .before .before .before .before .before .before .before .before .before .args .base) (c .before .before .before .before .before .before .before .before .before .before .before .before .before .before .before .before .before .before .before .before .before .before .before .args .stack) (c .before .before .before .before .before .before .before .before .before .before .before .before .before .before .before .before .before .before .before .before .before .before .before .args .parameters) (c .before .before .before .before .before .before .before .before .before .before .before .before .before .before .before .before .before .before .before .before .before .before .before .args .from) (c .before .before .before .before .before .before .before .before .before .before .before .before .before .before .before .before .before .before .before .before .before .before .before .args .list .now) (c .before .before .before .before .before .before .before .before .before .before .before .before .before .before .before .before .loop .work) (c .before .before .before .before .before .before .before .before .before .before .before .before .before .before .before .before .loop .walk) (c .before .before .before .before .before .before .before .before .before .before .before .before .before .before .before .before .loop .list) (c .before .before .before .before .before .before .before .before .before .before .before .before .before .before .before .before .loop .at) (c .before .before .before .before .before .before .before .before .before .before .before .before .before .before .before .before .loop .verdict) (c .before .before .before .before .before .before .before .before .before .before .before .before .before .before .before .before .loop .inv .2 (c .before .before .before .before .before .before .before .before .before .before .before .before .before .before .before .before .before .before .before .before .before .before .before .args .from) (c .before .before .before .before .before .before .before .before .before .before .before .before .before .before .before .before .before .first-walk .ensures)) (c .before .before .before .before .before .before .before .before .before .before .before .before .make-move .ensures) (c .before .before .before .before .before .before .before .before .before .before .before .before .before .before .before .before .loop .inv .0) (c .before .before .before .before .before .before .before .before .before .before .before .before .before .before .before .before .before .before .before .before .before .before .before .pre)
+loop-less c =
+    let a = c .before .before .before .before .before .before .before .before .before .before .before .before .before .before .before .before .before .before .before .before .before .before .before .before .args in
+    let l = c .before .before .before .before .before .before .before .before .before .before .before .before .before .before .before .before .loop in
+    move-lighter (a .file .now) (a .types .now) (a .functions .now) (a .least .of) (a .label) (a .work .now) (a .limit) (a .base) (a .stack) (a .parameters) (a .from) (a .list .now) (l .work) (l .walk) (l .list) (l .at) (l .verdict) (l .inv .2 (a .from) (c .before .before .before .before .before .before .before .before .before .before .before .before .before .before .before .before .before .first-walk .ensures)) (c .before .before .before .before .before .before .before .before .before .before .before .before .make-move .ensures) (l .inv .0) (c .before .before .before .before .before .before .before .before .before .before .before .before .before .before .before .before .before .before .before .before .before .before .before .before .pre .0)
 
 loop-again : tie.Need-loop-again Inv-loop μ-loop
-loop-again c = (move-length (c .before .before .before .before .before .before .before .before .before .before .before .before .before .before .before .before .before .before .before .before .before .before .before .args .file .now) (c .before .before .before .before .before .before .before .before .before .before .before .before .before .before .before .before .before .before .before .before .before .before .before .args .types .now) (c .before .before .before .before .before .before .before .before .before .before .before .before .before .before .before .before .before .before .before .before .before .before .before .args .functions .now) (c .before .before .before .before .before .before .before .before .before .before .before .before .before .before .before .before .before .before .before .before .before .before .before .args .least .of) (c .before .before .before .before .before .before .before .before .before .before .before .before .before .before .before .before .before .before .before .before .before .before .before .args .label) (c .before .before .before .before .before .before .before .before .before .before .before .before .before .before .before .before .before .before .before .before .before .before .before .args .work .now) (c .before .before .before .before .before .before .before .before .before .before .before .before .before .before .before .before .before .before .before .before .before .before .before .args .limit) (c .before .before .before .before .before .before .before .before .before .before .before .before .before .before .before .before .before .before .before .before .before .before .before .args .base) (c .before .before .before .before .before .before .before .before .before .before .before .before .before .before .before .before .before .before .before .before .before .before .before .args .stack) (c .before .before .before .before .before .before .before .before .before .before .before .before .before .before .before .before .before .before .before .before .before .before .before .args .parameters) (c .before .before .before .before .before .before .before .before .before .before .before .before .before .before .before .before .before .before .before .before .before .before .before .args .from) (c .before .before .before .before .before .before .before .before .before .before .before .before .before .before .before .before .before .before .before .before .before .before .before .args .list .now) (c .before .before .before .before .before .before .before .before .before .before .before .before .before .before .before .before .loop .work) (c .before .before .before .before .before .before .before .before .before .before .before .before .before .before .before .before .loop .walk) (c .before .before .before .before .before .before .before .before .before .before .before .before .before .before .before .before .loop .list) (c .before .before .before .before .before .before .before .before .before .before .before .before .before .before .before .before .loop .at) (c .before .before .before .before .before .before .before .before .before .before .before .before .before .before .before .before .loop .verdict) (c .before .before .before .before .before .before .before .before .before .before .before .before .before .before .before .before .loop .inv .2 (c .before .before .before .before .before .before .before .before .before .before .before .before .before .before .before .before .before .before .before .before .before .before .before .args .from) (c .before .before .before .before .before .before .before .before .before .before .before .before .before .before .before .before .before .first-walk .ensures)) (c .before .before .before .before .before .before .before .before .before .before .before .before .make-move .ensures) (c .before .before .before .before .before .before .before .before .before .before .before .before .before .before .before .before .loop .inv .0) (c .before .before .before .before .before .before .before .before .before .before .before .before .before .before .before .before .before .before .before .before .before .before .before .pre), c .before .before .before .before .before .before .write-listing .kept .1 .1 .1 .1 .1 .1 .1 .0 ∙ c .before .before .before .before .before .before .before .before .before .before .before .before .before .before .before .before .loop .inv .1, λ r is. rw (c .verdict-after .ensures) (came-on (c .before .before .before .before .before .before .before .before .before .before .before .before .before .before .before .before .before .before .before .before .before .before .before .args .file .now) (c .before .before .before .before .before .before .before .before .before .before .before .before .before .before .before .before .before .before .before .before .before .before .before .args .types .now) (c .before .before .before .before .before .before .before .before .before .before .before .before .before .before .before .before .before .before .before .before .before .before .before .args .functions .now) (c .before .before .before .before .before .before .before .before .before .before .before .before .before .before .before .before .before .before .before .before .before .before .before .args .least .of) (c .before .before .before .before .before .before .before .before .before .before .before .before .before .before .before .before .before .before .before .before .before .before .before .args .label) (c .before .before .before .before .before .before .before .before .before .before .before .before .before .before .before .before .before .before .before .before .before .before .before .args .work .now) (c .before .before .before .before .before .before .before .before .before .before .before .before .before .before .before .before .before .before .before .before .before .before .before .args .limit) (c .before .before .before .before .before .before .before .before .before .before .before .before .before .before .before .before .before .before .before .before .before .before .before .args .base) (c .before .before .before .before .before .before .before .before .before .before .before .before .before .before .before .before .before .before .before .before .before .before .before .args .stack) (c .before .before .before .before .before .before .before .before .before .before .before .before .before .before .before .before .before .before .before .before .before .before .before .args .parameters) r (c .before .before .before .before .before .before .before .before .before .before .before .before .before .before .before .before .before .before .before .before .before .before .before .args .list .now) (c .before .before .before .before .before .before .before .before .before .before .before .before .before .before .before .before .loop .work) (c .before .before .before .before .before .before .before .before .before .before .before .before .before .before .before .before .loop .walk) (c .before .before .before .before .before .before .before .before .before .before .before .before .before .before .before .before .loop .list) (c .before .before .before .before .before .before .before .before .before .before .before .before .before .before .before .before .loop .at) (c .before .before .before .before .before .before .before .before .before .before .before .before .before .before .before .before .loop .verdict) (c .before .before .before .before .before .before .before .before .before .before .before .before .before .before .before .before .loop .inv .2 r is) (c .before .before .before .before .before .before .before .before .before .before .before .before .make-move .ensures) (c .before .before .before .before .before .before .before .before .before .before .before .before .before .before .before .before .loop .inv .0) _ _ (c .before .before .before .before .before .before .write-listing .ensures) (c .before .before .written .given .1)))
+loop-again c =
+    let a = c .before .before .before .before .before .before .before .before .before .before .before .before .before .before .before .before .before .before .before .before .before .before .before .before .args in
+    let l = c .before .before .before .before .before .before .before .before .before .before .before .before .before .before .before .before .loop in
+    (move-length (a .file .now) (a .types .now) (a .functions .now) (a .least .of) (a .label) (a .work .now) (a .limit) (a .base) (a .stack) (a .parameters) (a .from) (a .list .now) (l .work) (l .walk) (l .list) (l .at) (l .verdict) (l .inv .2 (a .from) (c .before .before .before .before .before .before .before .before .before .before .before .before .before .before .before .before .before .first-walk .ensures)) (c .before .before .before .before .before .before .before .before .before .before .before .before .make-move .ensures) (l .inv .0) (c .before .before .before .before .before .before .before .before .before .before .before .before .before .before .before .before .before .before .before .before .before .before .before .before .pre .0), c .before .before .before .before .before .before .write-listing .kept .1 .1 .1 .1 .1 .1 .1 .0 ∙ l .inv .1, λ r is. rw (c .verdict-after .ensures) (came-on (a .file .now) (a .types .now) (a .functions .now) (a .least .of) (a .label) (a .work .now) (a .limit) (a .base) (a .stack) (a .parameters) r (a .list .now) (l .work) (l .walk) (l .list) (l .at) (l .verdict) (l .inv .2 r is) (c .before .before .before .before .before .before .before .before .before .before .before .before .make-move .ensures) (l .inv .0) _ _ (c .before .before .before .before .before .before .write-listing .ensures) (c .before .before .written .given .1)))
 
 same-length-3 : tie.Need-same-length-3 Inv-loop μ-loop
 same-length-3 c = search needs
@@ -63,7 +80,10 @@ same-length-4 : tie.Need-same-length-4 Inv-loop μ-loop
 same-length-4 c = search needs
 
 returns-2 : tie.Need-returns-2 Inv-loop μ-loop
-returns-2 c = came-over (c .before .before .before .before .before .before .before .before .before .args .file .now) (c .before .before .before .before .before .before .before .before .before .args .types .now) (c .before .before .before .before .before .before .before .before .before .args .functions .now) (c .before .before .before .before .before .before .before .before .before .args .least .of) (c .before .before .before .before .before .before .before .before .before .args .label) (c .before .before .before .before .before .before .before .before .before .args .work .now) (c .before .before .before .before .before .before .before .before .before .args .limit) (c .before .before .before .before .before .before .before .before .before .args .base) (c .before .before .before .before .before .before .before .before .before .args .stack) (c .before .before .before .before .before .before .before .before .before .args .parameters) (c .before .before .before .before .before .before .before .before .before .args .from) (c .before .before .before .before .before .before .before .before .before .args .list .now) (c .before .before .loop .work) (c .before .before .loop .walk) (c .before .before .loop .list) (c .before .before .loop .at) (c .before .before .loop .verdict) (c .before .before .loop .inv .2 (c .before .before .before .before .before .before .before .before .before .args .from) (c .before .before .before .first-walk .ensures)) (c .before .is-active .ensures) (c .if1 .left)
+returns-2 c =
+    let a = c .before .before .before .before .before .before .before .before .before .before .args in
+    let l = c .before .before .loop in
+    came-over (a .file .now) (a .types .now) (a .functions .now) (a .least .of) (a .label) (a .work .now) (a .limit) (a .base) (a .stack) (a .parameters) (a .from) (a .list .now) (l .work) (l .walk) (l .list) (l .at) (l .verdict) (l .inv .2 (a .from) (c .before .before .before .first-walk .ensures)) (c .before .is-active .ensures) (c .if1 .left)
 
 pub explore-spec : {M : Type 1} → statement M
 explore-spec =
