@@ -28,43 +28,9 @@ use Rattle.forks.specs.Untried.{untried}
 use Rattle.forks.proofs.Untried.{untried-all}
 use Rattle.steps.specs.declared.Registers.{Registers}
 use Rattle.steps.specs.Stepping.{StandsFor, outlineOf, controlIn}
+use Rattle.steps.proofs.Waiting.{inspects}
 use Rattle.choices.specs.Choices.{Setting, Given, choiceWord, reopened, waitingAt, Path, ChoiceAt, ChoicesAt, one-choice, Pushes}
 use Rattle.choices.proofs.Keeping.{Kept, path-kept, reopened-length, reopened-other, reopened-head, reopened-first, choices-kept}
-
--- Only a case that looks at an input part waits.
-
-abbrev Inspects : State → Question → Type 0
-Inspects s q = (fs : List Frame) × (s ≡ inspecting (q .place) fs)
-
-view-waits : (p : Program) (s : State) (q : Question) → view p s ≡ waits q → Inspects s q
-unfolding view
-view-waits p (evaluating (variable n) env fs) q h = absurd (clash (cc))
-view-waits p (evaluating (call f es) env fs) q h = absurd (clash (cc))
-view-waits p (evaluating (construct t c es) env []) q h = absurd (clash (cc))
-view-waits p (evaluating (construct t c es) env (waiting alts outer ∷ fs)) q h = absurd (clash (cc))
-view-waits p (evaluating (case t e alts) env fs) q h = absurd (clash (cc))
-view-waits p (evaluating (bind t e body) env fs) q h = absurd (clash (cc))
-view-waits p (evaluating (target l e) env fs) q h = by-label (eqb l (p .label)) h
-  where
-    by-label : (b : Bool) → pick b demands (goes (evaluating e env fs)) ≡ waits q → Inspects (evaluating (target l e) env fs) q
-    by-label true g = absurd (clash (cc))
-    by-label false g = absurd (clash (cc))
-view-waits p (inspecting r []) q h = absurd (clash (cc))
-view-waits p (inspecting r (waiting alts env ∷ fs)) q h =
-    let same : r ≡ q .place = ap placeOf h in
-    (waiting alts env ∷ fs, ap (λ x. inspecting x (waiting alts env ∷ fs)) same)
-  where
-    placeOf : Next → Place
-    placeOf demands = r
-    placeOf (stops why) = r
-    placeOf (goes s) = r
-    placeOf (waits x) = x .place
-view-waits p missing q h = absurd (clash (cc))
-view-waits p stuck q h = absurd (clash (cc))
-
-inspects : (p : Program) (e : Parts) (s : State) (q : Question) → next p e s ≡ waits q → Inspects s q
-unfolding next
-inspects p e s q h = view-waits p s q ((answer-waits e (view p s) q h) .0)
 
 -- the registers that look at cell x, with the frames of others
 abbrev lookingAt : ℕ → Registers → Registers
@@ -77,8 +43,8 @@ module _ {g : Setting} {w : List ℕ} {cells done binds : ℕ} {r : Registers} {
         StateAt (g .file) (outlineOf (g .file) (g .types) (g .functions)) w (g .base) (cellOf w) (controlIn r) (r .frame) s
         → StateAt (g .file) (outlineOf (g .file) (g .types) (g .functions)) w (g .base) (cellOf w) (partIn x) (r .frame) s
     looking state-at =
-        let found = inspects (g .program) e s q asks in
-        rw (found .1) (by-state (rw (found .1) at state-at))
+        let (alts, env, fs, is) = inspects (g .program) e s q asks in
+        rw is (by-state (rw is at state-at))
       where
         by-state :
             {fs : List Frame} {c : Control}

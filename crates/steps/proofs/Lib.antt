@@ -7,3 +7,5 @@ pub mod Variables
 pub mod Choosing
 pub mod Inspecting
 pub mod Standing
+pub mod Running
+pub mod Waiting

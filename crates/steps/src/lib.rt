@@ -8,6 +8,8 @@ ghost use Rattle.machine.specs.Cells.{cellWord};
 ghost use Rattle.machine.specs.Records.{recordWord, expressionAt, partIn};
 ghost use Rattle.machine.specs.Walks.{outsideOf};
 ghost use Rattle.steps.specs.Stepping.{controlIn, Space, Standing, Ready, Wrote, Leads, Stepped, VariableThere, Group, FieldCount, Found, Chose};
+ghost use Rattle.steps.specs.Running.{BoundPart, Onward, RunsOn};
+ghost use Rattle.steps.specs.declared.Next.the-variants as Next;
 ghost use Rattle.skipping.specs.Ends.{Ends};
 use lookups::Fields;
 use lookups::constructors_of;
@@ -35,6 +37,22 @@ pub enum Next {
     Stops,
     Goes(Registers),
     Waits(usize),
+}
+
+// What steps one after the other come to: the sought target is demanded, the end, a step where none is left, or a case waits on the open part in a
+// cell.
+pub enum Halt {
+    Demands,
+    Stops,
+    Spent,
+    Waits(usize),
+}
+
+// Where they led: the registers, what they come to there, and how many steps were made.
+pub struct Ran {
+    pub registers: Registers,
+    pub halt: Halt,
+    pub steps: usize,
 }
 
 // An alternative: none, or the place of its expression.
@@ -314,8 +332,25 @@ fn step_let<'a>(
     }
 }
 
+// A case goes on with the part of the input that it looks at, which is bound to constructor c with its k fields in the cells from `first` on.
+pub fn enter_part<'a>(
+    file: &'a [u8],
+    ends: &'a [u16],
+    work: &mut [u32],
+    base: usize,
+    r: Registers,
+    c: usize,
+    k: usize,
+    first: usize,
+) -> Registers
+    requires { ⌜ ((types functions : List ℕ) × (cell : ℕ) × BoundPart (now file) types functions (now work) base cell r c k first) ⌝ }
+    ensures { λ x. ⌜ ((types functions : List ℕ) (cell label : ℕ) → BoundPart (now (file .entry)) types functions (now (work .entry)) base cell r c k first → Ends (now (file .entry)) types functions (now (ends .entry)) → Stepped (now (file .entry)) types functions (now (work .entry)) (now (work .exit)) base label r (Next.Goes x)) ⌝ }
+{
+    choose(file, ends, work, base, r, c, k, first, 0)
+}
+
 // A part of the input is the value that a waiting case looks at, or the end; the case waits where the part is open.
-pub fn step_part<'a>(
+fn step_part<'a>(
     file: &'a [u8],
     types: &'a [u16],
     ends: &'a [u16],
@@ -386,7 +421,7 @@ fn step_expression<'a>(
 }
 
 // One step.
-pub fn step<'a>(
+fn step<'a>(
     file: &'a [u8],
     types: &'a [u16],
     functions: &'a [u16],
@@ -415,5 +450,51 @@ pub fn step<'a>(
             r.env,
             r,
         ),
+    }
+}
+
+// Steps end here.
+fn halted(registers: Registers, halt: Halt, steps: usize) -> Ran
+    ensures { λ x. ⌜ x ≡ record { registers = registers; halt = halt; steps = steps } ⌝ }
+{
+    Ran {
+        registers,
+        halt,
+        steps,
+    }
+}
+
+// Steps one after the other from registers on, at most so many.
+pub fn run_on<'a>(
+    file: &'a [u8],
+    types: &'a [u16],
+    functions: &'a [u16],
+    ends: &'a [u16],
+    label: usize,
+    work: &mut [u32],
+    base: usize,
+    from: Registers,
+    left: usize,
+) -> Ran
+    requires { ⌜ Ends (now file) (now types) (now functions) (now ends) ⌝ }
+    requires { ⌜ Onward (now file) (now types) (now functions) label (now work) base from left ⌝ }
+    ensures { λ x. ⌜ RunsOn (now (file .entry)) (now (types .entry)) (now (functions .entry)) label (now (work .entry)) (now (work .exit)) base from left x ⌝ }
+{
+    let mut r = from;
+    let mut done: usize = 0;
+    loop {
+        let next = step(file, types, functions, ends, label, work, base, r);
+        match next {
+            Next::Demands => return halted(r, Halt::Demands, done),
+            Next::Stops => return halted(r, Halt::Stops, done),
+            Next::Waits(x) => return halted(r, Halt::Waits(x), done),
+            Next::Goes(to) => {
+                if left <= done {
+                    return halted(r, Halt::Spent, done);
+                }
+                r = to;
+            }
+        }
+        done += 1;
     }
 }
