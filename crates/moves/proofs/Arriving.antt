@@ -1,4 +1,4 @@
--- A path arrives at its state: what `arrive` does is what the model does, by what the step found.
+-- A path arrives at its state and goes on to its end: what `arrive` does is what the model does in as many moves, by what the last look found.
 -- Rests on specs/Moving and on choices' Keeping, Pushing, Taking and Weights.
 use Prim.Native.Nat.{ℕ, zero, suc, _+_, _*_, _-_, _≤_, _<_}
 use mathlib.Core.Path.{_≡_, refl, sym, _∙_, ap, subst}
@@ -21,6 +21,7 @@ use Rattle.steps.specs.declared.Registers.{Registers}
 use Rattle.steps.specs.declared.Next.{Next}
 use Rattle.steps.specs.declared.Next.the-variants as Next
 use Rattle.steps.specs.Stepping.{Standing, StepMeans, Stepped}
+use Rattle.steps.specs.Running.{StepsTo, no-step, one-more}
 use Rattle.choices.specs.Choices.{Setting, Given, Path, ChoicesAt, Pushes}
 use Rattle.choices.specs.Weights.{power, weight}
 use Rattle.choices.proofs.Keeping.{choices-kept, choices-more}
@@ -55,9 +56,9 @@ module _ (p : Program) (table : List ℕ) (left n : ℕ) (e : Parts) (s : State)
   gone-on :
       (l : ℕ) (s′ : State) → left ≡ suc l → Eval.next p e s ≡ Eval.goes s′
       → Model.arrive p table left n e s cs es
-      ≡ record { position = Model.on (record { state = s′; left = l; done = suc n; input = e }); choices = cs; listed = es ++ [] }
+      ≡ record { position = Model.on (record { state = s′; left = l; done = suc n; input = e }); choices = cs; listed = es }
   unfolding Model.arrive Model.settle
-  gone-on l s′ more next = rw (more, next, append-nil es)
+  gone-on l s′ more next = rw (more, next)
 
   forked :
       (l : ℕ) (q : Question) → left ≡ suc l → Eval.next p e s ≡ Eval.waits q
@@ -85,16 +86,45 @@ pub step-standing :
 step-standing {g} {cells = cells} {e = e} {s} given path =
     record { program = g .program; cells = cells; input = e; state = s; file-of = given .file-of; stands = path .stands }
 
+-- A path to which the model was led by so many moves from its first arrival on.
+pub record Led
+    (g : Setting) (w₀ : List ℕ) (bound : ℕ) (first : List Entry → Model.Walk) (w : List ℕ) (cells done height : ℕ) (r : Registers) (e : Parts) (s : State)
+    (cs : List Choice)
+    : Type 0 where
+  pub under : UnderWay g w cells done height r e s cs
+  pub made : ℕ
+  pub model-is : (es : List Entry)
+      → Model.moves (g .program) (leastDepths (g .program .types)) made (first es) ≡ Model.arrive (g .program) (leastDepths (g .program .types)) (g .limit - done) done e s cs es
+  pub no-heavier : power (g .limit - done) + weight (g .stack) (g .limit) w height ≤ bound
+  pub same-length : length w ≡ length w₀
+
+-- no move, and one more
+pub moves-none : (p : Program) (table : List ℕ) (x : Model.Walk) → Model.moves p table 0 x ≡ x
+unfolding Model.moves
+moves-none p table x = refl
+
+moves-more : (p : Program) (table : List ℕ) (n : ℕ) (x : Model.Walk) → Model.moves p table (suc n) x ≡ Model.move p table (Model.moves p table n x)
+unfolding Model.moves
+moves-more p table zero x = refl
+moves-more p table (suc n) x = moves-more p table n (Model.move p table x)
+
+on-arrives :
+    (p : Program) (table : List ℕ) (s : State) (left done : ℕ) (e : Parts) (cs : List Choice) (es : List Entry)
+    → Model.move p table (record { position = Model.on (record { state = s; left = left; done = done; input = e }); choices = cs; listed = es })
+    ≡ Model.arrive p table left done e s cs es
+unfolding Model.move Model.moveFrom
+on-arrives p table s left done e cs es = refl
+
 module _
-    {g : Setting} (given : Given g) {w : List ℕ} {cells done height : ℕ} {r : Registers} {e : Parts} {s : State} {cs : List Choice}
-    (now : UnderWay g w cells done height r e s cs) {label : ℕ} (sought : label ≡ g .program .label) {w′ : List ℕ} {n : Next}
+    {g : Setting} (given : Given g) {w₀ : List ℕ} {bound : ℕ} {first : List Entry → Model.Walk} {w : List ℕ} {cells done height : ℕ} {r : Registers} {e : Parts}
+    {s : State} {cs : List Choice} (led : Led g w₀ bound first w cells done height r e s cs) {label : ℕ} (sought : label ≡ g .program .label) {w′ : List ℕ} {n : Next}
     (stepped : Stepped (g .file) (g .types) (g .functions) w w′ (g .base) label r n)
   where
+    abbrev now : UnderWay g w cells done height r e s cs
+    now = led .under
+
     abbrev model : List Entry → Model.Walk
     model = Model.arrive (g .program) (leastDepths (g .program .types)) (g .limit - done) done e s cs
-
-    abbrev bound : ℕ
-    bound = power (g .limit - done) + weight (g .stack) (g .limit) w height
 
     means : (n′ : Next) → n ≡ n′ → StepMeans (g .file) (g .types) (g .functions) w w′ (g .base) r (g .program) e s n′
     means n′ is =
@@ -113,26 +143,27 @@ module _
     -- behind the end of the path
     behind :
         (listing : Listing) (new : List Entry) → ((es : List Entry) → model es ≡ Model.behind cs (es ++ new))
-        → Lists g w′ (ended cells done height listing .walk) listing new → Makes g w w′ bound (ended cells done height listing) model
+        → Lists g w′ (ended cells done height listing .walk) listing new → Makes g w₀ w′ bound (ended cells done height listing) first
     behind listing new model-is lists = record {
       position = Model.over;
       choices = cs;
       new = new;
-      model-is = model-is;
+      more = led .made;
+      model-is = λ es. led .model-is es ∙ model-is es;
       stands = (cells, r .records, choices-stay);
       lists = lists;
-      lighter = omega (arith, weight-stays, power-positive (g .limit - done));
-      same-length = stepped .only-top .same-length;
+      lighter = omega (arith, weight-stays, power-positive (g .limit - done), led .no-heavier);
+      same-length = stepped .only-top .same-length ∙ led .same-length;
     }
 
     entry-in : (kind : Kind) → EntryIn g w′ (ended cells done height Listing.Nothing .walk) kind (record { kind = kind; steps = done; input = e } ∷ [])
     entry-in kind = (e, refl, path-now .stands .input, path-now .typed)
 
-    pub arrive-demands : n ≡ Next.Demands → Makes g w w′ bound (ended cells done height Listing.Reached) model
+    pub arrive-demands : n ≡ Next.Demands → Makes g w₀ w′ bound (ended cells done height Listing.Reached) first
     arrive-demands is =
         behind Listing.Reached _ (λ es. demanded (g .program) _ (g .limit - done) done e s cs es (means Next.Demands is)) (entry-in RE)
 
-    pub arrive-stops : n ≡ Next.Stops → Makes g w w′ bound (ended cells done height Listing.Nothing) model
+    pub arrive-stops : n ≡ Next.Stops → Makes g w₀ w′ bound (ended cells done height Listing.Nothing) first
     arrive-stops is =
         let (why, next) = means Next.Stops is in
         behind Listing.Nothing [] (λ es. stopped (g .program) _ (g .limit - done) done e s cs es why next) refl
@@ -142,12 +173,12 @@ module _
       none : g .limit - done ≡ zero
       none = omega arith
 
-      pub arrive-spent-going : {to : Registers} → n ≡ Next.Goes to → Makes g w w′ bound (ended cells done height Listing.Unfinished) model
+      pub arrive-spent-going : {to : Registers} → n ≡ Next.Goes to → Makes g w₀ w′ bound (ended cells done height Listing.Unfinished) first
       arrive-spent-going {to} is =
           let (s′, next, follows) = means (Next.Goes to) is in
           behind Listing.Unfinished _ (λ es. spent-going (g .program) _ (g .limit - done) done e s cs es s′ none next) (entry-in UN)
 
-      pub arrive-spent-waiting : {x : ℕ} → n ≡ Next.Waits x → Makes g w w′ bound (ended cells done height Listing.Unfinished) model
+      pub arrive-spent-waiting : {x : ℕ} → n ≡ Next.Waits x → Makes g w₀ w′ bound (ended cells done height Listing.Unfinished) first
       arrive-spent-waiting {x} is =
           let (q, next, cell) = means (Next.Waits x) is in
           behind Listing.Unfinished _ (λ es. spent-waiting (g .program) _ (g .limit - done) done e s cs es q none next) (entry-in UN)
@@ -158,30 +189,28 @@ module _
       more = omega arith
 
       -- one step more
-      pub arrive-goes :
-          {to : Registers} → n ≡ Next.Goes to
-          → Makes g w w′ bound (record { walk = record { paths = 1; registers = to; cells = cells; done = done + 1; height = height }; listing = Listing.Nothing }) model
-      arrive-goes {to} is =
+      pub led-on : {to : Registers} → n ≡ Next.Goes to → (s′ : State) × Led g w₀ bound first w′ cells (suc done) height to e s′ cs
+      led-on {to} is =
           let (s′, next, follows) = means (Next.Goes to) is in
-          let one : done + 1 ≡ suc done = omega arith in
-          let path = path-goes given (now .path) (now .in-time) (stepped .only-top) follows next in
-          let under : UnderWay g w′ cells (done + 1) height to e s′ cs =
-          rw one (record {
-            path = record { stands = path .stands; typed = path .typed; steps = path .steps; few-cells = omega (arith, path .few-cells); few-records = path .few-records; long = path .long };
-            in-time = omega arith;
-            no-higher = omega (arith, now .no-higher);
-            choices = choices-more (omega arith) (follows .no-fewer) choices-stay;
-          }) in
-          record {
-            position = Model.on (record { state = s′; left = g .limit - suc done; done = suc done; input = e });
-            choices = cs;
-            new = [];
-            model-is = λ es. gone-on (g .program) _ (g .limit - done) done e s cs es (g .limit - suc done) s′ more next;
-            stands = (sym one, rw one refl, under);
-            lists = refl;
-            lighter = rw one (omega (arith, weight-stays, ap power more, power-more (g .limit - suc done), power-positive (g .limit - suc done)));
-            same-length = stepped .only-top .same-length;
-          }
+          let path = path-goes given (now .path) (now .in-time) (stepped .only-top) follows next in (
+            s′,
+            record {
+              under = record {
+                path = record { stands = path .stands; typed = path .typed; steps = path .steps; few-cells = omega (arith, path .few-cells); few-records = path .few-records; long = path .long };
+                in-time = omega arith;
+                no-higher = omega (arith, now .no-higher);
+                choices = choices-more (omega arith) (follows .no-fewer) choices-stay;
+              };
+              made = suc (led .made);
+              model-is = λ es.
+                  moves-more (g .program) _ (led .made) (first es)
+                  ∙ ap (Model.move (g .program) (leastDepths (g .program .types)))
+                  (led .model-is es ∙ gone-on (g .program) _ (g .limit - done) done e s cs es (g .limit - suc done) s′ more next)
+                  ∙ on-arrives (g .program) _ s′ (g .limit - suc done) (suc done) e cs es;
+              no-heavier = omega (arith, weight-stays, ap power more, power-more (g .limit - suc done), led .no-heavier);
+              same-length = stepped .only-top .same-length ∙ led .same-length;
+            },
+          )
 
       -- a choice point
       module _ {x : ℕ} (is : n ≡ Next.Waits x) where
@@ -219,7 +248,7 @@ module _
 
         pub arrive-waits :
             {w″ : List ℕ} → Pushes (g .stack) w′ w″ height x (r .frame) (r .records) cells done
-            → Makes g w w″ bound (ended cells done (height + 1) Listing.Nothing) model
+            → Makes g w₀ w″ bound (ended cells done (height + 1) Listing.Nothing) first
         arrive-waits {w″} pushes =
             let one : height + 1 ≡ suc height = omega arith in
             let high = choices-pushed given path-now in-time (now .no-higher) (asked .1) cell-now pushes choices-stay in
@@ -227,9 +256,50 @@ module _
               position = Model.over;
               choices = newChoice g (asked .0) done e ∷ cs;
               new = [];
-              model-is = λ es. forked (g .program) _ (g .limit - done) done e s cs es (g .limit - suc done) (asked .0) more (asked .1);
+              more = led .made;
+              model-is = λ es. led .model-is es ∙ forked (g .program) _ (g .limit - done) done e s cs es (g .limit - suc done) (asked .0) more (asked .1);
               stands = (cells, r .records, rw one high);
               lists = refl;
-              lighter = rw one (omega (arith, weight-stays, weight-pushed given path-now in-time (now .no-higher) (asked .1) cell-now pushes choices-stay));
-              same-length = pushes .same-length ∙ stepped .only-top .same-length;
+              lighter = rw one (omega (arith, led .no-heavier, weight-stays, weight-pushed given path-now in-time (now .no-higher) (asked .1) cell-now pushes choices-stay));
+              same-length = pushes .same-length ∙ stepped .only-top .same-length ∙ led .same-length;
             }
+
+-- The path under way, and those to which steps lead from it.
+module _
+    {g : Setting} (given : Given g) {w : List ℕ} {cells done height : ℕ} {r : Registers} {e : Parts} {s : State} {cs : List Choice}
+    (now : UnderWay g w cells done height r e s cs) {label : ℕ} (sought : label ≡ g .program .label)
+  where
+    abbrev bound : ℕ
+    bound = power (g .limit - done) + weight (g .stack) (g .limit) w height
+
+    abbrev arrival : List Entry → Model.Walk
+    arrival = Model.arrive (g .program) (leastDepths (g .program .types)) (g .limit - done) done e s cs
+
+    led-first : Led g w bound arrival w cells done height r e s cs
+    led-first = record { under = now; made = 0; model-is = λ es. moves-none (g .program) _ (arrival es); no-heavier = omega arith; same-length = refl }
+
+    -- some state to which so many steps lead
+    abbrev LedBy : ℕ → List ℕ → Registers → Type 0
+    LedBy n w₁ r₁ = (s₁ : State) × Led g w bound arrival w₁ cells (done + n) height r₁ e s₁ cs
+
+    led-none : LedBy 0 w r
+    led-none = let z : done + 0 ≡ done = omega arith in rw z (s, led-first)
+
+    led-more :
+        (n : ℕ) {w₁ w₂ : List ℕ} {r₁ r₂ : Registers} → LedBy n w₁ r₁ → Stepped (g .file) (g .types) (g .functions) w₁ w₂ (g .base) label r₁ (Next.Goes r₂)
+        → done + suc n ≤ g .limit → LedBy (suc n) w₂ r₂
+    led-more n (s₁, led) stepped in-time =
+        let z : done + suc n ≡ suc (done + n) = omega arith in
+        rw z (led-on given led sought stepped (omega arith) refl)
+
+    pub led-by :
+        {n : ℕ} {w₁ : List ℕ} {r₁ : Registers} → StepsTo (g .file) (g .types) (g .functions) label (g .base) n w r w₁ r₁ → done + n ≤ g .limit
+        → LedBy n w₁ r₁
+    led-by no-step in-time = led-none
+    led-by (one-more {n = n} before stepped) in-time = led-more n (led-by before (omega arith)) stepped in-time
+
+    -- so a step may be made there
+    pub led-standing :
+        {n : ℕ} {w₁ : List ℕ} {r₁ : Registers} → n ≤ g .limit - done → StepsTo (g .file) (g .types) (g .functions) label (g .base) n w r w₁ r₁
+        → Standing (g .file) (g .types) (g .functions) w₁ (g .base) r₁
+    led-standing {n} few steps = let (s₁, led) = led-by steps (omega (arith, now .in-time)) in step-standing given (led .under .path)

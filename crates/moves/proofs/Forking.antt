@@ -3,6 +3,7 @@
 use Prim.Native.Nat.{ℕ, suc, _+_, _*_, _-_, _≤_, _<_}
 use mathlib.Core.Path.{_≡_, refl, sym, _∙_, ap, subst}
 use mathlib.Core.List.{List, _∷_}
+use mathlib.Core.Option.{some, Option·some-injective}
 use native.Mathlib.Omega.{arith}
 use lib.ListN.{length}
 use Rattle.reach.specs.Syntax.{Program, sourceTypes}
@@ -14,16 +15,18 @@ use Rattle.reach.specs.Eval.{answered}
 use Rattle.reach.specs.Search.{Entry}
 use Rattle.reach.specs.Moves as Model
 use Rattle.reach.specs.Moves.{Choice, takeFork}
-use Rattle.reach.proofs.Base.{clash}
 use Rattle.reach.proofs.Limits.{accepted-keeps}
 use Rattle.reach.proofs.NeverStuck.{never-stuck}
 use Rattle.machine.specs.Cells.{cellWord, cellOf, Binds}
+use Rattle.lookups.specs.Fields.{fieldsIn}
 use Rattle.cells.proofs.Writing.{bytes-length}
 use Rattle.cells.proofs.Rooms.{cell-room}
 use Rattle.steps.specs.declared.Registers.{Registers}
 use Rattle.steps.specs.declared.Next.{Next}
 use Rattle.steps.specs.declared.Next.the-variants as Next
-use Rattle.steps.specs.Stepping.{Standing, StepMeans, Stepped}
+use Rattle.steps.specs.Stepping.{StepMeans, Stepped, FieldCount}
+use Rattle.steps.specs.Running.{BoundPart}
+use Rattle.steps.proofs.Waiting.{waits-control}
 use Rattle.choices.specs.Choices.{Setting, Given, choiceWord, reopened, waitingAt, Path, ChoicesAt}
 use Rattle.choices.specs.Weights.{power, weight}
 use Rattle.choices.specs.Returning.{setting}
@@ -31,7 +34,7 @@ use Rattle.choices.proofs.Keeping.{reopened-other, there, cell-below, choices-k
 use Rattle.choices.proofs.Taking.{path-taken, goes-taken, choices-taken, step-kept, path-goes}
 use Rattle.choices.proofs.Weights.{weight-kept, weight-taken}
 use Rattle.choices.proofs.Returning.{stack-small, height-small, long, cells-small}
-use Rattle.moves.specs.Moving.{UnderWay, ComesTo, registersAfter, Forking, SomeForking, Takes}
+use Rattle.moves.specs.Moving.{UnderWay, ComesTo, Forking, Takes}
 use Rattle.moves.proofs.Arriving.{step-standing}
 
 -- the model's fork, where the choice point's numbers are known
@@ -120,24 +123,32 @@ module _ {g : Setting} (given : Given g) {w : List ℕ} {h n i k : ℕ} (f : For
     in-time₁ : d ≤ g .limit
     in-time₁ = omega (arith, f .next-at .choice-at .in-time)
 
-    pub take-standing : Standing (g .file) (g .types) (g .functions) w₁ (g .base) (waitingAt (g .stack) w h)
-    take-standing = step-standing given path₁
+    -- as many fields as its type says
+    counted : FieldCount (g .file) (g .types) (cellWord w₁ x 2) n k
+    counted =
+        let type-kept : cellWord w₁ x 2 ≡ cellWord w x 2 =
+        binds .elsewhere (5 * x + 2) (omega arith) (omega arith) (λ l. absurd (omega (arith, cell-below (f .next-at .choice-at)))) in
+        let known : fieldsIn (g .file) (g .types) (cellWord w₁ x 2) n ≡ some (bytesAt (g .file) i k) =
+        rw (type-kept, ← given .file-of .types-there) (f .next-at .known) in
+        (λ us are. many ∙ ap length (Option·some-injective _ _ (sym known ∙ are)), omega (arith, few))
+
+    -- its case goes on with it
+    pub take-bound : BoundPart (g .file) (g .types) (g .functions) w₁ (g .base) x (waitingAt (g .stack) w h) n k (choiceWord (g .stack) w h 4)
+    take-bound = record {
+      standing = step-standing given path₁;
+      is-part = refl;
+      some-frame = waits-control (f .next-at .choice-at .path .stands) (f .next-at .choice-at .asks) .1;
+      head-is = binds .new-head;
+      first-is = binds .first-field;
+      fields = counted;
+      small = (omega (arith, f .next-at .small), omega (arith, cells-small given (f .next-at .choice-at)));
+    }
 
     module _ {label : ℕ} (sought : label ≡ g .program .label) {w₂ : List ℕ} {next : Next} (stepped : Stepped (g .file) (g .types) (g .functions) w₁ w₂ (g .base) label (waitingAt (g .stack) w h) next) where
       means : (n′ : Next) → next ≡ n′ → StepMeans (g .file) (g .types) (g .functions) w₁ w₂ (g .base) (waitingAt (g .stack) w h) (g .program) bound (f .next-at .choice-at .state) n′
       means n′ is =
           subst (StepMeans (g .file) (g .types) (g .functions) w₁ w₂ (g .base) (waitingAt (g .stack) w h) (g .program) bound (f .next-at .choice-at .state)) is
           (stepped .steps (g .program) sought (choiceWord (g .stack) w h 4 + k) bound (f .next-at .choice-at .state) (given .file-of) (path₁ .stands))
-
-      -- the step goes on
-      pub goes-on : (to : Registers) × (next ≡ Next.Goes to)
-      goes-on = by-next next refl
-        where
-          by-next : (n′ : Next) → next ≡ n′ → (to : Registers) × (next ≡ Next.Goes to)
-          by-next Next.Demands is = absurd (clash (cc (means Next.Demands is, on)))
-          by-next Next.Stops is = let (why, stop) = means Next.Stops is in absurd (clash (cc (stop, on)))
-          by-next (Next.Goes to) is = (to, is)
-          by-next (Next.Waits y) is = let (q, wait, cell) = means (Next.Waits y) is in absurd (clash (cc (wait, on)))
 
       module _ {to : Registers} (is : next ≡ Next.Goes to) where
         kept₂ : weight (g .stack) (g .limit) w₂ (suc h) ≡ weight (g .stack) (g .limit) w₁ (suc h)
@@ -191,18 +202,18 @@ module _
     bound-there : Binds w w₁ (choiceWord stack w h 0) n (choiceWord stack w h 4) k (bytesAt file i k) (cellWord w (choiceWord stack w h 0) 3 - 1)
     bound-there = rw (x-is, cells-is) at binds
 
-    pub fork-standing : SomeForking file types functions w base stack h n i k → Standing file types functions w₁ base from
-    fork-standing (least, p, limit, given, f) = rw (x-is, frame-is, records-is) (take-standing given f bound-there)
+    pub fork-bound :
+        (least : List ℕ) (p : Program) (limit : ℕ) → Given (setting file types functions least p limit base stack)
+        → Forking (setting file types functions least p limit base stack) w h n i k → BoundPart file types functions w₁ base x from n k cells
+    fork-bound least p limit given f = rw (x-is, frame-is, records-is, cells-is) (take-bound given f bound-there)
 
     module _
-        {w₂ : List ℕ} {next : Next} {to : Registers} (stepped : (label : ℕ) → Stepped file types functions w₁ w₂ base label from next)
-        (to-is : to ≡ registersAfter next from)
+        {w₂ : List ℕ} {to : Registers}
+        (stepped : (label : ℕ) → BoundPart file types functions w₁ base x from n k cells → Stepped file types functions w₁ w₂ base label from (Next.Goes to))
       where
-        stepped-there : (label : ℕ) → Stepped file types functions w₁ w₂ base label (waitingAt stack w h) next
-        stepped-there label = rw (x-is, frame-is, records-is) at (stepped label)
-
-        to-there : (y : Registers) → next ≡ Next.Goes y → to ≡ y
-        to-there y is = to-is ∙ ap (λ m. registersAfter m from) is
+        stepped-there :
+            (label : ℕ) → BoundPart file types functions w₁ base x from n k cells → Stepped file types functions w₁ w₂ base label (waitingAt stack w h) (Next.Goes to)
+        stepped-there label bound = rw (x-is, frame-is, records-is) at (stepped label bound)
 
         pub fork-takes :
             Takes file types functions w w₂ base stack h n i k (record { paths = 1; registers = to; cells = cells + k; done = done + 1; height = h + 1 })
@@ -215,5 +226,4 @@ module _
                 (record { paths = 1; registers = to; cells = cells + k; done = done + 1; height = h + 1 })
                 (takeFork p (leastDepths (p .types)) (f .choice) (record { constructor = n; fields = k }) (f .next-at .rest) (f .before)) to
             taken-there least p limit given f =
-                let (y, is) = goes-on given f bound-there refl (stepped-there (p .label)) in
-                rw (cells-is, done-is, to-there y is) (taken given f bound-there refl (stepped-there (p .label)) is)
+                rw (cells-is, done-is) (taken given f bound-there refl (stepped-there (p .label) (fork-bound least p limit given f)) refl)

@@ -24,7 +24,7 @@ use Rattle.moves.specs.declared.Walk.{Walk}
 use Rattle.moves.specs.declared.Listing.the-variants as Listing
 use Rattle.moves.specs.declared.Moved.{Moved}
 use Rattle.moves.specs.Moving.{positionOf, endedWalk, PositionAt, StandsAs, positionWeight, walkWeight, ComesTo, ResumesAt, SomeUnderWay, Arrives, SomeForking, Takes, ActiveAt, Active, Resumable, Resumes, Standing, Moves}
-use Rattle.moves.proofs.Arriving.{ended}
+use Rattle.moves.proofs.Arriving.{ended, moves-none}
 
 move-over : (p : Program) (table : List ℕ) (cs : List Choice) (es : List Entry) → moveFrom p table Model.over cs es ≡ return p table cs es
 unfolding moveFrom
@@ -92,8 +92,9 @@ module _ (file types functions least : List ℕ) (w : List ℕ) (base stack : �
             position = Model.over;
             choices = [];
             new = [];
+            more = 0;
             model-is = λ es.
-                ap (λ y. moveFrom p (leastDepths (p .types)) y cs es) over ∙ move-over p (leastDepths (p .types)) cs es ∙ returns es
+                moves-none p _ (moveFrom p (leastDepths (p .types)) at cs es) ∙ ap (λ y. moveFrom p (leastDepths (p .types)) y cs es) over ∙ move-over p (leastDepths (p .types)) cs es ∙ returns es
                 ∙ ap (λ zs. Model.behind [] zs) (sym (append-nil es));
             stands = (some, records, none);
             lists = refl;
@@ -186,7 +187,8 @@ module _
             position = makes .position;
             choices = makes .choices;
             new = makes .new;
-            model-is = λ es. comes .model-is es ∙ makes .model-is es;
+            more = makes .more;
+            model-is = λ es. ap (Model.moves p (leastDepths (p .types)) (makes .more)) (comes .model-is es) ∙ makes .model-is es;
             stands = makes .stands;
             lists = makes .lists;
             lighter = omega (arith, makes .lighter, comes .no-heavier);

@@ -1,4 +1,5 @@
--- Where the search stands between two moves, in the words and in numbers, and what a move promises: it is a move of reach's Moves.
+-- Where the search stands between two moves, in the words and in numbers, and what `make_move` promises: it makes moves of reach's
+-- Moves, those of one path to its end.
 -- Rests on reach's Moves, on choices' Choices, Weights and Returning, and on the types of src/lib.rt.
 use Prim.Native.Nat.{ℕ, zero, suc, _+_, _-_, _≤_, _<_}
 use mathlib.Core.Path.{_≡_}
@@ -13,8 +14,6 @@ use Rattle.reach.specs.Moves as Model
 use Rattle.reach.specs.Moves.{Choice, takeFork, moveFrom}
 use Rattle.machine.specs.Cells.{Cells}
 use Rattle.steps.specs.declared.Registers.{Registers}
-use Rattle.steps.specs.declared.Next.{Next}
-use Rattle.steps.specs.declared.Next.the-variants as Next
 use Rattle.choices.specs.Choices.{Setting, Given, choiceWord, reopened, Path, ChoicesAt}
 use Rattle.choices.specs.Weights.{power, weight}
 use Rattle.choices.specs.Returning.{setting, NextAt}
@@ -73,12 +72,15 @@ positionWeight limit done Position.Over = 0
 abbrev pub walkWeight : ℕ → ℕ → List ℕ → Walk → ℕ
 walkWeight stack limit w x = positionWeight limit (x .done) (positionOf (x .paths) (x .registers)) + weight stack limit w (x .height)
 
--- What is done is what the model does, whatever is listed already; it lists these entries more, and is lighter than so much.
+-- What is done is what the model does in its first move and so many more, whatever is listed already; it lists these entries, and is lighter than so
+-- much.
 pub record Makes (g : Setting) (w w′ : List ℕ) (bound : ℕ) (m : Moved) (model : List Entry → Model.Walk) : Type 0 where
   pub position : Model.Position
   pub choices : List Choice
   pub new : List Entry
-  pub model-is : (es : List Entry) → model es ≡ record { position = position; choices = choices; listed = es ++ new }
+  pub more : ℕ
+  pub model-is : (es : List Entry)
+      → Model.moves (g .program) (leastDepths (g .program .types)) more (model es) ≡ record { position = position; choices = choices; listed = es ++ new }
   pub stands : StandsAs g w′ (m .walk) position choices
   pub lists : Lists g w′ (m .walk) (m .listing) new
   pub lighter : walkWeight (g .stack) (g .limit) w′ (m .walk) < bound
@@ -107,20 +109,13 @@ SomeUnderWay file types functions label w limit base stack cells done height r =
     (least : List ℕ) × (p : Program) × (e : Parts) × (s : State) × (cs : List Choice) × Given (setting file types functions least p limit base stack)
     × (label ≡ p .label) × UnderWay (setting file types functions least p limit base stack) w cells done height r e s cs
 
--- a path arrives at its state
+-- a path arrives at its state and goes on to its end
 abbrev pub Arrives : List ℕ → List ℕ → List ℕ → ℕ → List ℕ → List ℕ → ℕ → ℕ → ℕ → ℕ → ℕ → ℕ → Registers → Moved → Type 0
 Arrives file types functions label w w′ limit base stack cells done height r m =
     (least : List ℕ) (p : Program) (e : Parts) (s : State) (cs : List Choice) → Given (setting file types functions least p limit base stack)
     → label ≡ p .label → UnderWay (setting file types functions least p limit base stack) w cells done height r e s cs
     → Makes (setting file types functions least p limit base stack) w w′ (power (limit - done) + weight stack limit w height) m
     (Model.arrive p (leastDepths (p .types)) (limit - done) done e s cs)
-
--- the registers to which a step goes on, or else those from which it began
-abbrev pub registersAfter : Next → Registers → Registers
-registersAfter Next.Demands from = from
-registersAfter Next.Stops from = from
-registersAfter (Next.Goes to) from = to
-registersAfter (Next.Waits x) from = from
 
 -- A choice point that takes its next constructor, with those before it.
 pub record Forking (g : Setting) (w : List ℕ) (h n i k : ℕ) : Type 0 where
@@ -171,7 +166,7 @@ Standing file types functions least label w limit base stack x =
     (p : Program) × (position : Model.Position) × (cs : List Choice) × Given (setting file types functions least p limit base stack) × (label ≡ p .label)
     × StandsAs (setting file types functions least p limit base stack) w x position cs
 
--- one move
+-- one move or more
 abbrev pub Moves : List ℕ → List ℕ → List ℕ → List ℕ → ℕ → List ℕ → List ℕ → ℕ → ℕ → ℕ → Walk → Moved → Type 0
 Moves file types functions least label w w′ limit base stack x m =
     (p : Program) (position : Model.Position) (cs : List Choice) → Given (setting file types functions least p limit base stack) → label ≡ p .label

@@ -3,17 +3,17 @@
 ghost use mathlib.Core.Path.{_≡_};
 ghost use Prim.Native.Nat.{_≤_};
 ghost use Rattle.skipping.specs.Ends.{Ends};
-ghost use Rattle.moves.specs.Moving.{positionOf, endedWalk, registersAfter, SomeUnderWay, Arrives, SomeForking, Takes, Active, Resumable, Resumes, Standing, Moves};
+ghost use Rattle.moves.specs.Moving.{positionOf, endedWalk, SomeUnderWay, Arrives, SomeForking, Takes, Active, Resumable, Resumes, Standing, Moves};
 use cells::bind_cell;
 use choices::Return;
 use choices::choice_word;
 use choices::find_return;
 use choices::push_choice;
 use depths::Depths;
-use steps::Next;
+use steps::Halt;
 use steps::Registers;
-use steps::step;
-use steps::step_part;
+use steps::enter_part;
+use steps::run_on;
 
 // Where the search stands: on a path, whose registers these are, or behind the end of one.
 pub enum Position {
@@ -83,7 +83,7 @@ fn over(cells: usize, done: usize, height: usize, listing: Listing) -> Moved
     }
 }
 
-// The path arrives at its state: one step more, or the end of the path, or a choice point where a case waits.
+// The path arrives at its state and goes on to its end, or to a choice point where a case waits.
 fn arrive<'a>(
     file: &'a [u8],
     types: &'a [u16],
@@ -103,44 +103,31 @@ fn arrive<'a>(
     requires { ⌜ Ends (now file) (now types) (now functions) (now ends) ⌝ }
     ensures { λ m. ⌜ Arrives (now (file .entry)) (now (types .entry)) (now (functions .entry)) label (now (work .entry)) (now (work .exit)) limit base stack cells done height r m ⌝ }
 {
-    let next = step(file, types, functions, ends, label, work, base, r);
-    match next {
-        Next::Demands => return over(cells, done, height, Listing::Reached),
-        Next::Stops => return over(cells, done, height, Listing::Nothing),
-        Next::Goes(to) => {
-            if done < limit {
-                return Moved {
-                    walk: Walk {
-                        paths: 1,
-                        registers: to,
-                        cells,
-                        done: done + 1,
-                        height,
-                    },
-                    listing: Listing::Nothing,
-                };
+    let ran = run_on(
+        file,
+        types,
+        functions,
+        ends,
+        label,
+        work,
+        base,
+        r,
+        limit - done,
+    );
+    let halt = ran.halt;
+    let at = ran.registers;
+    let total = done + ran.steps;
+    match halt {
+        Halt::Demands => return over(cells, total, height, Listing::Reached),
+        Halt::Stops => return over(cells, total, height, Listing::Nothing),
+        Halt::Spent => return over(cells, total, height, Listing::Unfinished),
+        Halt::Waits(x) => {
+            if limit <= total {
+                return over(cells, total, height, Listing::Unfinished);
             }
-            return over(cells, done, height, Listing::Unfinished);
+            push_choice(work, stack, height, x, at.frame, at.records, cells, total);
+            return over(cells, total, height + 1, Listing::Nothing);
         }
-        Next::Waits(x) => {
-            if limit <= done {
-                return over(cells, done, height, Listing::Unfinished);
-            }
-            push_choice(work, stack, height, x, r.frame, r.records, cells, done);
-            return over(cells, done, height + 1, Listing::Nothing);
-        }
-    }
-}
-
-// The registers to which a step goes on, or else those from which it began.
-fn registers_after(next: Next, from: Registers) -> Registers
-    ensures { λ r. ⌜ r ≡ registersAfter next from ⌝ }
-{
-    match next {
-        Next::Demands => from,
-        Next::Stops => from,
-        Next::Goes(to) => to,
-        Next::Waits(_) => from,
     }
 }
 
@@ -176,8 +163,7 @@ fn take_fork<'a>(
         frame,
         records,
     };
-    let next = step_part(file, types, ends, work, base, x, from);
-    let to = registers_after(next, from);
+    let to = enter_part(file, ends, work, base, from, c, k, cells);
     Walk {
         paths: 1,
         registers: to,

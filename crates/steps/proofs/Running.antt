@@ -10,7 +10,7 @@ use Rattle.steps.specs.declared.Registers.{Registers}
 use Rattle.steps.specs.declared.Next.{Next}
 use Rattle.steps.specs.declared.Next.the-variants as Next
 use Rattle.steps.specs.declared.Halt.{Halt}
-use Rattle.steps.specs.declared.Halt.the-variants as Halt
+use Rattle.steps.specs.declared.Ran.{Ran}
 use Rattle.steps.specs.Stepping.{Stepped, FieldCount, Chose}
 use Rattle.steps.specs.Running.{BoundPart, StepsTo, ComesToHalt, RunsOn}
 use Rattle.steps.proofs.Inspecting.{part-chooses, part-goes}
@@ -27,6 +27,13 @@ module _ (file types functions : List ℕ) (label : ℕ) where
       → ComesToHalt file types functions label w₁ w₂ base r done left halt
       → RunsOn file types functions label w w₂ base from left (record { registers = r; halt = halt; steps = done })
   ran {w₁ = w₁} halt led no-more comes = record { between = w₁; led = led; no-more = no-more; comes = comes }
+
+  -- what they came to
+  pub comes-so :
+      {w w′ : List ℕ} {base left : ℕ} {from : Registers} {x : Ran} (ran-on : RunsOn file types functions label w w′ base from left x) (halt : Halt) → x .halt ≡ halt
+      → ComesToHalt file types functions label (ran-on .between) w′ base (x .registers) (x .steps) left halt
+  comes-so {w′ = w′} {base} {left} {x = x} ran-on halt is =
+      subst (ComesToHalt file types functions label (ran-on .between) w′ base (x .registers) (x .steps) left) is (ran-on .comes)
 
 -- A case that goes on with a bound part.
 module _
