@@ -19,9 +19,9 @@ use Rattle.reach.specs.Places.{typeAt}
 use Rattle.reach.specs.Search.{Kind, RE, UN, Entry, search, openInput, entries, verdict}
 use Rattle.reach.specs.Lists.{entryBytes, listBytes, written}
 use Rattle.reach.specs.Moves as Model
-use Rattle.reach.specs.Moves.{Choice, move, moveFrom}
+use Rattle.reach.specs.Moves.{Choice, move, moveFrom, moves}
 use Rattle.reach.proofs.Base.{clash}
-use Rattle.reach.proofs.Moves.{choicesOwed, owedFrom, owed, move-keeps}
+use Rattle.reach.proofs.Moves.{choicesOwed, owedFrom, owed, move-keeps, moves-keep}
 use Rattle.machine.specs.Cells.{Cells}
 use Rattle.steps.specs.declared.Registers.{Registers}
 use Rattle.choices.specs.Choices.{Setting, Given, AllOpen, ChoicesAt, no-choice, one-choice}
@@ -71,14 +71,15 @@ nothing-owed : (p : Program) (table : List ℕ) → owedFrom p table Model.over 
 unfolding owedFrom choicesOwed flatMap
 nothing-owed p table = refl
 
--- a move keeps the entries that are listed and still to come
+-- moves keep the entries that are listed and still to come
 moved-keeps :
-    (p : Program) (table : List ℕ) (position position′ : Model.Position) (cs cs′ : List Choice) (es new : List Entry)
-    → moveFrom p table position cs es ≡ record { position = position′; choices = cs′; listed = es ++ new }
+    (p : Program) (table : List ℕ) (position position′ : Model.Position) (cs cs′ : List Choice) (es new : List Entry) (more : ℕ)
+    → moves p table more (moveFrom p table position cs es) ≡ record { position = position′; choices = cs′; listed = es ++ new }
     → (es ++ new) ++ owedFrom p table position′ cs′ ≡ es ++ owedFrom p table position cs
 unfolding owed move
-moved-keeps p table position position′ cs cs′ es new is =
-    ap (λ (y : Model.Walk). y .listed ++ owed p table y) (sym is) ∙ move-keeps p table (record { position = position; choices = cs; listed = es })
+moved-keeps p table position position′ cs cs′ es new more is =
+    ap (λ (y : Model.Walk). y .listed ++ owed p table y) (sym is) ∙ moves-keep p table more (moveFrom p table position cs es) .0
+    ∙ move-keeps p table (record { position = position; choices = cs; listed = es })
 
 verdict-none : verdict [] ≡ Verdict.None
 unfolding verdict
@@ -183,7 +184,7 @@ module _ (file types functions least : List ℕ) (label : ℕ) (w₀ : List ℕ)
           let now = came p begins in
           let made = makes p begins in
           ap (λ (es : List Entry). (now .listed ++ es) ++ owedFrom p (leastDepths (p .types)) (made .position) (made .choices)) (sym is)
-          ∙ moved-keeps p (leastDepths (p .types)) (now .position) (made .position) (now .choices) (made .choices) (now .listed) (made .new) (made .model-is (now .listed))
+          ∙ moved-keeps p (leastDepths (p .types)) (now .position) (made .position) (now .choices) (made .choices) (now .listed) (made .new) (made .more) (made .model-is (now .listed))
           ∙ now .owed-is
 
       -- the input of an entry that a move lists

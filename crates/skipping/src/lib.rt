@@ -41,7 +41,7 @@ fn pass_alternative<'a>(file: &'a [u8], ends: &'a [u16], at: usize) -> usize
 pub fn pass_alternatives<'a>(file: &'a [u8], ends: &'a [u16], at: usize, n: usize) -> usize
     requires { ⌜ (at < 4294967296) × (n < 4294967296) ⌝ }
     ensures { λ r. ⌜ r ≡ passedAlternatives (now (file .entry)) (now (ends .entry)) n at ⌝ }
-    ensures near { λ r. ⌜ r ≤ 8600000000 ⌝ }
+    ensures near { λ r. ⌜ r ≤ max at 65535 + n ⌝ }
 {
     let mut place = at;
     let mut left = n;
