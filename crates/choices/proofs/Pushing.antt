@@ -2,34 +2,29 @@
 -- Rests on Keeping, on reach's Evaluation and NeverStuck, and on forks' laws.
 use Prim.Native.Nat.{ℕ, suc, _+_, _*_, _-_, _≤_, _<_}
 use mathlib.Core.Path.{_≡_, refl, sym, _∙_, ap, subst}
-use mathlib.Core.Bool.{Bool, true, false}
-use mathlib.Core.List.{List, [], _∷_}
-use mathlib.Core.Logic.{_≢_}
+use mathlib.Core.List.{List, _∷_}
 use mathlib.Core.Option.{some}
 use native.Mathlib.Decide.{ℕ-discrete}
 use native.Mathlib.Omega.{arith}
 use lib.ListN.{length, getD}
-use lib.Dec.{eqb}
-use Rattle.reach.specs.Base.{pick}
-use Rattle.reach.specs.Syntax.{Expr, variable, call, construct, case, bind, target, Types, Program}
-use Rattle.reach.specs.Parts.{Parts, Place, free, at}
+use Rattle.reach.specs.Syntax.{case, Types, Program}
+use Rattle.reach.specs.Parts.{Parts, free, at}
 use Rattle.reach.specs.Types.{Slot, sourceSlots, slotAt, forks, forksAt, leastDepths}
-use Rattle.reach.specs.Eval.{State, evaluating, inspecting, missing, stuck, Frame, waiting, Question, Next, demands, stops, goes, waits, view, next}
+use Rattle.reach.specs.Eval.{State, inspecting, Frame, Question, waits, next}
 use Rattle.reach.specs.Search.{branches}
 use Rattle.reach.specs.Moves.{Choice}
-use Rattle.reach.proofs.Base.{clash}
 use Rattle.reach.proofs.Order.{There}
-use Rattle.reach.proofs.Evaluation.{answer-waits, waits-free}
+use Rattle.reach.proofs.Evaluation.{waits-free}
 use Rattle.reach.proofs.NeverStuck.{PartHas, never-stuck}
 use Rattle.machine.specs.Cells.{cellWord, cellOf}
 use Rattle.machine.proofs.Cells.{kept-cells}
-use Rattle.machine.specs.Records.{Control, partIn, StateAt, inspecting-at, evaluating-at, missing-at}
+use Rattle.machine.specs.Records.{Control, partIn, StateAt, inspecting-at}
 use Rattle.forks.specs.Untried.{untried}
 use Rattle.forks.proofs.Untried.{untried-all}
 use Rattle.steps.specs.declared.Registers.{Registers}
-use Rattle.steps.specs.Stepping.{StandsFor, outlineOf, controlIn}
+use Rattle.steps.specs.Stepping.{outlineOf, controlIn}
 use Rattle.steps.proofs.Waiting.{inspects}
-use Rattle.choices.specs.Choices.{Setting, Given, choiceWord, reopened, waitingAt, Path, ChoiceAt, ChoicesAt, one-choice, Pushes}
+use Rattle.choices.specs.Choices.{Setting, Given, choiceWord, reopened, Path, ChoiceAt, ChoicesAt, one-choice, Pushes}
 use Rattle.choices.proofs.Keeping.{Kept, path-kept, reopened-length, reopened-other, reopened-head, reopened-first, choices-kept}
 
 -- the registers that look at cell x, with the frames of others

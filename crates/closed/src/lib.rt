@@ -174,17 +174,17 @@ fn go_on<'a>(
         done += 1;
     }
     let turn = advance(
-            file,
-            types,
-            functions,
-            ends,
-            label,
-            input,
-            work,
-            base,
-            cells,
-            r,
-        );
+        file,
+        types,
+        functions,
+        ends,
+        label,
+        input,
+        work,
+        base,
+        cells,
+        r,
+    );
     let next = turn.next;
     last(next, done)
 }

@@ -1,4 +1,4 @@
--- Where the search stands between two moves, in the words and in numbers, and what `make_move` promises: it makes moves of reach's
+-- Where the search stands between two moves, in the words and in numbers, and what `make_moves` promises: it makes moves of reach's
 -- Moves, those of one path to its end.
 -- Rests on reach's Moves, on choices' Choices, Weights and Returning, and on the types of src/lib.rt.
 use Prim.Native.Nat.{ℕ, zero, suc, _+_, _-_, _≤_, _<_}

@@ -1,5 +1,5 @@
 // The moves of the search: a step of the path under way, a fork to its first constructor, or a return to the last choice point with
-// a constructor left, taking it. Rests on crates cells, steps and choices.
+// a constructor left, taking it. One call makes the moves of a path up to its end. Rests on crates cells, steps and choices.
 ghost use mathlib.Core.Path.{_≡_};
 ghost use Prim.Native.Nat.{_≤_};
 ghost use Rattle.skipping.specs.Ends.{Ends};
@@ -31,14 +31,14 @@ pub struct Walk {
     pub height: usize,
 }
 
-// What a move lists of the input in the cells: nothing, or that it reaches the target, or that its steps are used up.
+// What a path lists of the input in the cells at its end: nothing, or that it reaches the target, or that its steps are used up.
 pub enum Listing {
     Nothing,
     Reached,
     Unfinished,
 }
 
-// The search after a move, and what the move lists.
+// The search after the moves of a path, and what the path lists.
 pub struct Moved {
     pub walk: Walk,
     pub listing: Listing,
@@ -73,7 +73,7 @@ fn ended(cells: usize, done: usize, height: usize) -> Walk
     }
 }
 
-// Behind the end of a path, with what the move lists.
+// Behind the end of a path, with what it lists.
 fn over(cells: usize, done: usize, height: usize, listing: Listing) -> Moved
     ensures { λ m. ⌜ m ≡ record { walk = endedWalk cells done height; listing = listing } ⌝ }
 {
@@ -193,10 +193,22 @@ fn go_back<'a>(
     let Return::To(h, c, fields, k) = found else {
         return ended(walk.cells, walk.done, 0);
     };
-    take_fork(file, types, functions, ends, work, base, stack, h, c, fields, k)
+    take_fork(
+        file,
+        types,
+        functions,
+        ends,
+        work,
+        base,
+        stack,
+        h,
+        c,
+        fields,
+        k,
+    )
 }
 
-// The path whose arrival is the next move: the one under way, or behind its end the one to which the search goes back. Where there
+// The path that the search goes on with: the one under way, or behind its end the one to which the search goes back. Where there
 // is none the search is over.
 fn resume<'a>(
     file: &'a [u8],
@@ -219,8 +231,8 @@ fn resume<'a>(
     walk
 }
 
-// One move: the path that the search goes on with arrives at its state.
-pub fn make_move<'a>(
+// The moves of the path that the search goes on with: it arrives at its state and goes on to its end.
+pub fn make_moves<'a>(
     file: &'a [u8],
     types: &'a [u16],
     functions: &'a [u16],

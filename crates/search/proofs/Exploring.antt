@@ -1,30 +1,28 @@
 -- The loop of `explore`: the search came from its beginning to where it stands, with the entries listed so far; they and those still to come are the
 -- program's list.
 -- Rests on specs/Exploring, on Cutting, on reach's Moves and on listing's laws.
-use Prim.Native.Nat.{ℕ, zero, suc, _+_, _*_, _-_, _≤_, _<_}
+use Prim.Native.Nat.{ℕ, zero, suc, _+_, _-_, _≤_, _<_}
 use mathlib.Core.Path.{_≡_, refl, sym, _∙_, ap, subst}
 use mathlib.Core.Bool.{Bool, true, false}
-use mathlib.Core.List.{List, [], _∷_, _++_, append-nil, append-assoc, flatMap, map}
+use mathlib.Core.List.{List, [], _∷_, _++_, append-nil, append-assoc, flatMap}
 use native.Mathlib.Omega.{arith}
-use lib.ListN.{length, take, drop}
+use lib.ListN.{length}
 use lib.Dec.{ltb}
 use borrow.Author.Tests.{ltb-true, ltb-false}
 use Rattle.reach.specs.declared.Verdict.{Verdict}
 use Rattle.reach.specs.declared.Verdict.the-variants as Verdict
 use Rattle.reach.specs.Syntax.{Program, sourceTypes}
 use Rattle.reach.specs.Parts.{Parts, prefix}
-use Rattle.reach.specs.Types.{Typed, sourceSlots, leastDepths}
+use Rattle.reach.specs.Types.{sourceSlots, leastDepths}
 use Rattle.reach.specs.Eval.{start}
-use Rattle.reach.specs.Places.{typeAt}
 use Rattle.reach.specs.Search.{Kind, RE, UN, Entry, search, openInput, entries, verdict}
 use Rattle.reach.specs.Lists.{entryBytes, listBytes, written}
 use Rattle.reach.specs.Moves as Model
 use Rattle.reach.specs.Moves.{Choice, move, moveFrom, moves}
 use Rattle.reach.proofs.Base.{clash}
 use Rattle.reach.proofs.Moves.{choicesOwed, owedFrom, owed, move-keeps, moves-keep}
-use Rattle.machine.specs.Cells.{Cells}
 use Rattle.steps.specs.declared.Registers.{Registers}
-use Rattle.choices.specs.Choices.{Setting, Given, AllOpen, ChoicesAt, no-choice, one-choice}
+use Rattle.choices.specs.Choices.{Setting, AllOpen, ChoicesAt, no-choice, one-choice}
 use Rattle.choices.specs.Returning.{setting}
 use Rattle.choices.proofs.Returning.{limit-few}
 use Rattle.moves.specs.declared.Position.the-variants as Position
@@ -41,7 +39,7 @@ use Rattle.listing.specs.Entry.{kindOf, InputIn, Listable, entryFor, WroteFor, 
 use Rattle.listing.proofs.Bytes.{entry-length}
 use Rattle.search.specs.declared.Answer.the-variants as Answer
 use Rattle.search.specs.Listing.{joined}
-use Rattle.search.specs.Exploring.{firstWalk, GoesOn, verdictAfter, ListableAs, WroteAs, WholeList, FirstEntries, Begins, SomeBegins, Explores}
+use Rattle.search.specs.Exploring.{firstWalk, GoesOn, verdictAfter, ListableAs, WroteAs, FirstEntries, Begins, SomeBegins, Explores}
 use Rattle.search.proofs.Cutting.{verdict-more, size-more, written-none, written-length, written-more}
 
 -- the search goes on while a path is under way, and behind the end of one while there is a choice point

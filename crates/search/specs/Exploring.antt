@@ -1,4 +1,4 @@
--- What the search's functions promise: the words at the beginning, an entry listed after a move, and the whole list of a checked file.
+-- What the search's functions promise: the words at the beginning, an entry listed at the end of a path, and the whole list of a checked file.
 -- Rests on reach's Search, Lists and Moves, on cells' Writes, choices' Choices, moves' Moving, listing's Entry and on the enum of src/lib.rt.
 use Prim.Native.Nat.{ℕ, _+_, _*_, _≤_, _<_}
 use mathlib.Core.Path.{_≡_}
@@ -50,13 +50,13 @@ abbrev pub GoesOn : Walk → Bool → Type 0
 GoesOn x true = Active x
 GoesOn x false = (x .paths ≡ 0) × (x .height ≡ 0)
 
--- the verdict after a move
+-- the verdict after what a path lists
 abbrev pub verdictAfter : Verdict → Listing → Verdict
 verdictAfter v Listing.Nothing = v
 verdictAfter v Listing.Reached = joined v RE
 verdictAfter v Listing.Unfinished = joined v UN
 
--- What a move lists can be written.
+-- What a path lists can be written.
 abbrev pub ListableAs : List ℕ → List ℕ → List ℕ → ℕ → ℕ → Listing → Type 0
 ListableAs file types w parameters cells Listing.Nothing = Unit {0}
 ListableAs file types w parameters cells Listing.Reached = Listable file types w parameters cells

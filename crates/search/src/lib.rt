@@ -19,7 +19,7 @@ use listing::write_entry;
 use lookups::head_of;
 use moves::Listing;
 use moves::Walk;
-use moves::make_move;
+use moves::make_moves;
 use reach::Refusal;
 use reach::Verdict;
 use rulefile::Checked;
@@ -50,7 +50,7 @@ fn is_active(walk: Walk) -> bool
     0 < walk.height
 }
 
-// The verdict after a move.
+// The verdict after what a path lists.
 fn verdict_after(verdict: Verdict, listing: Listing) -> Verdict
     ensures { λ r. ⌜ r ≡ verdictAfter verdict listing ⌝ }
 {
@@ -72,7 +72,7 @@ fn with_unfinished(verdict: Verdict) -> Verdict
     }
 }
 
-// What a move lists is written to the list from a place on, if it fits.
+// What a path lists is written to the list from a place on, if it fits.
 fn write_listing<'a>(
     file: &'a [u8],
     types: &'a [u16],
@@ -155,7 +155,7 @@ fn explore<'a>(
     let mut at: usize = 0;
     let mut verdict = Verdict::None;
     while is_active(walk) {
-        let moved = make_move(
+        let moved = make_moves(
             file,
             types,
             functions,

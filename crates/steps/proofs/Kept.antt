@@ -15,11 +15,11 @@ use Rattle.reach.proofs.NeverStuck.{Sound}
 use Rattle.machine.specs.Cells.{cellOf}
 use Rattle.machine.specs.Records.{Holds, Code, CodeAll, CodeAlternatives, Control, expressionAt, environmentOf, EnvAt, FramesAt, StateAt}
 use Rattle.machine.proofs.Codes.{Coded, coded-known, code-kind}
-use Rattle.machine.proofs.Records.{holds-kept, env-kept, frames-kept, operands-added, waiting-added}
+use Rattle.machine.proofs.Records.{env-kept, frames-kept, operands-added, waiting-added}
 use Rattle.steps.specs.declared.Registers.{Registers}
 use Rattle.steps.specs.declared.Next.{Next}
 use Rattle.steps.specs.declared.Next.the-variants as Next
-use Rattle.steps.specs.Stepping.{outlineOf, controlIn, Few, StandsFor, Standing, Ready, OnlyTop, Wrote, Follows, StepMeans, Leads, Stepped}
+use Rattle.steps.specs.Stepping.{outlineOf, controlIn, Few, StandsFor, Standing, Ready, OnlyTop, Wrote, StepMeans, Leads, Stepped}
 use Rattle.steps.proofs.Words.{records-same, cells-same, few-more}
 use Rattle.steps.proofs.Which.{when-expression}
 

@@ -1,7 +1,7 @@
 -- The words and registers stand for a state: at the start, after a step, and after the cells below the records were written.
 -- Rests on Stepping, on Words, and on machine's laws of cells and records.
 use Prim.Native.Nat.{ℕ, zero, suc, _+_, _*_, _≤_, _<_}
-use mathlib.Core.Path.{_≡_, refl, _∙_, ap}
+use mathlib.Core.Path.{_≡_, _∙_, ap}
 use mathlib.Core.List.{List, []}
 use mathlib.Core.Option.{some}
 use native.Mathlib.Omega.{arith}

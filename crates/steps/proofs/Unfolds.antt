@@ -6,15 +6,15 @@ use mathlib.Core.List.{List, [], _∷_, map}
 use mathlib.Core.Option.{some, Option·some-injective, Option·none-ne-some}
 use native.Mathlib.Omega.{arith}
 use lib.Dec.{eqb}
-use lib.ListN.{length, getD, getElem?, length-append, length-drop}
+use lib.ListN.{length, getD, getElem?}
 use borrow.Author.Tests.{eq-eqb, ne-eqb}
 use Rattle.reach.specs.Base.{pick}
 use Rattle.reach.specs.Syntax.{Expr, call, case, bind, target, Exprs, []ₑ, _∷ₑ_, count, Alternatives, Function, Program, functionAt}
 use Rattle.reach.specs.Parts.{Parts}
-use Rattle.reach.specs.Encoding.{encode, countAlternatives}
+use Rattle.reach.specs.Encoding.{countAlternatives}
 use Rattle.reach.specs.Eval as Eval
 use Rattle.reach.specs.Eval.{Env, empty, operands, size, Frame, waiting, State, enter, view, answer, next}
-use Rattle.reach.specs.RuleFile.{Head, Outline}
+use Rattle.reach.specs.RuleFile.{Head}
 use Rattle.reach.specs.Places.{constructorsAt, typeAt, headAt, outlineAt}
 use Rattle.lookups.specs.declared.Head as Looked
 use Rattle.lookups.specs.declared.Constructors.{Constructors}
@@ -22,16 +22,15 @@ use Rattle.lookups.specs.Heads.{headOf}
 use Rattle.lookups.proofs.Tables.{parameters-many, constructors-many}
 use Rattle.machine.specs.Cells.{cellOf}
 use Rattle.machine.specs.Records.{recordWord, Code, empty-at, evaluating-at}
-use Rattle.machine.specs.Walks.{Behind}
-use Rattle.machine.proofs.Codes.{code-behind, code-call, code-let, code-one, code-case, code-target, code-kind}
+use Rattle.machine.proofs.Codes.{code-call, code-let, code-one, code-case, code-target}
 use Rattle.machine.proofs.Records.{count-word}
 use Rattle.steps.specs.declared.Registers.{Registers}
 use Rattle.steps.specs.declared.Next.{Next}
 use Rattle.steps.specs.declared.Next.the-variants as Next
-use Rattle.steps.specs.Stepping.{outlineOf, FileOf, StandsFor, Standing, Ready, Wrote, Leads, Stepped, StepMeans, PassedOver}
+use Rattle.steps.specs.Stepping.{outlineOf, FileOf, StandsFor, Ready, Wrote, Leads, Stepped, StepMeans, PassedOver}
 use Rattle.steps.proofs.Words.{nothing-written}
 use Rattle.steps.proofs.Which.{when-call, when-let, when-case, when-target}
-use Rattle.steps.proofs.Kept.{Met, shown, StepsAt, steps-by, env-there, frames-there, operands-there, waiting-there, few-added}
+use Rattle.steps.proofs.Kept.{Met, StepsAt, steps-by, env-there, frames-there, operands-there, waiting-there, few-added}
 
 -- what a mapped list holds at a number is the image of what stands there
 mapped : {A B : Type 0} (f : A → B) (xs : List A) (d : A) (n : ℕ) (y : B) → getElem? (map f xs) n ≡ some y → (n < length xs) × (f (getD xs n d) ≡ y)

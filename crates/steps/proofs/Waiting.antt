@@ -1,20 +1,20 @@
 -- Where a case waits on an open part: only a case that looks at an input part waits, and the registers say so.
 -- Rests on specs/Stepping, on machine's Records and on reach's Evaluation.
 use Prim.Native.Nat.{ℕ, _<_}
-use mathlib.Core.Path.{_≡_, refl, sym, ap, subst}
+use mathlib.Core.Path.{_≡_, sym, ap, subst}
 use mathlib.Core.Bool.{Bool, true, false}
 use mathlib.Core.List.{List, [], _∷_}
 use native.Mathlib.Omega.{arith}
 use lib.Dec.{eqb}
 use Rattle.reach.specs.Base.{pick}
-use Rattle.reach.specs.Syntax.{Expr, variable, call, construct, case, bind, target, Alternatives, Program}
+use Rattle.reach.specs.Syntax.{variable, call, construct, case, bind, target, Alternatives, Program}
 use Rattle.reach.specs.Parts.{Parts, Place}
 use Rattle.reach.specs.Eval.{State, evaluating, inspecting, missing, stuck, Env, Frame, waiting, Question, Next, demands, stops, goes, waits, view, next}
 use Rattle.reach.specs.RuleFile.{Outline}
 use Rattle.reach.proofs.Base.{clash}
 use Rattle.reach.proofs.Evaluation.{answer-waits}
 use Rattle.machine.specs.Cells.{cellOf}
-use Rattle.machine.specs.Records.{Control, partIn, StateAt, inspecting-at, evaluating-at, missing-at, FramesAt, waiting-at, none-at}
+use Rattle.machine.specs.Records.{Control, partIn, StateAt, inspecting-at, FramesAt, waiting-at}
 use Rattle.steps.specs.declared.Registers.{Registers}
 use Rattle.steps.specs.Stepping.{outlineOf, controlIn, StandsFor}
 

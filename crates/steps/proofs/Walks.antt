@@ -8,7 +8,6 @@ use native.Mathlib.Omega.{arith}
 use lib.ListN.{length, getD, getElem?}
 use Rattle.reach.specs.Syntax.{fieldTypes}
 use Rattle.reach.specs.Places.{bytesAt, constructorsAt, typeAt}
-use Rattle.reach.proofs.Base.{clash}
 use Rattle.lookups.specs.declared.Fields.{Fields}
 use Rattle.lookups.specs.Fields.{fieldsOf, fieldsIn}
 use Rattle.lookups.proofs.Tables.{bytes-length}

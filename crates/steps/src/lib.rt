@@ -1,5 +1,5 @@
-// One step of the evaluation in the lent words. Records of environments and waiting cases are added at the top and never
-// changed; expressions are read where they stand in the file. Rests on crates machine, skipping and lookups.
+// The evaluation in the lent words: one step, and steps one after the other. Records of environments and waiting cases are added at
+// the top and never changed; expressions are read where they stand in the file. Rests on crates machine, skipping and lookups.
 ghost use mathlib.Core.Path.{_≡_};
 ghost use mathlib.Core.List.{List};
 ghost use Prim.Native.Nat.{ℕ, _+_, _*_, _≤_, _<_};

@@ -39,7 +39,7 @@ returns-4 c = let ran = c .before .before .before .before .before .before .befor
     let last = comes-so _ _ _ _ ran (Halt.Waits _) (c .before .before .before .halt .given .1) in
     λ least p e s cs given sought under.
     let (s₁, led) = led-by given under sought (ran .led) (omega (arith, ran .no-more, under .in-time)) in
-    rw (c .over4 .ensures) (arrive-spent-waiting given led sought last (c .before .if1 .taken) refl)
+    rw (c .over4 .ensures) (arrive-spent-waiting given led sought last (omega (arith, c .before .if1 .taken)) refl)
 
 push-choice-requires : tie.Need-push-choice-requires
 push-choice-requires c κs = let ran = c .before .before .before .before .before .before .before .before .before .run-on .ensures in

@@ -11,11 +11,14 @@ bind-cell-requires c κs = let (least, p, limit, given, f) = c .before .before .
 
 enter-part-requires : tie.Need-enter-part-requires
 enter-part-requires c κs = let a = c .before .before .before .before .before .before .before .before .before .before .before .before .before .before .before .before .before .before .before .before .args in
-    let (least, p, limit, given, f) = c .before .before .before .before .before .before .before .before .before .before .before .before .before .before .before .before .before .before .before .before .pre .0 in
-    (a .types .now, a .functions .now, _,
-    fork-bound (a .file .now) (a .types .now) (a .functions .now) (a .work .now) _ (a .base) (a .stack) (a .h) (a .c) (a .fields) (a .k)
-    (c .before .before .before .before .before .before .before .before .before .before .before .before .before .choice-word .ensures .0) (c .before .before .before .before .before .before .before .before .before .before .before .choice-word2 .ensures .0) (c .before .before .before .before .before .before .before .before .before .choice-word3 .ensures .0) (c .before .before .before .before .before .before .before .choice-word4 .ensures .0) (c .before .before .before .before .before .choice-word5 .ensures .0) (c .before .before .before .bind-cell .ensures)
-    least p limit given f)
+    let (least, p, limit, given, f) = c .before .before .before .before .before .before .before .before .before .before .before .before .before .before .before .before .before .before .before .before .pre .0 in (
+      a .types .now,
+      a .functions .now,
+      _,
+      fork-bound (a .file .now) (a .types .now) (a .functions .now) (a .work .now) _ (a .base) (a .stack) (a .h) (a .c) (a .fields) (a .k)
+          (c .before .before .before .before .before .before .before .before .before .before .before .before .before .choice-word .ensures .0) (c .before .before .before .before .before .before .before .before .before .before .before .choice-word2 .ensures .0) (c .before .before .before .before .before .before .before .before .before .choice-word3 .ensures .0) (c .before .before .before .before .before .before .before .choice-word4 .ensures .0) (c .before .before .before .before .before .choice-word5 .ensures .0) (c .before .before .before .bind-cell .ensures)
+          least p limit given f,
+    )
 
 add-t34 : tie.Need-add-t34
 add-t34 c = let (least, p, limit, given, f) = c .before .before .before .before .before .before .before .before .before .before .before .before .before .before .before .before .before .before .before .before .before .before .before .pre .0 in

@@ -1,6 +1,5 @@
 -- `search::explore` meets its contract. The invariant: from the beginning the search came to here, and the entries listed and still to come are the
 -- program's list. The measure is the weight of where it stands. Rests on Exploring.
-use Prim.Native.Nat.{_≤_}
 use mathlib.Core.Path.{_≡_, refl, _∙_, subst}
 use lib.ListN.{length}
 use Rattle.moves.specs.Moving.{walkWeight}
@@ -28,8 +27,8 @@ loop-holds c =
 is-active-requires : tie.Need-is-active-requires Inv-loop μ-loop
 is-active-requires c κs = search needs
 
-make-move-requires : tie.Need-make-move-requires Inv-loop μ-loop
-make-move-requires c κs =
+make-moves-requires : tie.Need-make-moves-requires Inv-loop μ-loop
+make-moves-requires c κs =
     let a = c .before .before .before .before .before .before .before .before .before .before .before .args in
     let l = c .before .before .before .loop in
     ((came-standing (a .file .now) (a .types .now) (a .functions .now) (a .least .of) (a .label) (a .work .now) (a .limit) (a .base) (a .stack) (a .parameters) (a .from) (a .list .now) (l .work) (l .walk) (l .list) (l .at) (l .verdict) (l .inv .2 (a .from) (c .before .before .before .before .first-walk .ensures)) (c .before .before .before .before .before .before .before .before .before .before .before .pre .0), subst (GoesOn (l .walk)) (c .before .if1 .taken) (c .before .before .is-active .ensures)), c .before .before .before .before .before .before .before .before .before .before .before .pre .1)
@@ -38,7 +37,7 @@ write-listing-requires : tie.Need-write-listing-requires Inv-loop μ-loop
 write-listing-requires c κs =
     let a = c .before .before .before .before .before .before .before .before .before .before .before .before .before .before .before .before .before .args in
     let l = c .before .before .before .before .before .before .before .before .before .loop in
-    (move-listable (a .file .now) (a .types .now) (a .functions .now) (a .least .of) (a .label) (a .work .now) (a .limit) (a .base) (a .stack) (a .parameters) (a .from) (a .list .now) (l .work) (l .walk) (l .list) (l .at) (l .verdict) (l .inv .2 (a .from) (c .before .before .before .before .before .before .before .before .before .before .first-walk .ensures)) (c .before .before .before .before .before .make-move .ensures) (l .inv .0) (c .before .before .before .before .before .before .before .before .before .before .before .before .before .before .before .before .before .pre .0), let room = same-room (a .file .now) (a .types .now) (a .functions .now) (a .least .of) (a .label) (a .work .now) (a .limit) (a .base) (a .stack) (a .parameters) (a .from) (a .list .now) (l .work) (l .walk) (l .list) (l .at) (l .verdict) (l .inv .2 (a .from) (c .before .before .before .before .before .before .before .before .before .before .first-walk .ensures)) (c .before .before .before .before .before .before .before .before .before .before .before .before .before .before .before .before .before .pre .0) in omega (arith, l .inv .1, room .1))
+    (move-listable (a .file .now) (a .types .now) (a .functions .now) (a .least .of) (a .label) (a .work .now) (a .limit) (a .base) (a .stack) (a .parameters) (a .from) (a .list .now) (l .work) (l .walk) (l .list) (l .at) (l .verdict) (l .inv .2 (a .from) (c .before .before .before .before .before .before .before .before .before .before .first-walk .ensures)) (c .before .before .before .before .before .make-moves .ensures) (l .inv .0) (c .before .before .before .before .before .before .before .before .before .before .before .before .before .before .before .before .before .pre .0), let room = same-room (a .file .now) (a .types .now) (a .functions .now) (a .least .of) (a .label) (a .work .now) (a .limit) (a .base) (a .stack) (a .parameters) (a .from) (a .list .now) (l .work) (l .walk) (l .list) (l .at) (l .verdict) (l .inv .2 (a .from) (c .before .before .before .before .before .before .before .before .before .before .first-walk .ensures)) (c .before .before .before .before .before .before .before .before .before .before .before .before .before .before .before .before .before .pre .0) in omega (arith, l .inv .1, room .1))
 
 enum-known-written : tie.Need-enum-known-written Inv-loop μ-loop
 enum-known-written c = search needs
@@ -56,7 +55,7 @@ returns : tie.Need-returns Inv-loop μ-loop
 returns c =
     let a = c .before .before .before .before .before .before .before .before .before .before .before .before .before .before .before .before .before .before .before .before .before .before .args in
     let l = c .before .before .before .before .before .before .before .before .before .before .before .before .before .before .loop in
-    came-full (a .file .now) (a .types .now) (a .functions .now) (a .least .of) (a .label) (a .work .now) (a .limit) (a .base) (a .stack) (a .parameters) (a .from) (a .list .now) (l .work) (l .walk) (l .list) (l .at) (l .verdict) (l .inv .2 (a .from) (c .before .before .before .before .before .before .before .before .before .before .before .before .before .before .before .first-walk .ensures)) (c .before .before .before .before .before .before .before .before .before .before .make-move .ensures) (l .inv .0) _ _ (c .before .before .before .before .write-listing .ensures) (c .enum-told .given .1)
+    came-full (a .file .now) (a .types .now) (a .functions .now) (a .least .of) (a .label) (a .work .now) (a .limit) (a .base) (a .stack) (a .parameters) (a .from) (a .list .now) (l .work) (l .walk) (l .list) (l .at) (l .verdict) (l .inv .2 (a .from) (c .before .before .before .before .before .before .before .before .before .before .before .before .before .before .before .first-walk .ensures)) (c .before .before .before .before .before .before .before .before .before .before .make-moves .ensures) (l .inv .0) _ _ (c .before .before .before .before .write-listing .ensures) (c .enum-told .given .1)
 
 verdict-after-requires : tie.Need-verdict-after-requires Inv-loop μ-loop
 verdict-after-requires c κs = search needs
@@ -65,13 +64,13 @@ loop-less : tie.Need-loop-less Inv-loop μ-loop
 loop-less c =
     let a = c .before .before .before .before .before .before .before .before .before .before .before .before .before .before .before .before .before .before .before .before .before .before .before .before .args in
     let l = c .before .before .before .before .before .before .before .before .before .before .before .before .before .before .before .before .loop in
-    move-lighter (a .file .now) (a .types .now) (a .functions .now) (a .least .of) (a .label) (a .work .now) (a .limit) (a .base) (a .stack) (a .parameters) (a .from) (a .list .now) (l .work) (l .walk) (l .list) (l .at) (l .verdict) (l .inv .2 (a .from) (c .before .before .before .before .before .before .before .before .before .before .before .before .before .before .before .before .before .first-walk .ensures)) (c .before .before .before .before .before .before .before .before .before .before .before .before .make-move .ensures) (l .inv .0) (c .before .before .before .before .before .before .before .before .before .before .before .before .before .before .before .before .before .before .before .before .before .before .before .before .pre .0)
+    move-lighter (a .file .now) (a .types .now) (a .functions .now) (a .least .of) (a .label) (a .work .now) (a .limit) (a .base) (a .stack) (a .parameters) (a .from) (a .list .now) (l .work) (l .walk) (l .list) (l .at) (l .verdict) (l .inv .2 (a .from) (c .before .before .before .before .before .before .before .before .before .before .before .before .before .before .before .before .before .first-walk .ensures)) (c .before .before .before .before .before .before .before .before .before .before .before .before .make-moves .ensures) (l .inv .0) (c .before .before .before .before .before .before .before .before .before .before .before .before .before .before .before .before .before .before .before .before .before .before .before .before .pre .0)
 
 loop-again : tie.Need-loop-again Inv-loop μ-loop
 loop-again c =
     let a = c .before .before .before .before .before .before .before .before .before .before .before .before .before .before .before .before .before .before .before .before .before .before .before .before .args in
     let l = c .before .before .before .before .before .before .before .before .before .before .before .before .before .before .before .before .loop in
-    (move-length (a .file .now) (a .types .now) (a .functions .now) (a .least .of) (a .label) (a .work .now) (a .limit) (a .base) (a .stack) (a .parameters) (a .from) (a .list .now) (l .work) (l .walk) (l .list) (l .at) (l .verdict) (l .inv .2 (a .from) (c .before .before .before .before .before .before .before .before .before .before .before .before .before .before .before .before .before .first-walk .ensures)) (c .before .before .before .before .before .before .before .before .before .before .before .before .make-move .ensures) (l .inv .0) (c .before .before .before .before .before .before .before .before .before .before .before .before .before .before .before .before .before .before .before .before .before .before .before .before .pre .0), c .before .before .before .before .before .before .write-listing .kept .1 .1 .1 .1 .1 .1 .1 .0 ∙ l .inv .1, λ r is. rw (c .verdict-after .ensures) (came-on (a .file .now) (a .types .now) (a .functions .now) (a .least .of) (a .label) (a .work .now) (a .limit) (a .base) (a .stack) (a .parameters) r (a .list .now) (l .work) (l .walk) (l .list) (l .at) (l .verdict) (l .inv .2 r is) (c .before .before .before .before .before .before .before .before .before .before .before .before .make-move .ensures) (l .inv .0) _ _ (c .before .before .before .before .before .before .write-listing .ensures) (c .before .before .written .given .1)))
+    (move-length (a .file .now) (a .types .now) (a .functions .now) (a .least .of) (a .label) (a .work .now) (a .limit) (a .base) (a .stack) (a .parameters) (a .from) (a .list .now) (l .work) (l .walk) (l .list) (l .at) (l .verdict) (l .inv .2 (a .from) (c .before .before .before .before .before .before .before .before .before .before .before .before .before .before .before .before .before .first-walk .ensures)) (c .before .before .before .before .before .before .before .before .before .before .before .before .make-moves .ensures) (l .inv .0) (c .before .before .before .before .before .before .before .before .before .before .before .before .before .before .before .before .before .before .before .before .before .before .before .before .pre .0), c .before .before .before .before .before .before .write-listing .kept .1 .1 .1 .1 .1 .1 .1 .0 ∙ l .inv .1, λ r is. rw (c .verdict-after .ensures) (came-on (a .file .now) (a .types .now) (a .functions .now) (a .least .of) (a .label) (a .work .now) (a .limit) (a .base) (a .stack) (a .parameters) r (a .list .now) (l .work) (l .walk) (l .list) (l .at) (l .verdict) (l .inv .2 r is) (c .before .before .before .before .before .before .before .before .before .before .before .before .make-moves .ensures) (l .inv .0) _ _ (c .before .before .before .before .before .before .write-listing .ensures) (c .before .before .written .given .1)))
 
 same-length-3 : tie.Need-same-length-3 Inv-loop μ-loop
 same-length-3 c = search needs
@@ -94,7 +93,7 @@ explore-spec =
     first-walk-requires
     loop-holds
     is-active-requires
-    make-move-requires
+    make-moves-requires
     write-listing-requires
     enum-known-written
     enum-told

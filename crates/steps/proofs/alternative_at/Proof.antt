@@ -1,7 +1,6 @@
 -- `steps::alternative_at` meets its contract: a byte 0 where the alternatives before it end, or another. Rests on Walks.
 use mathlib.Core.Path.{sym, _∙_}
 use Rattle.steps.proofs.Walks.{found-absent, found-present}
-use native.Mathlib.Omega.{arith}
 use borrow.Author.Needs.{needs}
 use Rattle.steps.proofs.alternative_at.Statement.{statement}
 use Rattle.steps.proofs.alternative_at.Tie as tie

@@ -5,7 +5,6 @@ use lib.ListN.{getD}
 use Rattle.reach.specs.Places.{typeAt}
 use Rattle.steps.proofs.Walks.{entry-behind}
 use Rattle.steps.proofs.Unfolds.{case-leads}
-use native.Mathlib.Omega.{arith}
 use borrow.Author.Needs.{needs}
 use Rattle.steps.proofs.step_case.Statement.{statement}
 use Rattle.steps.proofs.step_case.Tie as tie

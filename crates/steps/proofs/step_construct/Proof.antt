@@ -15,10 +15,16 @@ choose-requires : tie.Need-choose-requires
 choose-requires c κs = let start = c .before .before .before .before .before .before .before .before .before in
     let a = start .args in
     let ready = start .pre .1 in
-    let (functions, standing) = start .pre .0 in
-    (ready .space, (omega (arith, c .before .before .byte-or-zero2 .ensures, c .before .before .before .before .before .before .before .before .shared-slice-known .given (a .at + 2)),
-    construct-chooses (a .file .now) (a .types .now) functions (a .work .now) (a .base) (a .at) (a .env) (a .r) ready (c .before .before .byte-or-zero2 .ensures) (c .before .before .before .before .if1 .left) standing,
-    c .before .field-count .ensures .1, omega arith, omega arith))
+    let (functions, standing) = start .pre .0 in (
+      ready .space,
+      (
+        omega (arith, c .before .before .byte-or-zero2 .ensures, c .before .before .before .before .before .before .before .before .shared-slice-known .given (a .at + 2)),
+        construct-chooses (a .file .now) (a .types .now) functions (a .work .now) (a .base) (a .at) (a .env) (a .r) ready (c .before .before .byte-or-zero2 .ensures) (c .before .before .before .before .if1 .left) standing,
+        c .before .field-count .ensures .1,
+        omega arith,
+        omega arith,
+      ),
+    )
 
 returns-2 : tie.Need-returns-2
 returns-2 c = let start = c .before .before .before .before .before .before .before .before .before .before .before .before in

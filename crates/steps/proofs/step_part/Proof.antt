@@ -39,10 +39,16 @@ sub-choose c = omega (arith, c .before .before .before .before .before .before .
 choose-requires : tie.Need-choose-requires
 choose-requires c κs = let start = c .before .before .before .before .before .before .before .before .before .before .before .before .before .before in
     let a = start .args in
-    let (functions, standing) = start .pre .0 in
-    (standing .stands .space, (omega (arith, c .before .before .before .before .before .before .before .cell-word .ensures .1),
-    part-chooses (a .file .now) (a .types .now) functions (a .work .now) (a .base) (a .cell) (a .r) (start .pre .1) (c .before .before .before .before .before .before .before .before .before .if1 .left) (c .before .before .before .before .before .before .before .cell-word .ensures .0) (c .before .before .before .before .before .before .if2 .left) standing,
-    c .before .field-count .ensures .1, c .before .before .before .before .cell-word2 .ensures .1, omega arith))
+    let (functions, standing) = start .pre .0 in (
+      standing .stands .space,
+      (
+        omega (arith, c .before .before .before .before .before .before .before .cell-word .ensures .1),
+        part-chooses (a .file .now) (a .types .now) functions (a .work .now) (a .base) (a .cell) (a .r) (start .pre .1) (c .before .before .before .before .before .before .before .before .before .if1 .left) (c .before .before .before .before .before .before .before .cell-word .ensures .0) (c .before .before .before .before .before .before .if2 .left) standing,
+        c .before .field-count .ensures .1,
+        c .before .before .before .before .cell-word2 .ensures .1,
+        omega arith,
+      ),
+    )
 
 returns-3 : tie.Need-returns-3
 returns-3 c = let start = c .before .before .before .before .before .before .before .before .before .before .before .before .before .before .before .before .before in

@@ -1,8 +1,8 @@
--- `moves::make_move` meets its contract, by whether there is a path to go on with. Rests on Returning.
+-- `moves::make_moves` meets its contract, by whether there is a path to go on with. Rests on Returning.
 use Rattle.moves.proofs.Returning.{none-moves, on-some, on-moves}
 use borrow.Author.Needs.{needs}
-use Rattle.moves.proofs.make_move.Statement.{statement}
-use Rattle.moves.proofs.make_move.Tie as tie
+use Rattle.moves.proofs.make_moves.Statement.{statement}
+use Rattle.moves.proofs.make_moves.Tie as tie
 
 resume-requires : tie.Need-resume-requires
 resume-requires c κs =
@@ -44,8 +44,8 @@ returns-2 c =
     let a = c .before .before .before .before .before .before .before .before .before .before .before .before .before .before .before .before .before .before .args in
     on-moves (a .file .now) (a .types .now) (a .functions .now) (a .least .of) (a .label) (a .work .now) _ (a .limit) (a .base) (a .stack) (a .walk) (c .before .before .before .before .before .before .before .before .before .before .before .resume .result) (c .before .before .before .before .before .before .before .before .before .before .before .resume .ensures) (c .before .before .before .before .before .before .before .position-of .ensures) (c .before .before .before .before .before .position .given .1) (c .before .before .arrive .ensures)
 
-pub make-move-spec : {M : Type 1} → statement M
-make-move-spec =
+pub make-moves-spec : {M : Type 1} → statement M
+make-moves-spec =
     tie.close
     (tie.spec
     resume-requires
