@@ -5,8 +5,9 @@ use mathlib.Core.Path.{_≡_}
 use mathlib.Core.List.{List}
 use lib.ListN.{length, getD}
 use Rattle.reach.specs.Places.{bytesAt, constructorsAt, typeAt}
+use Rattle.reach.proofs.Places.{bytes-length}
 use Rattle.lookups.specs.declared.Constructors.{Constructors}
-use Rattle.lookups.proofs.Tables.{bytes-length, constructors-more, constructor-first}
+use Rattle.lookups.proofs.Tables.{constructors-more, constructor-first}
 use Rattle.bodies.specs.Check.{Narrow, Small}
 
 -- narrow constructors: the first has few fields, and the others are narrow

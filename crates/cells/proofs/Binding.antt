@@ -15,10 +15,10 @@ use Rattle.reach.specs.Parts.{Parts, Place, Seen, free, has, at, bindAt}
 use Rattle.reach.specs.Types.{Slot, slotAt}
 use Rattle.reach.specs.Places.{bytesAt}
 use Rattle.reach.proofs.Order.{There, free-unbound, bind-refines, ⊑-there}
+use Rattle.reach.proofs.Places.{bytes-length}
 use Rattle.machine.specs.Cells.{cellWord, cellOf, Cells, Binds, KeptBut, Unmoved}
 use Rattle.machine.proofs.Cells.{field, walk-kept, bind-elsewhere, bind-slot, bind-length-exact, bind-keeps, bind-walks, bind-cells, start-cells, open-cells}
 use Rattle.cells.specs.Writes.{Opens, Starts}
-use Rattle.cells.proofs.Writing.{bytes-length}
 
 -- a part that is open, or bound, is there
 open-there : {s : Seen} → s ≡ free → There s

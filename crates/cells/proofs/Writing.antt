@@ -15,11 +15,6 @@ use Rattle.cells.specs.Writes.{openCell, Opens}
 
 -- The bytes from a place on.
 
-pub bytes-length : (s : List ℕ) (i n : ℕ) → length (bytesAt s i n) ≡ n
-unfolding bytesAt
-bytes-length s i zero = refl
-bytes-length s i (suc n) = ap suc (bytes-length s (i + 1) n)
-
 pub bytes-nth : (s : List ℕ) (i n j : ℕ) → j < n → getD (bytesAt s i n) j 0 ≡ getD s (i + j) 0
 unfolding bytesAt
 bytes-nth s i zero j l = absurd (omega arith)

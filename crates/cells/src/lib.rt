@@ -6,17 +6,8 @@ ghost use lib.ListN.{length, getD, set};
 ghost use Rattle.reach.specs.Places.{bytesAt};
 ghost use Rattle.machine.specs.Cells.{Binds, cellWord};
 ghost use Rattle.cells.specs.Writes.{openCell, Opens, Starts};
+use machine::word_or_zero;
 use records::byte_or_zero;
-
-// A word of the work slice, or 0 past its end.
-pub fn word_or_zero(work: &[u32], at: usize) -> usize
-    ensures { λ r. ⌜ r ≡ getD (now (work .entry)) at 0 ⌝ }
-{
-    if work.len() <= at {
-        return 0;
-    }
-    work[at] as usize
-}
 
 // Makes k open cells from cell `first` on: their types stand from a place of the file on, and each may be so deep.
 fn open_cells(file: &[u8], work: &mut [u32], first: usize, fields: usize, k: usize, room: usize)

@@ -18,10 +18,10 @@ use Rattle.reach.proofs.ClosedInputs.{input-exactly}
 use Rattle.reach.proofs.Limits.{accepted-keeps}
 use Rattle.reach.proofs.NeverStuck.{one-more}
 use Rattle.reach.proofs.Reached.{steps-more}
+use Rattle.reach.proofs.Places.{bytes-length}
 use Rattle.lookups.specs.Fields.{fieldsIn}
 use Rattle.machine.specs.Cells.{cellWord, cellOf, Cells, Unmoved}
 use Rattle.machine.proofs.Cells.{kept-cells}
-use Rattle.cells.proofs.Writing.{bytes-length}
 use Rattle.cells.proofs.Rooms.{cell-room}
 use Rattle.values.proofs.Binding as Values
 use Rattle.values.proofs.Binding.{OpenStands, open-stands, bound-follows}

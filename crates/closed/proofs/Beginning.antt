@@ -16,10 +16,10 @@ use Rattle.reach.specs.Places.{bytesAt, typeAt, headAt, goalAt}
 use Rattle.reach.specs.Answers.{outcomeOf}
 use Rattle.reach.proofs.Limits.{accepted-keeps}
 use Rattle.reach.proofs.NeverStuck.{no-step}
+use Rattle.reach.proofs.Places.{bytes-length}
 use Rattle.lookups.specs.declared.Head.{Head}
 use Rattle.lookups.specs.Heads.{headOf}
 use Rattle.lookups.proofs.Tables.{parameters-are}
-use Rattle.cells.proofs.Writing.{bytes-length}
 use Rattle.values.proofs.Binding as Values
 use Rattle.values.proofs.Binding.{start-follows}
 use Rattle.machine.specs.Records.{Code}

@@ -8,11 +8,11 @@ use native.Mathlib.Omega.{arith}
 use lib.ListN.{getD}
 use Rattle.reach.specs.Places.{bytesAt}
 use Rattle.reach.proofs.Base.{clash}
+use Rattle.reach.proofs.Places.{bytes-length}
 use Rattle.lookups.specs.Fields.{fieldsOf, fieldsIn}
 use Rattle.lookups.specs.declared.Fields.{Fields}
 use Rattle.lookups.specs.declared.Fields.the-variants as Fields
 use Rattle.machine.specs.Cells.{cellWord, Binds}
-use Rattle.cells.proofs.Writing.{bytes-length}
 use Rattle.values.specs.Notes.{notedPlace, Noted}
 use Rattle.closed.specs.Running.{notedNumber, Bindable, BoundAs}
 

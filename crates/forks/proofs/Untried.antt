@@ -13,10 +13,11 @@ use Rattle.reach.proofs.Base.{clash}
 use Rattle.reach.specs.Syntax.{Types, fieldTypes}
 use Rattle.reach.specs.Types.{forks, forksFrom, shallow}
 use Rattle.reach.specs.Places.{bytesAt, typeAt}
+use Rattle.reach.proofs.Places.{bytes-length}
 use Rattle.lookups.specs.Fields.{fieldsOf, fieldsIn}
 use Rattle.lookups.specs.declared.Fields.{Fields}
 use Rattle.lookups.specs.declared.Fields.the-variants as Fields
-use Rattle.lookups.proofs.Tables.{bytes-length, constructor-missing}
+use Rattle.lookups.proofs.Tables.{constructor-missing}
 use Rattle.depths.specs.Table.{padded}
 use Rattle.depths.proofs.Padded.{padded-shallow}
 use Rattle.forks.specs.Untried.{untried, untriedIn}

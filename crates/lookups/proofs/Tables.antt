@@ -1,7 +1,7 @@
 -- Lookups in the tables of places: what stands at a number of a list that a function was mapped over, the bytes and constructors that a
 -- place of the file begins, and how many of them a record has.
 -- Rests on reach's Places and specs/Heads.
-use Prim.Native.Nat.{ℕ, zero, suc, _+_, _-_, _≤_, _<_, zero-le}
+use Prim.Native.Nat.{ℕ, zero, suc, _+_, _-_, _≤_, _<_}
 use mathlib.Core.Path.{_≡_, refl, sym, _∙_, ap}
 use mathlib.Core.List.{List, [], _∷_, map}
 use mathlib.Core.Option.{none, some}
@@ -12,6 +12,7 @@ use native.Mathlib.Omega.{arith}
 use Rattle.reach.specs.RuleFile as RuleFile
 use Rattle.reach.specs.Syntax.{fieldTypes}
 use Rattle.reach.specs.Places.{bytesAt, constructorsAt, typeAt}
+use Rattle.reach.proofs.Places.{bytes-length}
 use Rattle.lookups.specs.declared.Fields.{Fields}
 use Rattle.lookups.specs.declared.Fields.the-variants as Fields
 use Rattle.lookups.specs.declared.Head.{Head}
@@ -54,11 +55,6 @@ module _ (s : List ℕ) where
   bytes-none i zero h = refl
   bytes-none i (suc n) h = absurd (omega arith)
 
-  pub bytes-length : (i n : ℕ) → length (bytesAt s i n) ≡ n
-  unfolding bytesAt
-  bytes-length i zero = refl
-  bytes-length i (suc n) = ap suc (bytes-length (i + 1) n)
-
   -- the first of the constructors from a place on
   pub constructors-more : (i n : ℕ) → 0 < n
       → constructorsAt s i n ≡ bytesAt s (i + 1) (getD s i 0) ∷ constructorsAt s (i + 1 + getD s i 0) (n - 1)
@@ -82,7 +78,7 @@ module _ (s : List ℕ) where
 
   -- a function has as many parameters as its record counts, and a type as many constructors
   pub parameters-many : (h : Head) {g : RuleFile.Head} → headOf s h ≡ g → length (g .parameters) ≡ h .count
-  parameters-many h is = ap (λ (g : RuleFile.Head). length (g .parameters)) (sym is) ∙ bytes-length (h .parameters) (h .count)
+  parameters-many h is = ap (λ (g : RuleFile.Head). length (g .parameters)) (sym is) ∙ bytes-length s (h .parameters) (h .count)
 
   pub constructors-many : (cs : Constructors) {ts : List (List ℕ)} → constructorsAt s (cs .at) (cs .count) ≡ ts → length ts ≡ cs .count
   constructors-many cs is = ap length (sym is) ∙ constructors-length (cs .at) (cs .count)

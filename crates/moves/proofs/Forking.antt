@@ -17,9 +17,9 @@ use Rattle.reach.specs.Moves as Model
 use Rattle.reach.specs.Moves.{Choice, takeFork}
 use Rattle.reach.proofs.Limits.{accepted-keeps}
 use Rattle.reach.proofs.NeverStuck.{never-stuck}
+use Rattle.reach.proofs.Places.{bytes-length}
 use Rattle.machine.specs.Cells.{cellWord, cellOf, Binds}
 use Rattle.lookups.specs.Fields.{fieldsIn}
-use Rattle.cells.proofs.Writing.{bytes-length}
 use Rattle.cells.proofs.Rooms.{cell-room}
 use Rattle.steps.specs.declared.Registers.{Registers}
 use Rattle.steps.specs.declared.Next.{Next}

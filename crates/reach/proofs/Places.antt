@@ -3,7 +3,7 @@
 -- Each law follows the reader's own text and tells how many bytes further on the place behind is, where that is plain.
 -- Rests on Reader, RuleFile and Places, and on IfFound of Limits.
 use Prim.Native.Nat.{ℕ, zero, suc, _+_, _≤_, _<_, max}
-use mathlib.Core.Path.{_≡_, refl, subst₂}
+use mathlib.Core.Path.{_≡_, refl, ap, subst₂}
 use mathlib.Core.Bool.{Bool, true, false, _&&_}
 use mathlib.Core.List.{List}
 use native.Mathlib.Omega.{arith}
@@ -159,3 +159,9 @@ module _ (s : List ℕ) (i : ℕ) where
 
   pub goal-read : {g : Goal} {next : ℕ} → goalRecord s i ≡ got g next → Read (goalAt s i) s i g next
   goal-read e = of-got (Read (goalAt s i) s i) (goalRecord s i) (goal-stands s i) e
+
+-- so many bytes from a place on
+pub bytes-length : (s : List ℕ) (i n : ℕ) → length (bytesAt s i n) ≡ n
+unfolding bytesAt
+bytes-length s i zero = refl
+bytes-length s i (suc n) = ap suc (bytes-length s (i + 1) n)

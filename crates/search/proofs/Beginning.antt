@@ -17,12 +17,12 @@ use Rattle.reach.proofs.Order.{open-width}
 use Rattle.reach.proofs.Limits.{accepted-keeps}
 use Rattle.reach.proofs.NeverStuck.{no-step, steps-sound}
 use Rattle.reach.proofs.Reached.{steps-in, open-typed}
+use Rattle.reach.proofs.Places.{bytes-length}
 use Rattle.lookups.specs.declared.Head.{Head}
 use Rattle.lookups.specs.Heads.{headOf}
 use Rattle.lookups.proofs.Tables.{parameters-are}
 use Rattle.machine.specs.Cells.{Cells}
 use Rattle.machine.specs.Records.{Code}
-use Rattle.cells.proofs.Writing.{bytes-length}
 use Rattle.steps.specs.Stepping.{outlineOf}
 use Rattle.steps.proofs.Standing.{startRegisters, stands-start}
 use Rattle.choices.specs.Choices.{Setting, Given, no-choice}

@@ -15,12 +15,13 @@ use Rattle.reach.specs.Encoding.{encode, encodeAll, encodeAlternatives, countAl
 use Rattle.reach.specs.Places.{bytesAt, constructorsAt, typeAt, headAt, outlineAt}
 use Rattle.reach.specs.RuleFile.{Outline}
 use Rattle.reach.proofs.Encoding.{places}
+use Rattle.reach.proofs.Places.{bytes-length}
 use Rattle.lookups.specs.Fields.{fieldsOf, fieldsIn}
 use Rattle.lookups.specs.Heads.{headOf}
 use Rattle.lookups.specs.declared.Constructors.{Constructors}
 use Rattle.lookups.specs.declared.Fields.{Fields}
 use Rattle.lookups.specs.declared.Head.{Head}
-use Rattle.lookups.proofs.Tables.{bytes-length, parameters-many, constructors-many}
+use Rattle.lookups.proofs.Tables.{parameters-many, constructors-many}
 use Rattle.machine.specs.Records.{Code, CodeAll, CodeAlternatives}
 use Rattle.machine.proofs.Codes.{code-behind, code-kind, code-call, code-construct, code-case, code-let, code-target, code-next, code-absent, code-present, Coded, a-variable, a-call, a-construct, a-case, a-let, a-target}
 use Rattle.skipping.specs.Ends.{passedOperands, passedAlternatives, Ends, EndAt, EndsFrom}

@@ -8,9 +8,9 @@ use native.Mathlib.Omega.{arith}
 use lib.ListN.{length, getD, getElem?}
 use Rattle.reach.specs.Syntax.{fieldTypes}
 use Rattle.reach.specs.Places.{bytesAt, constructorsAt, typeAt}
+use Rattle.reach.proofs.Places.{bytes-length}
 use Rattle.lookups.specs.declared.Fields.{Fields}
 use Rattle.lookups.specs.Fields.{fieldsOf, fieldsIn}
-use Rattle.lookups.proofs.Tables.{bytes-length}
 use Rattle.skipping.specs.Ends.{Ends, passedOperands, passedAlternatives}
 use Rattle.skipping.proofs.Finding.{operand-found, alternative-found}
 use Rattle.machine.specs.Records.{recordWord}

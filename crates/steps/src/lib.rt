@@ -16,6 +16,7 @@ use lookups::constructors_of;
 use lookups::fields_of;
 use lookups::head_of;
 use lookups::place_or_zero;
+use machine::word_or_zero;
 use records::byte_or_zero;
 use skipping::pass_alternatives;
 use skipping::pass_operands;
@@ -59,17 +60,6 @@ pub struct Ran {
 pub enum Alternative {
     Absent,
     Present(usize),
-}
-
-// A word of the work slice, or 0 past its end.
-pub fn word_or_zero(work: &[u32], at: usize) -> usize
-    ensures { λ r. ⌜ (r ≡ getD (now (work .entry)) at 0) × (r < 4294967296) ⌝ }
-{
-    if at < work.len() {
-        work[at] as usize
-    } else {
-        0
-    }
 }
 
 // Word k of a record.

@@ -14,10 +14,10 @@ use Rattle.reach.specs.Reader.{got}
 use Rattle.reach.specs.Input.{row, inputOf}
 use Rattle.reach.specs.Places.{bytesAt, typeAt}
 use Rattle.reach.proofs.Order.{There, free-unbound, ⊑-there, bind-refines, bind-has, bind-below, bind-new, open-unbound, open-least}
+use Rattle.reach.proofs.Places.{bytes-length}
 use Rattle.machine.specs.Cells.{cellWord, cellOf, Cells, Binds, Unmoved}
 use Rattle.machine.proofs.Cells.{field, walk-part, walk-kept, OneOf, bind-places, bind-elsewhere}
 use Rattle.cells.specs.Writes.{Starts}
-use Rattle.cells.proofs.Writing.{bytes-length}
 use Rattle.cells.proofs.Binding.{bound-cells}
 use Rattle.inputs.proofs.Closed.{Placed, input-row, ValueStands, row-width}
 use Rattle.inputs.proofs.Rows.{sourceRow}

@@ -5,7 +5,7 @@ ghost use Prim.Native.Nat.{_+_, _*_, _≤_};
 ghost use lib.ListN.{length};
 ghost use Rattle.reach.specs.Places.{bytesAt};
 ghost use Rattle.values.specs.Notes.{Noted, notedPlace, notePlace, behindValue};
-use cells::word_or_zero;
+use machine::word_or_zero;
 use inputs::Behind;
 use inputs::value;
 use records::byte_or_zero;

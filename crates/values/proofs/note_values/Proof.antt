@@ -6,7 +6,7 @@ use native.Mathlib.Omega.{arith}
 use lib.ListN.{length}
 use borrow.Author.Needs.{needs}
 use Rattle.reach.specs.Places.{bytesAt}
-use Rattle.cells.proofs.Writing.{bytes-length}
+use Rattle.reach.proofs.Places.{bytes-length}
 use Rattle.values.specs.Notes.{NotedFirst}
 use Rattle.values.proofs.Noting.{Reached, reached-first, noted-none, noted-next, reached-more}
 use Rattle.values.proofs.note_values.Statement.{statement}

@@ -9,13 +9,13 @@ use Rattle.values.proofs.noted.Tie as tie
 mul-result : tie.Need-mul-result
 mul-result c =
     let x = c .before .before .before .args .cell in
-    omega (arith, c .word-or-zero2 .ensures, c .before .before .shared-slice-known .given (5 * x + 1))
+    omega (arith, c .word-or-zero2 .ensures .0, c .before .before .shared-slice-known .given (5 * x + 1))
 
 add-result : tie.Need-add-result
 add-result c =
     let x = c .before .before .before .args .cell in
     let word = c .before .before .shared-slice-known .given in
-    omega (arith, c .before .word-or-zero .ensures, c .word-or-zero2 .ensures, word (5 * x + 4), word (5 * x + 1))
+    omega (arith, c .before .word-or-zero .ensures .0, c .word-or-zero2 .ensures .0, word (5 * x + 4), word (5 * x + 1))
 
 pub noted-spec : {M : Type 1} → statement M
 noted-spec =

@@ -1,10 +1,10 @@
--- `steps::word_or_zero` meets its contract: a word of the slice fits the wider type, and past the end stands 0.
+-- `machine::word_or_zero` meets its contract: a word of the slice fits the wider type, and past the end stands 0.
 use mathlib.Core.Path.{refl, sym}
 use native.Mathlib.Omega.{arith}
 use lib.ListN.{List·getD-eq-default}
 use borrow.Author.Needs.{needs}
-use Rattle.steps.proofs.word_or_zero.Statement.{statement}
-use Rattle.steps.proofs.word_or_zero.Tie as tie
+use Rattle.machine.proofs.word_or_zero.Statement.{statement}
+use Rattle.machine.proofs.word_or_zero.Tie as tie
 
 cast-result : tie.Need-cast-result
 cast-result c = omega (arith, c .shared-slice-known .given (c .before .before .args .at))
