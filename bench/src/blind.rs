@@ -49,20 +49,22 @@ fn product(types: &[usize], counts: &[u64]) -> u64 {
         .fold(1, |product: u64, of| product.saturating_mul(counts[*of]))
 }
 
-/// Runs closed inputs: all of them, or, where there are more than `most`, so many at equal distances in the order of
+/// The ranks of all closed inputs, or, where there are more than `most`, of so many at equal distances in the order of
 /// enumeration. The inputs must be countable.
+pub fn sample(counts: &Counts, most: u64) -> impl Iterator<Item = u64> {
+    let (all, inputs) = (counts.inputs, counts.inputs.min(most));
+    (0..inputs).map(move |number| (number as u128 * all as u128 / inputs as u128) as u64)
+}
+
+/// Runs the closed inputs of the sample.
 pub fn enumerate(program: &Program, counts: &Counts, most: u64) -> Tried {
-    let inputs = counts.inputs.min(most);
     let mut machine = Machine::new(program);
     let mut tried = Tried {
-        inputs,
+        inputs: counts.inputs.min(most),
         ..Tried::default()
     };
-    for number in 0..inputs {
-        let rank = (number as u128 * counts.inputs as u128 / inputs as u128) as u64;
-        machine.restart();
-        put_input(program, counts, &mut machine, rank);
-        match machine.run() {
+    for rank in sample(counts, most) {
+        match run_rank(program, counts, &mut machine, rank) {
             Stop::Reached => tried.reached += 1,
             Stop::Unfinished => tried.unfinished += 1,
             Stop::Ended => {}
@@ -72,8 +74,15 @@ pub fn enumerate(program: &Program, counts: &Counts, most: u64) -> Tried {
     tried
 }
 
+/// Runs the input of a rank in the order of enumeration.
+pub fn run_rank(program: &Program, counts: &Counts, machine: &mut Machine, rank: u64) -> Stop {
+    machine.restart();
+    put_input(program, counts, machine, rank);
+    machine.run()
+}
+
 /// Puts the input of a rank in the order of enumeration into the cells.
-fn put_input(program: &Program, counts: &Counts, machine: &mut Machine, rank: u64) {
+pub fn put_input(program: &Program, counts: &Counts, machine: &mut Machine, rank: u64) {
     let mut rest = rank;
     for (parameter, of) in program.parameters().iter().enumerate().rev() {
         let count = counts.values[program.depth][*of];

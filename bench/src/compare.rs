@@ -1,9 +1,11 @@
-//! Where the plain search and the library differ.
-use crate::blind::{completions, enumerate, Counts};
+//! Where the plain search and the library differ, and where their closed runs do.
+use crate::blind::{completions, enumerate, sample, Counts};
+use crate::closed::{input_bytes, run, Ran};
+use crate::machine::Stop;
 use crate::problems::{steps_of, Problem, Stored};
 use crate::program::Program;
 use crate::search::search;
-use remburai::{work_words, Listed, SearchError, Verdict};
+use remburai::{work_words, Listed, Outcome, SearchError, Verdict};
 
 /// The library's list of an accepted rule file, in a work slice and a list slice that are large enough.
 pub fn library_list(file: &[u8]) -> Result<(Vec<u8>, Verdict), SearchError> {
@@ -81,4 +83,42 @@ fn front(list: &[u8], room: usize) -> usize {
         length += entry.len();
     }
     length
+}
+
+/// Compares the runs of an accepted rule file on at most so many of its closed inputs, at equal distances in the enumeration. The result is
+/// their number; it is 0 where the inputs are too many to be counted.
+pub fn compare_runs(file: &[u8], most: u64) -> Result<u64, String> {
+    let program = Program::read(file);
+    let counts = Counts::of(&program);
+    if !counts.countable() {
+        return Ok(0);
+    }
+    for rank in sample(&counts, most) {
+        compare_run(file, &input_bytes(&program, &counts, rank))?;
+    }
+    Ok(counts.inputs.min(most))
+}
+
+/// Compares the runs of a rule file on one closed input: outcome and steps.
+pub fn compare_run(file: &[u8], input: &[u8]) -> Result<(), String> {
+    let mut work = vec![0; work_words(steps_of(file))];
+    let library = remburai::run(file, input, &mut work);
+    let plain = outcome(&run(file, input));
+    if library != Ok(plain) {
+        return Err(format!(
+            "the library's run is {library:?}, the plain one {plain:?}: {file:02x?} on {input:02x?}"
+        ));
+    }
+    Ok(())
+}
+
+/// How a plain run ends, in the library's words.
+fn outcome(ran: &Ran) -> Outcome {
+    let steps = ran.steps as u16;
+    match ran.stop {
+        Stop::Reached => Outcome::Reached(steps),
+        Stop::Ended => Outcome::Ended(steps),
+        Stop::Unfinished => Outcome::Unfinished(steps),
+        Stop::Waits(_) => unreachable!("a closed input has no open part"),
+    }
 }

@@ -1,13 +1,15 @@
 //! What the benchmark compares: the library, a plain search of the same rule files, and a blind enumeration.
 //!
-//! `program` reads an accepted rule file into a tree, `machine` evaluates it, `search` is the plain search by narrowing, `blind` runs closed
-//! inputs one by one, `problems` has the rule files, `compare` says where the plain search and the library differ, and `measure` takes the
-//! times. The plain side uses nothing of the library.
+//! `program` reads an accepted rule file into a tree, `machine` evaluates it, `prefix` reads and writes its input, `search` is the plain
+//! search by narrowing, `blind` runs closed inputs one by one, `closed` runs a rule file on one of them, `problems` has the rule files,
+//! `compare` says where the plain side and the library differ, and `measure` takes the times. The plain side uses nothing of the library.
 
 pub mod blind;
+pub mod closed;
 pub mod compare;
 pub mod machine;
 pub mod measure;
+pub mod prefix;
 pub mod problems;
 pub mod program;
 pub mod search;

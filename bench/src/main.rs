@@ -1,7 +1,8 @@
 //! Prints the benchmark's tables. README.md says what they show.
 use bench::blind::Counts;
-use bench::compare::{compare_problem, compare_stored, library_list};
-use bench::measure::{measure, Times, ROUNDS};
+use bench::closed::{longest_run, run, ClosedRun};
+use bench::compare::{compare_problem, compare_run, compare_runs, compare_stored, library_list};
+use bench::measure::{measure, measure_runs, Times, ROUNDS};
 use bench::problems::{depth_of, problems, steps_of, stored, with_depth, with_unused, Problem};
 use bench::program::Program;
 use bench::search::search;
@@ -11,6 +12,9 @@ use std::process::exit;
 /// The most closed inputs that a blind enumeration runs.
 const MOST_INPUTS: u64 = 20_000;
 
+/// The most closed inputs of a problem on which the runs are compared.
+const MOST_COMPARED: u64 = 500;
+
 /// The problem whose depth and whose file size are changed, the depths, the depth for the sizes, and the numbers of unused functions.
 const GROWING: &str = "member";
 const DEPTHS: [u8; 4] = [2, 3, 4, 5];
@@ -19,14 +23,18 @@ const UNUSED: [usize; 5] = [0, 2, 4, 8, 15];
 
 fn main() {
     let problems = problems().unwrap_or_else(|error| stop(&error.to_string()));
-    compare(&problems);
+    compare_lists(&problems);
+    let runs = closed_runs(&problems);
+    println!("Times: medians of {ROUNDS} interleaved rounds; at most {MOST_INPUTS} closed inputs are run.\n");
     print_problems(&problems);
     let growing = problems.iter().find(|problem| problem.name == GROWING);
     let growing = &growing
         .unwrap_or_else(|| stop("the growing problem is missing"))
         .file;
     print_depths(growing);
-    print_sizes(growing);
+    let largest = print_sizes(growing);
+    print_runs(&runs);
+    print_largest(&largest);
 }
 
 fn stop(why: &str) -> ! {
@@ -35,7 +43,7 @@ fn stop(why: &str) -> ! {
 }
 
 /// Compares the lists first: without equal lists there are no times.
-fn compare(problems: &[Problem]) {
+fn compare_lists(problems: &[Problem]) {
     for problem in problems {
         compare_problem(problem, MOST_INPUTS).unwrap_or_else(|why| stop(&why));
     }
@@ -45,7 +53,26 @@ fn compare(problems: &[Problem]) {
         .filter(|case| compare_stored(case).unwrap_or_else(|why| stop(&why)));
     let (problems, stored) = (problems.len(), compared.count());
     println!("Equal lists: {problems} problems and {stored} stored searches.");
-    println!("Times: medians of {ROUNDS} interleaved rounds; at most {MOST_INPUTS} closed inputs are run.\n");
+}
+
+/// The closed runs to be measured, compared too: without equal runs there are no times.
+fn closed_runs(problems: &[Problem]) -> Vec<ClosedRun<'_>> {
+    let runs: Vec<ClosedRun> = problems
+        .iter()
+        .filter_map(|problem| longest_run(problem, MOST_INPUTS))
+        .collect();
+    let inputs: u64 = runs.iter().map(compared_inputs).sum();
+    let problems = runs.len();
+    println!("Equal closed runs: {inputs} inputs of {problems} problems.");
+    runs
+}
+
+/// Compares the closed run that is measured and a sample of the same problem. The result is the number of inputs in the sample.
+fn compared_inputs(closed: &ClosedRun) -> u64 {
+    let file = &closed.problem.file;
+    compare_run(file, &closed.input)
+        .and_then(|()| compare_runs(file, MOST_COMPARED))
+        .unwrap_or_else(|why| stop(&why))
 }
 
 fn print_problems(problems: &[Problem]) {
@@ -83,14 +110,22 @@ fn search_columns(file: &[u8], times: &Times) -> String {
         stop("the plain list is another");
     }
     format!(
-        "{} | {} | {} | {:.3} | {:.3} | {:.2} | {:.1} million |",
+        "{} | {} | {} | {}",
         word(verdict),
         remburai::entries(&list).count(),
         searched.moves,
+        time_columns(searched.moves, times),
+    )
+}
+
+/// The times of the library and of the plain side, their ratio, and the library's steps a second.
+fn time_columns(steps: u64, times: &Times) -> String {
+    format!(
+        "{:.3} | {:.3} | {:.2} | {:.1} million |",
         times.library * 1e3,
         times.plain * 1e3,
         times.library / times.plain,
-        searched.moves as f64 / times.library / 1e6,
+        steps as f64 / times.library / 1e6,
     )
 }
 
@@ -146,8 +181,14 @@ fn print_depths(file: &[u8]) {
     println!();
 }
 
-/// How the cost grows with the file, by functions that are not used.
-fn print_sizes(file: &[u8]) {
+/// A rule file's bytes and the seconds of its check.
+struct Checked {
+    bytes: usize,
+    check: f64,
+}
+
+/// How the cost grows with the file, by functions that are not used. The result is the check of the last file, the largest.
+fn print_sizes(file: &[u8]) -> Checked {
     let file = with_depth(file, DEPTH_FOR_SIZES);
     let files = UNUSED.map(|unused| with_unused(&file, unused));
     let times = measure(&files.each_ref().map(|file| &file[..]), 0);
@@ -161,4 +202,37 @@ fn print_sizes(file: &[u8]) {
             search_columns(file, times)
         );
     }
+    println!();
+    let last = files.len() - 1;
+    Checked {
+        bytes: files[last].len(),
+        check: times[last].check,
+    }
+}
+
+/// One closed run of each problem.
+fn print_runs(runs: &[ClosedRun]) {
+    let times = measure_runs(runs);
+    println!("| Closed run | Bytes | S | Steps | Check alone, ms | Library, ms | Plain, ms | Library / plain | Library, steps a second |");
+    println!("|---|--:|--:|--:|--:|--:|--:|--:|--:|");
+    for (ClosedRun { problem, input }, times) in runs.iter().zip(&times) {
+        let file = &problem.file;
+        let steps = run(file, input).steps;
+        println!(
+            "| {} | {} | {} | {steps} | {:.3} | {}",
+            problem.name,
+            file.len(),
+            steps_of(file),
+            times.check * 1e3,
+            time_columns(steps as u64, times)
+        );
+    }
+}
+
+fn print_largest(largest: &Checked) {
+    println!(
+        "\nThe largest rule file of these tables has {} bytes; its check alone takes {:.3} ms.",
+        largest.bytes,
+        largest.check * 1e3
+    );
 }

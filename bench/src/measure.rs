@@ -1,9 +1,10 @@
-//! Times of the library, the plain search and the blind enumeration, in interleaved rounds.
+//! Times of the library, the plain side and the blind enumeration, in interleaved rounds.
 use crate::blind::{enumerate, Counts};
+use crate::closed::{run, ClosedRun};
 use crate::problems::steps_of;
 use crate::program::Program;
 use crate::search::search;
-use remburai::{work_words, LIST_LIMIT, STEP_LIMIT};
+use remburai::{work_words, Outcome, LIST_LIMIT, STEP_LIMIT};
 use std::hint::black_box;
 use std::time::Instant;
 
@@ -29,6 +30,13 @@ struct Library {
 }
 
 impl Library {
+    fn new() -> Library {
+        Library {
+            work: vec![1; work_words(STEP_LIMIT)],
+            list: vec![1; LIST_LIMIT],
+        }
+    }
+
     fn search(&mut self, file: &[u8]) -> usize {
         let words = work_words(steps_of(file));
         let listed = remburai::search(file, &mut self.work[..words], &mut self.list);
@@ -36,52 +44,73 @@ impl Library {
             .expect("an accepted rule file whose list fits")
             .length
     }
+
+    fn run(&mut self, file: &[u8], input: &[u8]) -> Outcome {
+        let words = work_words(steps_of(file));
+        let outcome = remburai::run(file, input, &mut self.work[..words]);
+        outcome.expect("an accepted rule file and an input that fits it")
+    }
 }
 
-/// A rule file with what the measurements of it need, and their results so far.
+/// A rule file with what the measurements of it need.
 struct Subject<'f> {
     file: &'f [u8],
     program: Program,
     counts: Counts,
     times: u32,
-    rounds: Vec<Times>,
 }
 
 /// Measures rule files: in each round every file, and for each file the library, its check alone, the plain search and the blind
 /// enumeration of at most `most_inputs` closed inputs, none where there are too many to be counted or `most_inputs` is 0.
 pub fn measure(files: &[&[u8]], most_inputs: u64) -> Vec<Times> {
-    let mut library = Library {
-        work: vec![1; work_words(STEP_LIMIT)],
-        list: vec![1; LIST_LIMIT],
-    };
-    let mut subjects: Vec<Subject> = files
+    let mut library = Library::new();
+    let subjects: Vec<Subject> = files
         .iter()
         .map(|file| subject(file, &mut library))
         .collect();
+    interleaved(&subjects, |subject| {
+        one_round(subject, &mut library, most_inputs)
+    })
+}
+
+/// Measures closed runs: in each round every one, and for each the library, its check alone and the plain run.
+pub fn measure_runs(runs: &[ClosedRun]) -> Vec<Times> {
+    let mut library = Library::new();
+    let mut repeated = vec![];
+    for closed in runs {
+        let times = repetitions(|| library.run(&closed.problem.file, &closed.input));
+        repeated.push((closed, times));
+    }
+    interleaved(&repeated, |(closed, times)| {
+        one_round_of_run(closed, *times, &mut library)
+    })
+}
+
+/// Measures every subject once in each round. The results are the medians of each.
+fn interleaved<S>(subjects: &[S], mut one_round: impl FnMut(&S) -> Times) -> Vec<Times> {
+    let mut rounds = vec![vec![]; subjects.len()];
     for _ in 0..ROUNDS {
-        for subject in &mut subjects {
-            let times = one_round(subject, &mut library, most_inputs);
-            subject.rounds.push(times);
+        for (subject, times) in subjects.iter().zip(&mut rounds) {
+            times.push(one_round(subject));
         }
     }
-    subjects
-        .iter()
-        .map(|subject| medians(&subject.rounds))
-        .collect()
+    rounds.iter().map(|times| medians(times)).collect()
 }
 
 fn subject<'f>(file: &'f [u8], library: &mut Library) -> Subject<'f> {
     let program = Program::read(file);
     let counts = Counts::of(&program);
-    let once = seconds(1, || library.search(file));
-    let times = (LEAST_SECONDS / once).ceil().clamp(1.0, 1e6) as u32;
     Subject {
         file,
         program,
         counts,
-        times,
-        rounds: vec![],
+        times: repetitions(|| library.search(file)),
     }
+}
+
+/// How often a call is repeated in one measurement.
+fn repetitions<T>(call: impl FnMut() -> T) -> u32 {
+    (LEAST_SECONDS / seconds(1, call)).ceil().clamp(1.0, 1e6) as u32
 }
 
 fn one_round(subject: &Subject, library: &mut Library, most_inputs: u64) -> Times {
@@ -90,7 +119,6 @@ fn one_round(subject: &Subject, library: &mut Library, most_inputs: u64) -> Time
         program,
         counts,
         times,
-        ..
     } = subject;
     let blind = most_inputs != 0 && counts.countable();
     Times {
@@ -98,6 +126,16 @@ fn one_round(subject: &Subject, library: &mut Library, most_inputs: u64) -> Time
         check: seconds(*times, || remburai::check(file)),
         plain: seconds(*times, || search(file)),
         blind: blind.then(|| seconds(1, || enumerate(program, counts, most_inputs))),
+    }
+}
+
+fn one_round_of_run(closed: &ClosedRun, times: u32, library: &mut Library) -> Times {
+    let (file, input) = (&closed.problem.file, &closed.input);
+    Times {
+        library: seconds(times, || library.run(file, input)),
+        check: seconds(times, || remburai::check(file)),
+        plain: seconds(times, || run(file, input)),
+        blind: None,
     }
 }
 

@@ -1,5 +1,6 @@
 //! The plain search: the same list as the library's, by narrowing with a stack of choice points, in buffers without bounds.
-use crate::machine::{Machine, Point, Stop, OPEN};
+use crate::machine::{Machine, Point, Stop};
+use crate::prefix::write_input;
 use crate::program::Program;
 
 /// A list, and the steps of the search in all.
@@ -65,23 +66,7 @@ fn write_entry(program: &Program, machine: &Machine, mark: &[u8; 2], list: &mut 
     list.extend_from_slice(&(machine.steps as u16).to_le_bytes());
     let length = list.len();
     list.extend_from_slice(&[0, 0]);
-    for parameter in 0..program.parameters().len() {
-        write_part(program, machine, parameter, list);
-    }
+    write_input(program, machine, list);
     let size = (list.len() - length - 2) as u16;
     list[length..length + 2].copy_from_slice(&size.to_le_bytes());
-}
-
-/// Writes the part of the input in a cell, in prefix form.
-fn write_part(program: &Program, machine: &Machine, at: usize, list: &mut Vec<u8>) {
-    let cell = machine.cells[at];
-    list.push(cell.constructor);
-    if cell.constructor != OPEN {
-        let fields = program.types[cell.of as usize][cell.constructor as usize]
-            .fields
-            .len();
-        for field in 0..fields {
-            write_part(program, machine, cell.first as usize + field, list);
-        }
-    }
 }
