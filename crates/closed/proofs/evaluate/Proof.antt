@@ -17,20 +17,27 @@ begin-requires c κs = let pre = c .before .before .before .before .before .befo
     let given = pre .2 in
     let few = n-few given (c .before .before .before .before .steps .ensures) (c .before .before .before .source .ensures) (c .before .before .head-of .result) (c .before .before .head-of .ensures .0) (c .depth .ensures) in
     let near = c .before .before .head-of .ensures .1 in (
-    omega arith,
-    omega (arith, pre .3, c .before .before .before .before .steps .ensures, steps-is given),
-    omega arith,
-    omega arith,
-    omega (arith, c .depth .ensures, depth-is given, depth-small given),
+      omega arith,
+      omega (arith, pre .3, c .before .before .before .before .steps .ensures, steps-is given),
+      omega arith,
+      omega arith,
+      omega (arith, c .depth .ensures, depth-is given, depth-small given),
     )
 
 go-on-requires : tie.Need-go-on-requires
 go-on-requires c κs = let pre = c .before .before .before .before .before .before .before .before .before .before .before .before .before .before .before .before .before .before .before .pre in
     let given = pre .2 in (
-    (omega (arith, c .before .before .before .before .before .before .before .before .before .before .steps .ensures, steps-is given, steps-few given),
-    (pre .0, pre .1, start (pre .0),
-    evaluation-begins given (c .before .before .before .before .before .before .before .before .before .before .steps .ensures) (c .before .before .before .before .before .before .before .before .before .source .ensures) (c .before .before .before .before .before .before .before .before .head-of .result) (c .before .before .before .before .before .before .before .before .head-of .ensures .0) (c .before .before .before .before .before .before .depth .ensures) (c .before .label .ensures) (omega (arith, pre .3, c .before .before .before .before .before .before .before .before .before .before .steps .ensures, steps-is given)) (c .before .before .before .before .before .begin .ensures))),
-    c .before .before .before .before .before .before .before .before .before .before .before .before .fill-ends .ensures)
+      (
+        omega (arith, c .before .before .before .before .before .before .before .before .before .before .steps .ensures, steps-is given, steps-few given),
+        (
+          pre .0,
+          pre .1,
+          start (pre .0),
+          evaluation-begins given (c .before .before .before .before .before .before .before .before .before .before .steps .ensures) (c .before .before .before .before .before .before .before .before .before .source .ensures) (c .before .before .before .before .before .before .before .before .head-of .result) (c .before .before .before .before .before .before .before .before .head-of .ensures .0) (c .before .before .before .before .before .before .depth .ensures) (c .before .label .ensures) (omega (arith, pre .3, c .before .before .before .before .before .before .before .before .before .before .steps .ensures, steps-is given)) (c .before .before .before .before .before .begin .ensures),
+        ),
+      ),
+      c .before .before .before .before .before .before .before .before .before .before .before .before .fill-ends .ensures,
+    )
 
 returns : tie.Need-returns
 returns c = let pre = c .before .before .before .before .before .before .before .before .before .before .before .before .before .before .before .before .before .before .before .before .before .before .pre in
