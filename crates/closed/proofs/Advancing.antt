@@ -1,6 +1,6 @@
 -- The run goes on: after a step, and after the open part that a case looks at was bound to what the closed input has there.
--- Rests on specs/Running, on Reached and Standing, and on values' laws of what is noted in the cells.
-use Prim.Native.Nat.{ℕ, suc, _+_, _*_, _≤_, _<_}
+-- Rests on specs/Running, on Reached and Bound, on steps' Standing and Waiting, and on values' laws of what is noted in the cells.
+use Prim.Native.Nat.{ℕ, suc, _+_, _*_, _-_, _≤_, _<_}
 use mathlib.Core.Path.{_≡_, refl, sym, _∙_, ap, subst}
 use mathlib.Core.List.{List, map}
 use mathlib.Core.Option.{some}
@@ -28,10 +28,14 @@ use Rattle.values.proofs.Binding.{OpenStands, open-stands, bound-follows}
 use Rattle.steps.specs.declared.Registers.{Registers}
 use Rattle.steps.specs.declared.Next.{Next}
 use Rattle.steps.specs.declared.Next.the-variants as Next
-use Rattle.steps.specs.Stepping.{Standing, OnlyTop, Follows, StepMeans, Stepped}
+use Rattle.machine.specs.Records.{partIn}
+use Rattle.steps.specs.Stepping.{controlIn, Standing, OnlyTop, Follows, StepMeans, Stepped, FieldCount}
+use Rattle.steps.specs.Running.{BoundPart}
+use Rattle.steps.proofs.Waiting.{waits-control}
 use Rattle.steps.proofs.Words.{records-same}
 use Rattle.steps.proofs.Standing.{stands-after, stands-below}
-use Rattle.closed.specs.Running.{Given, Running, Underway, notedNumber, Bindable, BoundAs, Advances, ComesTo, BoundSoFar}
+use Rattle.closed.specs.Running.{Given, Running, Underway, notedNumber, Bindable, BoundAs, Advances, AdvancesAll, ComesTo, BoundSoFar}
+use Rattle.closed.proofs.Bound.{head-now, first-now, no-fewer, fields-now}
 use Rattle.closed.proofs.Reached.{below-width, reached-in, reached-sound, run-goes, run-demands, run-stops, run-spent}
 
 -- what is noted in the cells stays while the record at the top is written
@@ -237,26 +241,24 @@ module _ {file types functions input : List ℕ} {goal : ℕ} {p : Program} {j :
           )
       advances (Next.Waits x) few stepped no-wait = absurd (no-wait x refl)
 
--- What `advance` does. After a step that does not wait:
+-- after a step that does not wait
 pub went :
-    {file types functions input : List ℕ} {label limit : ℕ} {w : List ℕ} {base cells done : ℕ} {r : Registers} {p : Program} {j : Parts} {s : State}
-    → Underway file types functions input label limit w base cells done r p j s → {w′ : List ℕ} {n : Next} → Stepped file types functions w w′ base label r n
-    → (n′ : Next) → n ≡ n′ → ((x : ℕ) → n′ ≡ Next.Waits x → ⊥)
-    → Advances file types functions input label limit w′ base done p j s cells n′ × BoundSoFar p j done s n′ w′
-went {file} {types} {functions} {label = label} {w = w} {base = base} {r = r} h {w′} stepped n′ is never =
-    let told = subst (Stepped file types functions w w′ base label r) is stepped in (
-      advances (h .given) (h .running) (h .sought) (h .in-time) n′ (omega arith) told never,
-      bound-so-far (h .given) (h .running) (h .sought) (h .in-time) n′ told never,
-    )
+    {file types functions input : List ℕ} {label : ℕ} {w w′ : List ℕ} {base cells : ℕ} {r : Registers} (n : Next)
+    → Stepped file types functions w w′ base label r n → ((x : ℕ) → n ≡ Next.Waits x → ⊥)
+    → AdvancesAll file types functions input label w w′ base cells r cells n
+went n stepped never limit done p j s h = (
+  advances (h .given) (h .running) (h .sought) (h .in-time) n (omega arith) stepped never,
+  bound-so-far (h .given) (h .running) (h .sought) (h .in-time) n stepped never,
+)
 
--- After one that waits on the part in cell x, which is then bound, and a second step:
+-- After one that waits on the part in cell x, which is then bound, and the case's step with it:
 module _
     {file types functions input : List ℕ} {label limit : ℕ} {w : List ℕ} {base cells done : ℕ} {r : Registers} {p : Program} {j : Parts} {s : State}
-    (h : Underway file types functions input label limit w base cells done r p j s) {w₁ : List ℕ} {n : Next} {x : ℕ}
-    (stepped : Stepped file types functions w w₁ base label r n) (is : n ≡ Next.Waits x)
+    (h : Underway file types functions input label limit w base cells done r p j s) {w₁ : List ℕ} {x : ℕ}
+    (stepped : Stepped file types functions w w₁ base label r (Next.Waits x))
   where
     question : (q : Question) × (next p (h .running .input) s ≡ waits q) × (cellOf w (q .place) ≡ x)
-    question = subst (StepMeans file types functions w w₁ base r p (h .running .input) s) is (means (h .given) (h .running) (h .sought) (h .in-time) stepped)
+    question = means (h .given) (h .running) (h .sought) (h .in-time) stepped
 
     now₁ : Running file types functions p j limit w₁ base cells done done r s
     now₁ = running-kept (h .given) (h .running) (stepped .only-top)
@@ -271,6 +273,13 @@ module _
     unfolding now₁ running-kept
     asks = subst (λ y. Bindable file types input w₁ cells y) cell-is (bindable (h .given) now₁ (h .in-time) (omega arith) (question .0) (question .1))
 
+    -- the constructor there has fields of these types
+    asked-known : (us : List ℕ) × (fieldsIn file types (cellWord w₁ x 2) (notedNumber input w₁ x) ≡ some us)
+    unfolding now₁ running-kept
+    asked-known =
+        subst (λ y. (us : List ℕ) × (fieldsIn file types (cellWord w₁ y 2) (notedNumber input w₁ y) ≡ some us)) cell-is
+        (value (h .given) now₁ (h .in-time) (omega arith) (question .0) (question .1) .stands .fields, known (h .given) now₁ (h .in-time) (omega arith) (question .0) (question .1))
+
     module _ {w₂ : List ℕ} {more : ℕ} (bound : BoundAs file types input w₁ w₂ cells x more) where
       now₂ : (after : Running file types functions p j limit w₂ base more done (done + 1) r s) × (s′ : State) × (next p (after .input) s ≡ goes s′)
       unfolding now₁ running-kept
@@ -278,8 +287,38 @@ module _
           bind-running (h .given) now₁ (h .in-time) (omega arith) (question .0) (question .1)
           (subst (λ y. BoundAs file types input w₁ w₂ cells y more) (sym cell-is) bound)
 
-      pub standing : Standing file types functions w₂ base r
+      standing : Standing file types functions w₂ base r
       standing = record { program = p; cells = more; input = now₂ .0 .input; state = s; file-of = h .given .file-of; stands = now₂ .0 .stands }
+
+      looks : (controlIn r ≡ partIn x) × (r .frame ≡ 0 → ⊥)
+      looks =
+          let told = waits-control (h .running .stands) (question .1) in
+          (told .0 ∙ ap partIn (question .2), told .1)
+
+      pub more-cells : cells ≤ more
+      more-cells = no-fewer asks (asked-known .0) (asked-known .1) bound
+
+      module _ {head : ℕ} (head-is : head ≡ cellWord w₂ x 0) where
+        head-suc : head ≡ suc (notedNumber input w₁ x)
+        head-suc = head-is ∙ head-now asks (asked-known .0) (asked-known .1) bound
+
+        pub some-head : 1 ≤ head
+        some-head = omega (arith, head-suc)
+
+        -- the case goes on with the part that is bound
+        pub entering : head < 4294967296 → BoundPart file types functions w₂ base x r (head - 1) (more - cells) cells
+        entering small =
+            let number : notedNumber input w₁ x ≡ head - 1 = omega (arith, head-suc) in
+            record {
+              standing = standing;
+              is-part = looks .0;
+              some-frame = looks .1;
+              head-is = sym head-is ∙ head-suc ∙ ap suc number;
+              first-is = first-now asks (asked-known .0) (asked-known .1) bound;
+              fields =
+                  subst (λ (c : ℕ). FieldCount file types (cellWord w₂ x 2) c (more - cells)) number (fields-now asks (asked-known .0) (asked-known .1) bound);
+              small = (omega arith, omega (arith, asks .room, asks .narrow));
+            }
 
       pub went-bound :
           {w₃ : List ℕ} {n₂ : Next} → Stepped file types functions w₂ w₃ base label r n₂

@@ -1,11 +1,11 @@
--- A cell bound as `bind_asked` does it, from what its callees ensure.
--- Rests on specs/Running, lookups' Fields and cells' Writing.
-use Prim.Native.Nat.{ℕ, _+_, _-_, _≤_}
+-- A cell bound as `bind_asked` does it, from what its callees ensure, and what its words are then.
+-- Rests on specs/Running, lookups' Fields, steps' Stepping and cells' Writing.
+use Prim.Native.Nat.{ℕ, suc, _+_, _*_, _-_, _≤_, _<_}
 use mathlib.Core.Path.{_≡_, refl, sym, _∙_, ap}
 use mathlib.Core.List.{List}
 use mathlib.Core.Option.{some, Option·some-injective}
 use native.Mathlib.Omega.{arith}
-use lib.ListN.{getD}
+use lib.ListN.{length, getD}
 use Rattle.reach.specs.Places.{bytesAt}
 use Rattle.reach.proofs.Base.{clash}
 use Rattle.reach.proofs.Places.{bytes-length}
@@ -14,7 +14,8 @@ use Rattle.lookups.specs.declared.Fields.{Fields}
 use Rattle.lookups.specs.declared.Fields.the-variants as Fields
 use Rattle.machine.specs.Cells.{cellWord, Binds}
 use Rattle.values.specs.Notes.{notedPlace, Noted}
-use Rattle.closed.specs.Running.{notedNumber, Bindable, BoundAs}
+use Rattle.steps.specs.Stepping.{FieldCount}
+use Rattle.closed.specs.Running.{notedNumber, Bindable, BoundAs, BoundCell}
 
 module _
     (file types input w : List ℕ) (cells x : ℕ) {place c t : ℕ} (a : Fields) (place-is : place ≡ notedPlace w x) (c-is : c ≡ getD input place 0)
@@ -47,3 +48,39 @@ module _
             refl,
             record { between = v; binds = rw number at binds; noted = rw (place-is, room-is) at noted },
           )
+
+-- The words of a cell that was bound to the constructor at its noted place, whose fields have these types.
+module _
+    {file types input w w′ : List ℕ} {cells x more : ℕ} (bindable : Bindable file types input w cells x) (us : List ℕ)
+    (known : fieldsIn file types (cellWord w x 2) (notedNumber input w x) ≡ some us) (bound : BoundAs file types input w w′ cells x more)
+  where
+    the-bound : (fields k : ℕ) × (us ≡ bytesAt file fields k) × (more ≡ cells + k) × BoundCell file types input w w′ cells x fields k
+    the-bound = bound us known
+
+    -- noting where the fields' values stand changes no word of it
+    same-word : (k : ℕ) → k < 5 → cellWord w′ x k ≡ cellWord (the-bound .4 .between) x k
+    same-word k few = the-bound .4 .noted .elsewhere (5 * x + k) (λ m l. (omega (arith, bindable .in-use), omega (arith, bindable .in-use)))
+
+    pub head-now : cellWord w′ x 0 ≡ suc (notedNumber input w x)
+    head-now = same-word 0 (omega arith) ∙ the-bound .4 .binds .new-head
+
+    pub first-now : cellWord w′ x 1 ≡ cells
+    first-now = same-word 1 (omega arith) ∙ the-bound .4 .binds .first-field
+
+    type-now : cellWord w′ x 2 ≡ cellWord w x 2
+    type-now = same-word 2 (omega arith) ∙ the-bound .4 .binds .elsewhere (5 * x + 2) (omega arith) (omega arith) (λ h. omega (arith, bindable .in-use))
+
+    many : length us ≡ the-bound .1
+    many = ap length (the-bound .2) ∙ bytes-length file (the-bound .0) (the-bound .1)
+
+    pub no-fewer : cells ≤ more
+    no-fewer = omega (arith, the-bound .3)
+
+    -- the new cells are as many as the constructor has fields
+    pub fields-now : FieldCount file types (cellWord w′ x 2) (notedNumber input w x) (more - cells)
+    fields-now = (
+      λ vs also.
+          let same = Option·some-injective _ _ (sym known ∙ ap (λ t. fieldsIn file types t (notedNumber input w x)) (sym type-now) ∙ also) in
+          omega (arith, the-bound .3, many, ap length same),
+      omega (arith, the-bound .3, many, bindable .few us known),
+    )

@@ -1,6 +1,6 @@
 pub mod Reached
-pub mod Advancing
 pub mod Bound
+pub mod Advancing
 pub mod Looping
 pub mod Beginning
 pub mod Answering

@@ -6,7 +6,6 @@ use mathlib.Core.List.{List, map}
 use mathlib.Core.Option.{some}
 use lib.ListN.{length, getD, drop}
 use Rattle.reach.specs.declared.Outcome.{Outcome}
-use Rattle.reach.specs.declared.Outcome.the-variants as Outcome
 use Rattle.reach.specs.Syntax.{Program}
 use Rattle.reach.specs.Parts.{Parts, _⊑_}
 use Rattle.reach.specs.Types.{sourceSlots}
@@ -27,7 +26,8 @@ use Rattle.steps.specs.declared.Next.{Next}
 use Rattle.steps.specs.declared.Next.the-variants as Next
 use Rattle.closed.specs.declared.Answer.{Answer}
 use Rattle.closed.specs.declared.Answer.the-variants as Answer
-use Rattle.steps.specs.Stepping.{FileOf, StandsFor, Wrote}
+use Rattle.steps.specs.Stepping.{FileOf, StandsFor, Wrote, Stepped}
+use Rattle.skipping.specs.Ends.{Ends}
 
 -- A checked file with its tables, its program, and a closed input of the program.
 pub record Given (file types functions input : List ℕ) (goal : ℕ) (p : Program) (j : Parts) : Type 0 where
@@ -57,11 +57,6 @@ pub record Underway (file types functions input : List ℕ) (label limit : ℕ) 
   pub sought : label ≡ p .label
   pub in-time : done ≤ limit
   pub running : Running file types functions p j limit w base cells done done r s
-
--- it is under way, for some program and closed input
-abbrev pub SomeUnderway : List ℕ → List ℕ → List ℕ → List ℕ → ℕ → List ℕ → ℕ → ℕ → Registers → Type 0
-SomeUnderway file types functions input label w base cells r =
-    (limit done : ℕ) × (p : Program) × (j : Parts) × (s : State) × Underway file types functions input label limit w base cells done r p j s
 
 -- Binding a cell.
 
@@ -118,10 +113,25 @@ pub record BoundSoFar (p : Program) (j : Parts) (done : ℕ) (s : State) (n : Ne
   pub steps : Steps p input done s
   pub comes : ComesTo p input s n
 
+-- this is said of every run that is under way in words w, and goes on in words w′
 abbrev pub AdvancesAll : List ℕ → List ℕ → List ℕ → List ℕ → ℕ → List ℕ → List ℕ → ℕ → ℕ → Registers → ℕ → Next → Type 0
 AdvancesAll file types functions input label w w′ base cells r cells′ n =
     (limit done : ℕ) (p : Program) (j : Parts) (s : State) → Underway file types functions input label limit w base cells done r p j s
     → Advances file types functions input label limit w′ base done p j s cells′ n × BoundSoFar p j done s n w′
+
+-- A case that waits on an open part.
+
+-- a step from where the run is under way, in some words, left words w₁, and waits on the part in cell x
+abbrev pub SomeWaiting : List ℕ → List ℕ → List ℕ → List ℕ → ℕ → ℕ → ℕ → Registers → Type 0
+SomeWaiting file types input w₁ base cells x r =
+    (functions w : List ℕ) × (label limit done : ℕ) × (p : Program) × (j : Parts) × (s : State) × Underway file types functions input label limit w base cells done r p j s
+    × Stepped file types functions w w₁ base label r (Next.Waits x)
+
+-- the part was bound, and the case went on with it: wherever a step waited so, the run goes on in words w′
+abbrev pub Enters : List ℕ → List ℕ → List ℕ → List ℕ → List ℕ → List ℕ → ℕ → ℕ → ℕ → Registers → ℕ → Registers → Type 0
+Enters file types ends input w₁ w′ base cells x r cells′ r′ =
+    (functions w : List ℕ) (label : ℕ) → Ends file types functions ends → Stepped file types functions w w₁ base label r (Next.Waits x)
+    → AdvancesAll file types functions input label w w′ base cells r cells′ (Next.Goes r′)
 
 -- What words w stand for after a run of at most `limit` steps: a partial input below the closed one, on which the evaluation comes to the same end. So
 -- each part that is bound has the constructor that the closed input has there, and no step of the run looked at a part that is open.
@@ -148,13 +158,6 @@ abbrev pub CameTo : (file types functions input : List ℕ) (label limit : ℕ) 
 CameTo file types functions input label limit w₀ base first from w cells done r =
     (p : Program) (j : Parts) (s : State) → Underway file types functions input label limit w₀ base first 0 from p j s
     → (s′ : State) × Underway file types functions input label limit w base cells done r p j s′ × (eval p j limit 0 s ≡ eval p j (limit - done) done s′)
-
--- the end of a run, by what comes next where no step is left or taken
-abbrev pub endedAs : Next → ℕ → Outcome
-endedAs Next.Demands done = Outcome.Reached done
-endedAs Next.Stops done = Outcome.Ended done
-endedAs (Next.Goes r) done = Outcome.Unfinished done
-endedAs (Next.Waits x) done = Outcome.Unfinished done
 
 -- The words at the beginning: the source's n parameters, whose types stand from place `first` of the file on, have open cells with their values'
 -- places noted, and records 0 and 1 are the empty environment and the parameters' group.

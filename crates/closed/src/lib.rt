@@ -5,7 +5,7 @@ ghost use Prim.Native.Nat.{ℕ, _+_, _*_, _≤_, _<_};
 ghost use lib.ListN.{length, getD};
 ghost use Rattle.reach.specs.Answers.{runAnswer};
 ghost use Rattle.skipping.specs.Ends.{Ends};
-ghost use Rattle.closed.specs.Running.{SomeUnderway, Bindable, BoundAs, AdvancesAll, Begins, EndsAs, endedAs, Begun, Runnable, RunsAs, answerOf, Unchanged, Leaves};
+ghost use Rattle.closed.specs.Running.{Bindable, BoundAs, SomeWaiting, Enters, Begins, EndsAs, Begun, Runnable, RunsAs, answerOf, Unchanged, Leaves};
 use cells::bind_cell;
 use cells::start_cells;
 use inputs::input_fits;
@@ -22,11 +22,12 @@ use rulefile::load;
 use rulefile::source;
 use rulefile::steps;
 use skipping::fill_ends;
-use steps::Next;
+use steps::Halt;
 use steps::Registers;
 use steps::cell_word;
+use steps::enter_part;
 use steps::put_record;
-use steps::step;
+use steps::run_on;
 use values::note_values;
 use values::noted;
 
@@ -36,9 +37,9 @@ pub enum Answer {
     Refused(Refusal),
 }
 
-// What comes next, and how many cells are in use.
-pub struct Advanced {
-    pub next: Next,
+// Where a case goes on with a part that was bound: the registers, and how many cells are in use.
+pub struct Entered {
+    pub registers: Registers,
     pub cells: usize,
 }
 
@@ -77,59 +78,32 @@ fn bind_asked<'a>(
     cells + k
 }
 
-// One step; a part that a case looks at is bound first.
-fn advance<'a>(
+// The open part in cell x, on which a case waits, is bound to what the input has there, and the case goes on with it.
+fn enter_asked<'a>(
     file: &'a [u8],
     types: &'a [u16],
-    functions: &'a [u16],
     ends: &'a [u16],
-    label: usize,
     input: &'a [u8],
     work: &mut [u32],
     base: usize,
     cells: usize,
+    x: usize,
     r: Registers,
-) -> Advanced
-    requires { ⌜ SomeUnderway (now file) (now types) (now functions) (now input) label (now work) base cells r ⌝ }
-    requires { ⌜ Ends (now file) (now types) (now functions) (now ends) ⌝ }
-    ensures { λ a. ⌜ AdvancesAll (now (file .entry)) (now (types .entry)) (now (functions .entry)) (now (input .entry)) label (now (work .entry)) (now (work .exit)) base cells r (a .cells) (a .next) ⌝ }
+) -> Entered
+    requires { ⌜ SomeWaiting (now file) (now types) (now input) (now work) base cells x r ⌝ }
+    ensures { λ a. ⌜ Enters (now (file .entry)) (now (types .entry)) (now (ends .entry)) (now (input .entry)) (now (work .entry)) (now (work .exit)) base cells x r (a .cells) (a .registers) ⌝ }
 {
-    let first = step(file, types, functions, ends, label, work, base, r);
-    match first {
-        Next::Demands => Advanced {
-            next: Next::Demands,
-            cells,
-        },
-        Next::Stops => Advanced {
-            next: Next::Stops,
-            cells,
-        },
-        Next::Goes(to) => Advanced {
-            next: Next::Goes(to),
-            cells,
-        },
-        Next::Waits(x) => {
-            let more = bind_asked(file, types, input, work, cells, x);
-            let next = step(file, types, functions, ends, label, work, base, r);
-            Advanced { next, cells: more }
-        }
+    let more = bind_asked(file, types, input, work, cells, x);
+    let head = cell_word(work, x, 0);
+    let registers = enter_part(file, ends, work, base, r, head - 1, more - cells, cells);
+    Entered {
+        registers,
+        cells: more,
     }
 }
 
-// The end of a run after so many steps, by what comes next where no step is left.
-fn last(next: Next, done: usize) -> Outcome
-    requires { ⌜ done ≤ 4096 ⌝ }
-    ensures { λ o. ⌜ o ≡ endedAs next done ⌝ }
-{
-    match next {
-        Next::Demands => Outcome::Reached(done as u16),
-        Next::Stops => Outcome::Ended(done as u16),
-        Next::Goes(_) => Outcome::Unfinished(done as u16),
-        Next::Waits(_) => Outcome::Unfinished(done as u16),
-    }
-}
-
-// At most so many steps from the registers on.
+// At most so many steps from the registers on. Where a case waits on an open part, the part is bound and the case goes on with it, also where
+// no step is left: then the words stand for all that the run looked at.
 fn go_on<'a>(
     file: &'a [u8],
     types: &'a [u16],
@@ -150,43 +124,37 @@ fn go_on<'a>(
     let mut r = from;
     let mut cells = first;
     let mut done: usize = 0;
-    while done < limit {
-        let turn = advance(
+    loop {
+        let ran = run_on(
             file,
             types,
             functions,
             ends,
             label,
-            input,
             work,
             base,
-            cells,
             r,
+            limit - done,
         );
-        let next = turn.next;
-        match next {
-            Next::Goes(to) => r = to,
-            Next::Demands => return Outcome::Reached(done as u16),
-            Next::Stops => return Outcome::Ended(done as u16),
-            Next::Waits(_) => return Outcome::Unfinished(done as u16),
+        let halt = ran.halt;
+        let at = ran.registers;
+        let reached = done + ran.steps;
+        match halt {
+            Halt::Demands => return Outcome::Reached(reached as u16),
+            Halt::Stops => return Outcome::Ended(reached as u16),
+            Halt::Spent => return Outcome::Unfinished(reached as u16),
+            Halt::Waits(x) => {
+                let entered = enter_asked(file, types, ends, input, work, base, cells, x, at);
+                let to = entered.registers;
+                r = to;
+                cells = entered.cells;
+            }
         }
-        cells = turn.cells;
-        done += 1;
+        if limit <= reached {
+            return Outcome::Unfinished(reached as u16);
+        }
+        done = reached + 1;
     }
-    let turn = advance(
-        file,
-        types,
-        functions,
-        ends,
-        label,
-        input,
-        work,
-        base,
-        cells,
-        r,
-    );
-    let next = turn.next;
-    last(next, done)
 }
 
 // The words at the beginning: open cells for the n parameters of the source, whose types stand from place `first` of the file on, with

@@ -5,9 +5,9 @@ ghost use Prim.Native.Nat.{_+_, _*_, _≤_};
 ghost use lib.ListN.{length};
 ghost use Rattle.reach.specs.Places.{bytesAt};
 ghost use Rattle.values.specs.Notes.{Noted, notedPlace, notePlace, behindValue};
-use machine::word_or_zero;
 use inputs::Behind;
 use inputs::value;
+use machine::word_or_zero;
 use records::byte_or_zero;
 
 // The place that is noted in an open cell.
