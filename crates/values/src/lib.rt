@@ -1,7 +1,7 @@
 // Where the values of a closed input stand, noted in the open cells: the low half of the place in word 4, the high half in word 1,
 // which a bound cell needs for its first field and an open one does not. Rests on crates cells and inputs.
 ghost use mathlib.Core.Path.{_≡_};
-ghost use Prim.Native.Nat.{_+_, _*_, _≤_};
+ghost use Prim.Native.Nat.{_+_, _*_, _≤_, _<_};
 ghost use lib.ListN.{length};
 ghost use Rattle.reach.specs.Places.{bytesAt};
 ghost use Rattle.values.specs.Notes.{Noted, notedPlace, notePlace, behindValue};
@@ -49,7 +49,7 @@ pub fn note_values<'a>(
     let mut more = k;
     while 0 < more {
         note(work, cell, place);
-        place = behind_value(file, types, input, place, byte_or_zero(file, field), room);
+        place = next_place(file, types, input, place, byte_or_zero(file, field), room, more);
         cell += 1;
         field += 1;
         more -= 1;
@@ -71,4 +71,22 @@ fn behind_value<'a>(
         return at;
     };
     next
+}
+
+// The place behind that value where more than one is left; the last one is not passed over.
+fn next_place<'a>(
+    file: &'a [u8],
+    types: &'a [u16],
+    input: &'a [u8],
+    at: usize,
+    t: usize,
+    room: usize,
+    left: usize,
+) -> usize
+    ensures { λ r. ⌜ (1 < left → r ≡ behindValue (now (file .entry)) (now (types .entry)) (now (input .entry)) at t room) ⌝ }
+{
+    if left <= 1 {
+        return at;
+    }
+    behind_value(file, types, input, at, t, room)
 }

@@ -1,6 +1,6 @@
--- `values::note_values` meets its contract. The loop's invariant: the places of the values before the present one are noted, where the row is read the
--- present one stands at `place`, and cell and field are as many on as places are noted. The measure is how many are left. Rests on Noting.
-use Prim.Native.Nat.{_+_, _-_, _≤_}
+-- `values::note_values` meets its contract. The loop's invariant: the places of the values before the present one are noted, where the row is read and
+-- one is left the present one stands at `place`, and cell and field are as many on as places are noted. The measure is how many are left. Rests on Noting.
+use Prim.Native.Nat.{_+_, _-_, _≤_, _<_}
 use mathlib.Core.Path.{_≡_}
 use native.Mathlib.Omega.{arith}
 use lib.ListN.{length}
@@ -15,7 +15,7 @@ use Rattle.values.proofs.note_values.Tie as tie
 abbrev Inv-loop : tie.InvT-loop
 Inv-loop file types input work₀ first fields k at room cell₀ field₀ place₀ more₀ work cell field place more =
     (NotedFirst file types input work₀ work first (bytesAt file fields k) at room (k - more))
-    × (Reached file types input (bytesAt file fields k) at room (k - more) place)
+    × (0 < more → Reached file types input (bytesAt file fields k) at room (k - more) place)
     × (cell + more ≡ first + k)
     × (field + more ≡ fields + k)
     × (more ≤ k)
@@ -29,7 +29,7 @@ loop-holds c =
     let none : args .k - args .k ≡ 0 = omega arith in
     let types = bytesAt (args .file .now) (args .fields) (args .k) in
     let first = reached-first (args .file .now) (args .types .now) (args .input .now) types (args .at) (args .room) in
-    (rw none (noted-none _ _ _ _ _ _ _ _), rw none first, omega arith, omega arith, omega arith)
+    (rw none (noted-none _ _ _ _ _ _ _ _), λ some. rw none first, omega arith, omega arith, omega arith)
 
 note-requires : tie.Need-note-requires Inv-loop μ-loop
 note-requires c κs = omega (arith, c .before .before .loop .inv .0 .same-length)
@@ -39,8 +39,8 @@ loop-again c =
     let loop = c .before .before .before .before .before .before .before .loop in
     let taken = c .before .before .before .before .before .before .loop-test .taken in
     let fits = c .before .before .before .before .before .before .before .before .before .before .before .before .pre .0 in (
-      noted-next _ _ _ _ _ _ _ _ taken (loop .inv .4) _ _ (loop .inv .0) (loop .inv .1) fits (loop .inv .2) (c .before .before .before .before .note .ensures),
-      reached-more _ _ _ _ _ _ _ _ taken (loop .inv .4) _ (loop .inv .1) (loop .inv .3) (c .before .byte-or-zero .ensures) (c .behind-value .ensures),
+      noted-next _ _ _ _ _ _ _ _ taken (loop .inv .4) _ _ (loop .inv .0) (loop .inv .1 taken) fits (loop .inv .2) (c .before .before .before .before .note .ensures),
+      λ some. reached-more _ _ _ _ _ _ _ _ taken (loop .inv .4) _ (loop .inv .1 taken) (loop .inv .3) (c .before .byte-or-zero .ensures) (c .next-place .ensures (omega arith)),
       omega arith,
       omega arith,
       omega arith,
