@@ -49,7 +49,8 @@ pub fn note_values<'a>(
     let mut more = k;
     while 0 < more {
         note(work, cell, place);
-        place = next_place(file, types, input, place, byte_or_zero(file, field), room, more);
+        let t = byte_or_zero(file, field);
+        place = next_place(file, types, input, place, t, room, more);
         cell += 1;
         field += 1;
         more -= 1;
