@@ -6,7 +6,8 @@
  * and to read and write inside the slices only. What the caller owes:
  *   - each pointer is not NULL, also where its length is 0, and stands for as many elements as its length says;
  *   - work is aligned for uint32_t;
- *   - work and list overlap neither each other nor file or input.
+ *   - work and list overlap neither each other nor file or input;
+ *   - the thread has 256 KiB of stack left (tested with what nests deepest; the proofs say nothing of the stack).
  * Nothing is kept between calls, so they may run at the same time, each with slices of its own.
  */
 #ifndef REMBURAI_H

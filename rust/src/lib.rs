@@ -2,7 +2,7 @@
 //!
 //! The calls stand in a static library whose functions are proved, for every content and every length of the slices: they stop, stay
 //! inside the slices, and give the answer that their definition gives. This crate passes slices to them and takes their answers, one
-//! number each, apart. It allocates nothing.
+//! number each, apart. It allocates nothing. A call needs up to 256 KiB of stack.
 //!
 //! ```
 //! use remburai::{check, entries, run, search, work_words, Outcome, Verdict};
