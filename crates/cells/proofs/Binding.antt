@@ -11,10 +11,10 @@ use native.Mathlib.Omega.{arith}
 use lib.ListN.{length, getD, set, length-set}
 use lib.Seq.{getD-set-same, getD-set-other}
 use Rattle.reach.specs.Syntax.{Types, fieldTypes}
-use Rattle.reach.specs.Parts.{Parts, Place, Seen, free, has, at, bindAt}
+use Rattle.reach.specs.Parts.{Parts, Place, Seen, free, has, at, bindAt, There}
 use Rattle.reach.specs.Types.{Slot, slotAt}
 use Rattle.reach.specs.Places.{bytesAt}
-use Rattle.reach.proofs.Order.{There, free-unbound, bind-refines, ⊑-there}
+use Rattle.reach.proofs.Order.{free-unbound, bind-refines, ⊑-there}
 use Rattle.reach.proofs.Places.{bytes-length}
 use Rattle.machine.specs.Cells.{cellWord, cellOf, Cells, Binds, KeptBut, Unmoved}
 use Rattle.machine.proofs.Cells.{field, walk-kept, bind-elsewhere, bind-slot, bind-length-exact, bind-keeps, bind-walks, bind-cells, start-cells, open-cells}

@@ -6,10 +6,9 @@ use mathlib.Core.List.{List, [], _∷_, head?, tail}
 use mathlib.Core.Option.{Option, none, some, Option·some-injective}
 use native.Mathlib.Omega.{arith}
 use Rattle.reach.specs.Syntax.{Types, fieldTypes}
-use Rattle.reach.specs.Parts.{Parts, end, opened, bound, Place, here, after, inside, at}
+use Rattle.reach.specs.Parts.{Parts, end, opened, bound, Place, here, after, inside, at, There}
 use Rattle.reach.specs.Types.{Slot, slots, slotsOf, fieldSlots, slotAt}
 use Rattle.reach.proofs.Base.{clash}
-use Rattle.reach.proofs.Order.{There}
 use Rattle.machine.specs.Cells.{cellWord, cellOf, Cells}
 
 -- no slot of the row is deeper

@@ -8,11 +8,10 @@ use native.Mathlib.Decide.{ℕ-discrete}
 use native.Mathlib.Omega.{arith}
 use lib.ListN.{length, getD, set, length-set}
 use lib.Seq.{getD-set-same, getD-set-other}
-use Rattle.reach.specs.Parts.{Parts, at, free}
+use Rattle.reach.specs.Parts.{Parts, at, free, There}
 use Rattle.reach.specs.Eval.{State}
 use Rattle.reach.specs.Types.{leastDepths}
 use Rattle.reach.specs.Moves.{Choice}
-use Rattle.reach.proofs.Order.{There}
 use Rattle.reach.proofs.Evaluation.{waits-free}
 use Rattle.machine.specs.Cells.{cellWord, cellOf}
 use Rattle.machine.proofs.Cells.{kept-cells}

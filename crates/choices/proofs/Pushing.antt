@@ -8,14 +8,14 @@ use native.Mathlib.Decide.{ℕ-discrete}
 use native.Mathlib.Omega.{arith}
 use lib.ListN.{length, getD}
 use Rattle.reach.specs.Syntax.{case, Types, Program}
-use Rattle.reach.specs.Parts.{Parts, free, at}
+use Rattle.reach.specs.Parts.{Parts, free, at, There}
 use Rattle.reach.specs.Types.{Slot, sourceSlots, slotAt, forks, forksAt, leastDepths}
 use Rattle.reach.specs.Eval.{State, inspecting, Frame, Question, waits, next}
 use Rattle.reach.specs.Search.{branches}
 use Rattle.reach.specs.Moves.{Choice}
-use Rattle.reach.proofs.Order.{There}
 use Rattle.reach.proofs.Evaluation.{waits-free}
-use Rattle.reach.proofs.NeverStuck.{PartHas, never-stuck}
+use Rattle.reach.specs.States.{PartHas}
+use Rattle.reach.proofs.NeverStuck.{never-stuck}
 use Rattle.machine.specs.Cells.{cellWord, cellOf}
 use Rattle.machine.proofs.Cells.{kept-cells}
 use Rattle.machine.specs.Records.{Control, partIn, StateAt, inspecting-at}

@@ -9,14 +9,15 @@ use mathlib.Core.Option.{some}
 use native.Mathlib.Omega.{arith}
 use lib.ListN.{length, getD}
 use Rattle.reach.specs.Syntax.{Types, Program, fieldTypes, sourceTypes}
-use Rattle.reach.specs.Parts.{Parts, Place, width, at, free, bindAt}
+use Rattle.reach.specs.Parts.{Parts, Place, width, at, free, bindAt, There}
 use Rattle.reach.specs.Types.{Typed, Slot, slotAt, sourceSlots, Fork, leastDepths}
 use Rattle.reach.specs.Eval.{State, answered, next, goes}
 use Rattle.reach.specs.Moves.{Choice}
-use Rattle.reach.proofs.Order.{There, bind-has, bind-refines}
+use Rattle.reach.proofs.Order.{bind-has, bind-refines}
 use Rattle.reach.proofs.Depths.{typed-width}
 use Rattle.reach.proofs.Evaluation.{waits-answered}
-use Rattle.reach.proofs.NeverStuck.{Steps, one-more, steps-sound, PartHas, never-stuck}
+use Rattle.reach.specs.States.{Steps, one-more, PartHas}
+use Rattle.reach.proofs.NeverStuck.{steps-sound, never-stuck}
 use Rattle.reach.proofs.Reached.{steps-in, steps-more, bind-typed}
 use Rattle.machine.specs.Cells.{cellWord, cellOf, Cells, Binds, Unmoved}
 use Rattle.machine.proofs.Cells.{bind-walks, bind-cells}

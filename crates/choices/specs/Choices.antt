@@ -14,7 +14,7 @@ use Rattle.reach.specs.Eval.{State, next, waits}
 use Rattle.reach.specs.Search.{openInput}
 use Rattle.reach.specs.Moves.{Choice}
 use Rattle.reach.specs.Answers.{check, accepted}
-use Rattle.reach.proofs.NeverStuck.{Steps}
+use Rattle.reach.specs.States.{Steps}
 use Rattle.machine.specs.Cells.{cellWord, cellOf, Cells}
 use Rattle.depths.specs.Table.{padded}
 use Rattle.forks.specs.Untried.{untried}

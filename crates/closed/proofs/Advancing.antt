@@ -7,23 +7,23 @@ use mathlib.Core.Option.{some}
 use native.Mathlib.Omega.{arith}
 use lib.ListN.{length, getD}
 use Rattle.reach.specs.Syntax.{Types, Program, sourceTypes}
-use Rattle.reach.specs.Parts.{Parts, free, at, bindAt}
+use Rattle.reach.specs.Parts.{Parts, free, at, bindAt, There}
 use Rattle.reach.specs.Types.{Slot, sourceSlots, WithinDepth}
 use Rattle.reach.specs.Eval.{State, Question, answered, next, goes, waits}
 use Rattle.reach.specs.Places.{typeAt}
 use Rattle.reach.proofs.Base.{clash}
-use Rattle.reach.proofs.Order.{There, bind-has, bind-refines}
+use Rattle.reach.proofs.Order.{bind-has, bind-refines}
 use Rattle.reach.proofs.Evaluation.{waits-free, waits-answered}
 use Rattle.reach.proofs.ClosedInputs.{input-exactly}
 use Rattle.reach.proofs.Limits.{accepted-keeps}
-use Rattle.reach.proofs.NeverStuck.{one-more}
+use Rattle.reach.specs.States.{one-more}
 use Rattle.reach.proofs.Reached.{steps-more}
 use Rattle.reach.proofs.Places.{bytes-length}
 use Rattle.lookups.specs.Fields.{fieldsIn}
 use Rattle.machine.specs.Cells.{cellWord, cellOf, Cells, Unmoved}
 use Rattle.machine.proofs.Cells.{kept-cells}
 use Rattle.cells.proofs.Rooms.{cell-room}
-use Rattle.values.proofs.Binding as Values
+use Rattle.values.specs.Notes as Values
 use Rattle.values.proofs.Binding.{OpenStands, open-stands, bound-follows}
 use Rattle.steps.specs.declared.Registers.{Registers}
 use Rattle.steps.specs.declared.Next.{Next}

@@ -18,7 +18,8 @@ use Rattle.reach.specs.Input.{inputOf}
 use Rattle.reach.specs.Places.{goalAt}
 use Rattle.reach.specs.Answers.{check, accepted, turnedBack, outcomeOf, runInput, runChecked, runAnswer}
 use Rattle.inputs.specs.Values.{fitsAt}
-use Rattle.inputs.proofs.Closed.{Placed, fits-exactly, unfit-exactly}
+use Rattle.inputs.specs.Positions.{Placed}
+use Rattle.inputs.proofs.Closed.{fits-exactly, unfit-exactly}
 use Rattle.rulefile.specs.declared.Checked.{Checked}
 use Rattle.rulefile.specs.declared.Checked.the-variants as Checked
 use Rattle.rulefile.specs.declared.Loaded.{Loaded}

@@ -15,12 +15,12 @@ use Rattle.reach.specs.RuleFile as RuleFile
 use Rattle.reach.specs.Places.{bytesAt, typeAt, headAt, goalAt}
 use Rattle.reach.specs.Answers.{outcomeOf}
 use Rattle.reach.proofs.Limits.{accepted-keeps}
-use Rattle.reach.proofs.NeverStuck.{no-step}
+use Rattle.reach.specs.States.{no-step}
 use Rattle.reach.proofs.Places.{bytes-length}
 use Rattle.lookups.specs.declared.Head.{Head}
 use Rattle.lookups.specs.Heads.{headOf}
 use Rattle.lookups.proofs.Tables.{parameters-are}
-use Rattle.values.proofs.Binding as Values
+use Rattle.values.specs.Notes as Values
 use Rattle.values.proofs.Binding.{start-follows}
 use Rattle.machine.specs.Records.{Code}
 use Rattle.steps.specs.Stepping.{outlineOf}

@@ -10,7 +10,7 @@ use Rattle.reach.specs.Syntax.{Program}
 use Rattle.reach.specs.Parts.{Parts, _⊑_}
 use Rattle.reach.specs.Eval.{State, start, eval}
 use Rattle.reach.proofs.Base.{clash}
-use Rattle.reach.proofs.NeverStuck.{Steps}
+use Rattle.reach.specs.States.{Steps}
 use Rattle.reach.specs.Answers.{outcomeOf}
 use Rattle.steps.specs.declared.Registers.{Registers}
 use Rattle.steps.specs.declared.Next.{Next}

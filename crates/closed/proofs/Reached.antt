@@ -12,9 +12,10 @@ use Rattle.reach.specs.Types.{Typed, WithinDepth}
 use Rattle.reach.specs.Eval.{State, Stop, demands, stops, goes, next, reached, ended, unfinished, start, eval}
 use Rattle.reach.specs.Answers.{accepted, check}
 use Rattle.reach.proofs.Order.{⊑-width}
-use Rattle.reach.proofs.Evaluation.{StateIn, next-more, eval-step, eval-demands, eval-stops, eval-spent}
+use Rattle.reach.specs.States.{StateIn, Steps, no-step, one-more, Sound}
+use Rattle.reach.proofs.Evaluation.{next-more, eval-step, eval-demands, eval-stops, eval-spent}
 use Rattle.reach.proofs.Depths.{typed-width}
-use Rattle.reach.proofs.NeverStuck.{Steps, no-step, one-more, Sound, steps-sound}
+use Rattle.reach.proofs.NeverStuck.{steps-sound}
 use Rattle.reach.proofs.Reached.{steps-in, steps-more}
 
 -- an input below one of these types is of these types

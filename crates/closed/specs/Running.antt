@@ -14,13 +14,13 @@ use Rattle.reach.specs.Eval.{State, start, eval, reached, ended, unfinished, ru
 use Rattle.reach.specs.Input.{inputOf}
 use Rattle.reach.specs.Places.{bytesAt, typeAt, goalAt}
 use Rattle.reach.specs.Answers.{check, accepted, outcomeOf, RunAnswer, noRun, ran}
-use Rattle.reach.proofs.NeverStuck.{Steps}
+use Rattle.reach.specs.States.{Steps}
 use Rattle.lookups.specs.Fields.{fieldsIn}
 use Rattle.machine.specs.Cells.{cellWord, Binds, Cells}
 use Rattle.cells.specs.Writes.{Starts}
-use Rattle.inputs.proofs.Closed.{Placed}
+use Rattle.inputs.specs.Positions.{Placed}
 use Rattle.values.specs.Notes.{notedPlace, Noted}
-use Rattle.values.proofs.Binding as Values
+use Rattle.values.specs.Notes as Values
 use Rattle.steps.specs.declared.Registers.{Registers}
 use Rattle.steps.specs.declared.Next.{Next}
 use Rattle.steps.specs.declared.Next.the-variants as Next

@@ -10,6 +10,7 @@ use lib.ListN.{length, getD, length-append}
 use lib.Dec.{ltb}
 use native.Mathlib.Omega.{arith}
 use borrow.Author.Tests.{ltb-true, ltb-false, lt-ltb}
+use Rattle.inputs.specs.Positions.{Placed}
 use Rattle.reach.specs.Syntax.{Types, Program, fieldTypes, functionAt, sourceTypes}
 use Rattle.reach.specs.Parts.{Parts, end, opened, bound, width, prefix}
 use Rattle.reach.specs.Reader.{Got, got, refused, onGot, byte, atEnd}
@@ -37,12 +38,6 @@ found-at P (got b k) {a} {next} h e =
     let y : k ≡ next = cc in
     rw (← z, ← y) h
 found-at P (refused why) h e = absurd (clash (cc))
-
--- The program's types, the types of its source's parameters and its depth are those at these places of the file.
-pub record Placed (p : Program) (file types functions : List ℕ) (goal : ℕ) : Type 0 where
-  pub types-there : p .types ≡ map (typeAt file) types
-  pub source-there : sourceTypes p ≡ (headAt file (getD functions (getD file goal 0) 0)) .parameters
-  pub depth-there : p .depth ≡ getD file (goal + 2) 0
 
 -- so they are where the outline of the file at these places is that of the program
 pub placed :

@@ -6,24 +6,14 @@ use mathlib.Core.List.{List, [], _∷_, map}
 use mathlib.Core.Option.{some}
 use lib.ListN.{length, getD}
 use Rattle.reach.specs.Syntax.{Types, Program}
-use Rattle.reach.specs.Parts.{Parts, end, opened, bound, Place, here, after, inside, part, within, has, at, prefix}
+use Rattle.reach.specs.Parts.{Parts, end, opened, bound, Place, here, after, inside, part, within, has, at, prefix, There}
 use Rattle.reach.specs.Types.{Slot, slots, sourceSlots, fieldSlots, slotAt}
 use Rattle.reach.specs.Reader.{got}
 use Rattle.reach.specs.Input.{row, inputOf}
 use Rattle.reach.specs.Places.{typeAt, headAt}
-use Rattle.reach.proofs.Order.{There}
 use Rattle.records.proofs.Answers.{clash}
-use Rattle.inputs.proofs.Closed.{Placed, input-row, ValueStands, row-empty, row-closed, value-stands, row-width, row-length}
-
--- the place in the bytes of the part at q, in a row whose prefix form begins at i
-unfoldable pub byteOf : Parts → Place → ℕ → ℕ
-byteOf j here i = i
-byteOf end (after q) i = i
-byteOf (opened r) (after q) i = byteOf r q (i + 1)
-byteOf (bound c fs r) (after q) i = byteOf r q (i + 1 + length (prefix fs))
-byteOf end (inside q) i = i
-byteOf (opened r) (inside q) i = i
-byteOf (bound c fs r) (inside q) i = byteOf fs q (i + 1)
+use Rattle.inputs.specs.Positions.{Placed, byteOf}
+use Rattle.inputs.proofs.Closed.{input-row, ValueStands, row-empty, row-closed, value-stands, row-width, row-length}
 
 -- the next part of the same row
 unfoldable pub following : Place → Place

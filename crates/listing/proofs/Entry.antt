@@ -9,10 +9,9 @@ use native.Mathlib.Omega.{arith}
 use lib.ListN.{length, getD}
 use lib.Seq.{sets}
 use Rattle.reach.specs.Syntax.{Types}
-use Rattle.reach.specs.Parts.{Parts, end, opened, bound, Place, here, after, inside, free, has, at, prefix}
+use Rattle.reach.specs.Parts.{Parts, end, opened, bound, Place, here, after, inside, free, has, at, prefix, There}
 use Rattle.reach.specs.Places.{typeAt}
 use Rattle.reach.specs.Types.{Slot, Typed, slots, fieldSlots, slotAt}
-use Rattle.reach.proofs.Order.{There}
 use Rattle.lookups.specs.Fields.{fieldsIn}
 use Rattle.lookups.proofs.Tables.{fields-found, fields-missing, constructor-missing}
 use Rattle.machine.specs.Cells.{cellWord, cellFrom}

@@ -11,9 +11,9 @@ use native.Mathlib.Decide.{ℕ-discrete}
 use native.Mathlib.Omega.{arith}
 use lib.ListN.{length, getD, getElem?, length-append}
 use Rattle.reach.specs.Syntax.{Types, fieldTypes}
-use Rattle.reach.specs.Parts.{Parts, end, opened, bound, allOpen, Place, here, after, inside, part, within, Seen, gone, free, has, at, bindAt, HasAt, prefix}
+use Rattle.reach.specs.Parts.{Parts, end, opened, bound, allOpen, Place, here, after, inside, part, within, Seen, gone, free, has, at, bindAt, HasAt, prefix, There}
 use Rattle.reach.specs.Types.{Slot, slots, fieldSlots, slotAt}
-use Rattle.reach.proofs.Order.{There, constructorOf, free-unbound, ⊑-width, bind-refines, open-unbound, bind-has, bind-new}
+use Rattle.reach.proofs.Order.{constructorOf, free-unbound, ⊑-width, bind-refines, open-unbound, bind-has, bind-new}
 use Rattle.machine.specs.Cells.{cellWord, cellFrom, cellOf, Cells, OpenCells, Binds, KeptBut, Unmoved}
 
 -- Walking.

@@ -12,13 +12,12 @@ use lib.Dec.{ltb}
 use borrow.Author.Tests.{ltb-true, ltb-false, lt-ltb, le-ltb}
 use Rattle.reach.specs.Base.{pick}
 use Rattle.reach.specs.Syntax.{Expr, Exprs, []ₑ, _∷ₑ_, count, nthExpr, Alternatives}
-use Rattle.reach.specs.Parts.{Parts, Place, at}
+use Rattle.reach.specs.Parts.{Parts, Place, at, There}
 use Rattle.reach.specs.Encoding.{countAlternatives}
 use Rattle.reach.specs.RuleFile.{Outline}
 use Rattle.reach.specs.Eval.{Row, partOf, Env, empty, operands, inputParts, size, Closure, suspended, inputPart, suspend, lookup, Frame, waiting, State}
-use Rattle.reach.proofs.Order.{There}
 use Rattle.reach.proofs.Base.{clash}
-use Rattle.reach.proofs.Evaluation.{EnvIn, FramesIn, StateIn}
+use Rattle.reach.specs.States.{EnvIn, FramesIn, StateIn}
 use Rattle.machine.specs.Records.{recordWord, Holds, CodeAll, CodeAlternatives, Control, environmentOf, EnvAt, empty-at, operands-at, parts-at, FramesAt, none-at, waiting-at, StateAt, evaluating-at, inspecting-at, missing-at}
 use Rattle.machine.specs.Walks.{OperandAt, outsideOf, VariableAt, outside, in-parts, in-operands}
 use Rattle.machine.proofs.Codes.{operand-at}

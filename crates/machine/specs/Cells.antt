@@ -7,9 +7,8 @@ use mathlib.Core.Logic.{_≢_}
 use mathlib.Core.Option.{some}
 use lib.ListN.{length, getD}
 use Rattle.reach.specs.Syntax.{Types}
-use Rattle.reach.specs.Parts.{Parts, Place, here, after, inside, free, has, at, prefix}
+use Rattle.reach.specs.Parts.{Parts, Place, here, after, inside, free, has, at, prefix, There}
 use Rattle.reach.specs.Types.{Slot, slotAt}
-use Rattle.reach.proofs.Order.{There}
 
 -- word k of cell x: 0 is 0 for an open part, or 1 more than the constructor's number; 1 the cell of the first field, where it is bound;
 -- 2 the type; 3 the depth that it may have; 4 the place of its value in the bytes of a closed input

@@ -6,14 +6,13 @@ use mathlib.Core.List.{List, [], _∷_, _++_, append-nil}
 use native.Mathlib.Omega.{arith}
 use lib.ListN.{length}
 use Rattle.reach.specs.Syntax.{Program}
-use Rattle.reach.specs.Parts.{Parts, at}
+use Rattle.reach.specs.Parts.{Parts, at, There}
 use Rattle.reach.specs.Types.{leastDepths}
 use Rattle.reach.specs.Eval as Eval
 use Rattle.reach.specs.Eval.{State, Question}
 use Rattle.reach.specs.Search.{Kind, RE, UN, Entry, branches}
 use Rattle.reach.specs.Moves as Model
 use Rattle.reach.specs.Moves.{Choice}
-use Rattle.reach.proofs.Order.{There}
 use Rattle.reach.proofs.Evaluation.{waits-free}
 use Rattle.machine.specs.Cells.{cellOf}
 use Rattle.machine.proofs.Cells.{kept-cells}

@@ -14,7 +14,7 @@ use Rattle.reach.specs.declared.Verdict.the-variants.{None}
 use Rattle.reach.specs.Base.{_∈_}
 use Rattle.reach.specs.Syntax.{Program, sourceTypes}
 use Rattle.reach.specs.Parts.{Parts, width, allOpen, Place, openAt, BoundPart, Completes, _⊑_}
-use Rattle.reach.specs.Types.{sourceSlots, ClosedInput, WithinDepth, leastDepths}
+use Rattle.reach.specs.Types.{Typed, sourceSlots, ClosedInput, WithinDepth, leastDepths}
 use Rattle.reach.specs.Eval.{State, halted, start, run}
 use Rattle.reach.specs.Search.{Kind, RE, UN, Entry, says, ReachedOrUnfinished, StopsInside, branches, openInput, entries, verdict}
 use Rattle.reach.specs.RuleFile.{deepEnough}
@@ -23,7 +23,8 @@ use Rattle.reach.proofs.Base.{clash, nth-member}
 use Rattle.reach.proofs.Order.{open-width, open-unbound, open-least}
 use Rattle.reach.proofs.Completing.{below-completes, completes-below}
 use Rattle.reach.proofs.Depths.{Fit, open-fit, bind-fit, fit-typed, typed-fit, typed-width, fits-depth, completion}
-use Rattle.reach.proofs.Evaluation.{StateIn, start-in, waits-free}
+use Rattle.reach.specs.States.{StateIn}
+use Rattle.reach.proofs.Evaluation.{start-in, waits-free}
 use Rattle.reach.proofs.Entries.{Finds, at-target, at-limit, at-limit-waiting, by-step, by-fork, entry-found, entry-holds, entry-reopens}
 use Rattle.reach.proofs.Cover.{covers, apart, apart-numbers}
 use Rattle.reach.proofs.Limits.{accepted-keeps}
@@ -56,12 +57,14 @@ module _ (file : List ℕ) (p : Program) (h : check file ≡ accepted p) where
   entry-fit : (e : Entry) → e ∈ entries p → Fit (p .types) (sourceSlots p) (e .input)
   entry-fit e m = found-fit (entry-found p e m) start-fit
 
-  -- an entry has the source's types, so that to complete it is to bind at least what it binds
-  completing : (e : Entry) → e ∈ entries p → (j : Parts) → ClosedInput p j → Completes j (e .input) → e .input ⊑ j
+  -- every entry has the source's types
+  pub entry-typed : (e : Entry) → e ∈ entries p → Typed (p .types) (sourceTypes p) (e .input)
   unfolding sourceSlots
-  completing e m j c k =
-      let typed = fit-typed (p .types) (sourceTypes p) (p .depth) (e .input) (entry-fit e m) in
-      completes-below (p .types) (sourceTypes p) (e .input) j (typed .0) (c .1) (c .0) k
+  entry-typed e m = (fit-typed (p .types) (sourceTypes p) (p .depth) (e .input) (entry-fit e m)) .0
+
+  -- so that to complete it is to bind at least what it binds
+  completing : (e : Entry) → e ∈ entries p → (j : Parts) → ClosedInput p j → Completes j (e .input) → e .input ⊑ j
+  completing e m j c k = completes-below (p .types) (sourceTypes p) (e .input) j (entry-typed e m) (c .1) (c .0) k
 
   -- the input with every parameter open is below every closed input
   open-below : (j : Parts) → ClosedInput p j → openInput p ⊑ j

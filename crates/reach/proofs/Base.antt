@@ -9,7 +9,7 @@ use mathlib.Core.List.{List, [], _∷_, flatMap}
 use mathlib.Core.List.{List·Memᴰ·head, List·Memᴰ·tail, List·Memᴰ·not-nil, List·Memᴰ·cases-cons, List·Memᴰ·append-cases, Memᴰ·append-left, Memᴰ·append-right}
 use lib.ListN.{getD, getElem?}
 use native.Mathlib.Omega.{arith}
-use Rattle.reach.specs.Base.{_∈_, pick}
+use Rattle.reach.specs.Base.{_∈_, pick, Each}
 
 -- two constructors that would be equal make 0 equal to 1
 pub clash : _≡_ {A = ℕ} 0 1 → ⊥
@@ -42,11 +42,6 @@ flatMap-has {A} f (x ∷ xs) a b m k =
     ⊎-elim (λ same. Memᴰ·append-left (flatMap f xs) (subst (λ (y : A). b ∈ f y) same k))
     (λ later. Memᴰ·append-right (f x) (flatMap-has f xs a b later k))
     (List·Memᴰ·cases-cons m)
-
--- the fact holds of each element of the list
-abbrev pub Each : {A : Type 0} → (A → Type 0) → List A → Type 0
-Each P [] = Unit {0}
-Each P (x ∷ xs) = P x × Each P xs
 
 pub each-member : {A : Type 0} (P : A → Type 0) {x : A} {xs : List A} → Each P xs → x ∈ xs → P x
 each-member P all (List·Memᴰ·head e) = subst P (sym e) (all .0)

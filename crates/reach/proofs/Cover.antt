@@ -17,7 +17,8 @@ use Rattle.reach.specs.Eval.{State, Question, Next, demands, stops, goes
 use Rattle.reach.specs.Search.{RE, UN, Entry, ReachedOrUnfinished, gather, branches, search}
 use Rattle.reach.proofs.Base.{picked, nth-member, flatMap-member, flatMap-has}
 use Rattle.reach.proofs.Order.{⊑-trans, bind-below, constructorOf}
-use Rattle.reach.proofs.Evaluation.{StateIn, next-in, next-more, waits-free, waits-answered, eval-step, eval-stops}
+use Rattle.reach.specs.States.{StateIn}
+use Rattle.reach.proofs.Evaluation.{next-in, next-more, waits-free, waits-answered, eval-step, eval-stops}
 use Rattle.reach.proofs.Entries.{inputAfter, stateAfter, branch, search-last, search-next, finds, refines, fork-has, fork-in}
 use Rattle.reach.proofs.Depths.{Fit, fork-covers, forks-taken}
 

@@ -11,11 +11,11 @@ use lib.ListN.{length, getD, getElem?}
 use native.Mathlib.Omega.{arith}
 use Rattle.reach.specs.Base.{_∈_}
 use Rattle.reach.specs.Syntax.{Types, fieldTypes}
-use Rattle.reach.specs.Parts.{Parts, end, opened, bound, width, allOpen, Place, here, after, inside}
+use Rattle.reach.specs.Parts.{Parts, end, opened, bound, width, allOpen, Place, here, after, inside, There}
 use Rattle.reach.specs.Parts.{free, has, at, bindAt, Closed, depth, _⊑_, ⊑-end, ⊑-open, ⊑-bind, ⊑-same}
 use Rattle.reach.specs.Types.{Typed, Slot, slots, fieldSlots, slotAt, Fits, leastDepths, shallow, Fork, forksFrom, forks, forksAt}
 use Rattle.reach.proofs.Base.{picked}
-use Rattle.reach.proofs.Order.{There, free-unbound}
+use Rattle.reach.proofs.Order.{free-unbound}
 use Rattle.reach.proofs.LeastDepths.{shallow-head, shallow-cons, shallow-covers, shallow-filled}
 
 -- A fork takes a constructor of the type, counted from c, whose fields all have a value that fits below.

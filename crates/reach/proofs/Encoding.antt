@@ -14,7 +14,7 @@ use lib.Dec.{ltb, leb, eqb}
 use borrow.Author.Tests.{ltb-true, leb-true, eqb-true, eqb-false, ltb-false, lt-ltb}
 use Rattle.reach.specs.declared.Refusal.{Refusal}
 use Rattle.reach.specs.declared.Refusal.the-variants.{Truncated, UnexpectedMark, OutOfRange, TrailingBytes}
-use Rattle.reach.specs.Base.{pick}
+use Rattle.reach.specs.Base.{pick, Each}
 use Rattle.reach.specs.Limits.{fileLimit, typeLimit, functionLimit, parameterLimit, bodyLimit, viewLimit, nestingLimit}
 use Rattle.reach.specs.Syntax.{Expr, variable, call, construct, case, bind, target, Exprs, []ₑ, _∷ₑ_, Alternatives, no-more, absent, present, count, Function, Program, fieldTypes, functionAt}
 use Rattle.reach.specs.Reader.{Got, got, refused, onGot, Reader, refuse, demand, byte, word, times, passed, atEnd}
@@ -22,7 +22,7 @@ use Rattle.reach.specs.RuleFile.{Mark, TY, FN, GO, other, onMark, mark, 
 use Rattle.reach.specs.Types.{leastDepths}
 use Rattle.reach.specs.Answers.{accepted, turnedBack, check}
 use Rattle.reach.specs.Encoding.{encode, encodeAll, encodeAlternatives, ByteAt, BytesAt, Stands, StandsAll, StandsAlternatives, countAlternatives, Arity, ArityAll, ArityAlternatives, nesting, nestingAll, nestingAlternatives, Skip, skippedAll, skippedAlternatives, skippedCall, skippedConstruct, skippedCase, skippedBy, skipped}
-use Rattle.reach.proofs.Base.{clash, Each}
+use Rattle.reach.proofs.Base.{clash}
 use Rattle.reach.proofs.Limits.{IfFound, if-found-then}
 
 -- Bytes that stand at a place.

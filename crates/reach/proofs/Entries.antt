@@ -15,7 +15,8 @@ use Rattle.reach.specs.Eval.{State, Question, answered, Next, demands, s
 use Rattle.reach.specs.Search.{RE, UN, Entry, says, gather, spent, branches, search, openInput, entries}
 use Rattle.reach.proofs.Base.{flatMap-member}
 use Rattle.reach.proofs.Order.{⊑-refl, ⊑-trans, ⊑-width, ⊑-has, ⊑-there, bind-refines, bind-has, bind-new, open-monotone, opened-below, open-free, open-bind}
-use Rattle.reach.proofs.Evaluation.{StateIn, env-more, frames-more, next-in, next-more, answered-in, start-in, waits-free, waits-answered}
+use Rattle.reach.specs.States.{StateIn}
+use Rattle.reach.proofs.Evaluation.{env-more, frames-more, next-in, next-more, answered-in, start-in, waits-free, waits-answered}
 use Rattle.reach.proofs.Evaluation.{eval-step, eval-wait, eval-demands, eval-spent, eval-spent-wait, halt-more}
 
 -- the input, the state and the entries behind constructor f of a fork

@@ -1,7 +1,7 @@
 -- Laws of the evaluation: what happens on a partial input happens on every input that binds at least as much, up to the place where it
 -- halts. A run takes at most S steps, all of them where it is unfinished; a closed input never halts.
 -- Rests on specs/Eval and Order.
-use Prim.Native.Nat.{ℕ, zero, suc, _+_, _-_, _≤_, _<_}
+use Prim.Native.Nat.{ℕ, zero, suc, _+_, _-_, _<_}
 use mathlib.Core.Path.{_≡_, refl, sym, _∙_, ap, subst}
 use mathlib.Core.List.{List, [], _∷_}
 use mathlib.Core.Option.{Option, none, some}
@@ -9,32 +9,17 @@ use lib.ListN.{length}
 use lib.Dec.{ltb, eqb}
 use native.Mathlib.Omega.{arith}
 use borrow.Author.Tests.{ltb-true}
+use Rattle.reach.specs.States.{EnvIn, FramesIn, StateIn}
 use Rattle.reach.specs.Syntax.{Expr, variable, call, construct, case, bind, target}
 use Rattle.reach.specs.Syntax.{Exprs, Alternatives, no-more, absent, present, nthExpr, Function, Program, functionAt, sourceTypes, parametersOf}
-use Rattle.reach.specs.Parts.{Parts, width, Place, Seen, gone, free, has, at, Closed, _⊑_}
+use Rattle.reach.specs.Parts.{Parts, width, Place, Seen, gone, free, has, at, Closed, _⊑_, There}
 use Rattle.reach.specs.Eval.{fieldsOf, partOf, Env, empty, operands, inputParts, size, Closure, suspended, inputPart, suspend, lookup, Frame, waiting}
 use Rattle.reach.specs.Eval.{State, evaluating, inspecting, missing, stuck, resume, choose, enter, Question, answered, Stop, Next, demands, stops, goes, waits}
 use Rattle.reach.specs.Eval.{view, look, answer, next, Run, reached, ended, unfinished, halted, conclude, eval, startOf, start, run, NotHalted, Spent}
 use Rattle.reach.proofs.Base.{picked}
-use Rattle.reach.proofs.Order.{There, ⊑-has, ⊑-there, part-there, field-there, free-unbound, closed-has, ⊑-refl}
+use Rattle.reach.proofs.Order.{⊑-has, ⊑-there, part-there, field-there, free-unbound, closed-has, ⊑-refl}
 
--- Every place that a state speaks of is there in the input.
-
-abbrev pub EnvIn : Parts → Env → Type 0
-EnvIn e empty = Unit {0}
-EnvIn e (operands outer es inner) = EnvIn e outer × EnvIn e inner
-EnvIn e (inputParts outer row k) = EnvIn e outer × ((n : ℕ) → n < k → There (at e (partOf row n)))
-
-abbrev pub FramesIn : Parts → List Frame → Type 0
-FramesIn e [] = Unit {0}
-FramesIn e (waiting alts env ∷ fs) = EnvIn e env × FramesIn e fs
-
-abbrev pub StateIn : Parts → State → Type 0
-StateIn e (evaluating x env fs) = EnvIn e env × FramesIn e fs
-StateIn e (inspecting q fs) = There (at e q) × FramesIn e fs
-StateIn e missing = Unit {0}
-StateIn e stuck = Unit {0}
-
+-- so every place that a question or what comes next speaks of
 abbrev pub QuestionIn : Parts → Question → Type 0
 QuestionIn e q = There (at e (q .place)) × EnvIn e (q .environment) × FramesIn e (q .frames)
 

@@ -9,6 +9,7 @@ pub mod Entries
 pub mod Cover
 pub mod Moves
 pub mod Limits
+pub mod Refusals
 pub mod EntryLength
 pub mod Lists
 pub mod ClosedInputs

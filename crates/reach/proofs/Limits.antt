@@ -19,7 +19,8 @@ use Rattle.reach.specs.Reader.{Got, got, refused, onGot, Reader, _>>=_, 
 use Rattle.reach.specs.RuleFile.{Mark, TY, FN, GO, other, onMark, mark, counted, constructorRecord, typeRecord, Head, functionRecord, Goal, goalRecord}
 use Rattle.reach.specs.RuleFile.{moreTypes, moreFunctions, Outline, outline, numbersExist, bodyOf, functionsOf, programOf, noEmptyType, deepEnough, sizeInLimit, ruleFile}
 use Rattle.reach.specs.Answers.{accepted, turnedBack, check}
-use Rattle.reach.proofs.Base.{clash, picked, nth-member, Each, each-member, each-getD}
+use Rattle.reach.specs.Base.{Each}
+use Rattle.reach.proofs.Base.{clash, picked, nth-member, each-member, each-getD}
 
 -- the fact holds of the value that was found and of the place behind it, if one was
 abbrev pub IfFound : {A : Type 0} → (A → ℕ → Type 0) → Got A → Type 0

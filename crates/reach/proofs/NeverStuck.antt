@@ -1,7 +1,7 @@
 -- An accepted program never gets stuck: from the source's start on any input of the source's types, closed or partial, every number that
 -- a step follows names something, every constructor meets a case on its own type, and its fields are as many as the alternative expects.
 -- Every state that is reached is typed; each step keeps it so.
--- Rests on WellTyped, and on Eval and Types.
+-- Rests on specs/States, on WellTyped, and on Eval and Types.
 use Prim.Native.Nat.{ℕ, zero, suc, _+_, _-_, _<_, zero-le}
 use mathlib.Core.Path.{_≡_, refl, sym, _∙_, ap, subst}
 use mathlib.Core.Bool.{Bool, true, false}
@@ -12,59 +12,18 @@ use lib.ListN.{length, getD, getElem?, length-append}
 use lib.Dec.{ltb, eqb, leb·suc-suc}
 use native.Mathlib.Omega.{arith}
 use borrow.Author.Tests.{lt-ltb, le-ltb}
+use Rattle.reach.specs.States.{Steps, no-step, one-more, PartHas, CaseOn, Chooses, Sound}
 use Rattle.reach.specs.Base.{pick}
-use Rattle.reach.specs.Syntax.{variable, call, construct, case, bind, target, Exprs, []ₑ, _∷ₑ_, count, nthExpr, Alternatives, no-more, absent, present, Types, Function, Program, fieldTypes, functionAt, parametersOf, sourceTypes}
-use Rattle.reach.specs.Parts.{Parts, end, opened, bound, Place, here, after, inside, part, within, Seen, gone, free, has, at}
+use Rattle.reach.specs.Syntax.{variable, call, construct, case, bind, target, Exprs, []ₑ, _∷ₑ_, count, nthExpr, Alternatives, no-more, absent, present, Types, Program, fieldTypes, functionAt, parametersOf, sourceTypes}
+use Rattle.reach.specs.Parts.{Parts, end, opened, bound, Place, here, after, inside, part, within, Seen, gone, free, has, at, There}
 use Rattle.reach.specs.Types.{Typed, Slot, slots, sourceSlots, fieldSlots, slotAt}
 use Rattle.reach.specs.Encoding.{countAlternatives}
 use Rattle.reach.specs.Eval.{Row, parameters, fieldsOf, partOf, Env, empty, operands, inputParts, size, Closure, suspended, inputPart, suspend, lookup, Frame, waiting, State, evaluating, inspecting, missing, stuck, resume, choose, enter, Question, answered, Stop, value, noAlternative, unknown, Next, demands, stops, goes, waits, view, look, answer, next, Run, reached, ended, unfinished, halted, conclude, eval, startOf, start, run}
 use Rattle.reach.specs.Answers.{accepted, check}
-use Rattle.reach.proofs.Order.{There, constructorOf, arityOf, free-unbound}
+use Rattle.reach.proofs.Order.{constructorOf, arityOf, free-unbound}
 use Rattle.reach.proofs.Depths.{typed-width}
-use Rattle.reach.proofs.WellTyped.{Signature, signatureOf, signatures, HasType, HaveTypes, Covers, WellTyped, at-below, at-getD, accepted-typed}
-
--- What the theorem speaks of.
-
--- s is reached from the source's start after n steps on the input
-pub data Steps (p : Program) (i : Parts) : ℕ → State → Type 0 where
-  no-step : Steps p i zero (start p)
-  one-more : {n : ℕ} {s s′ : State} → Steps p i n s → next p i s ≡ goes s′ → Steps p i (suc n) s′
-
--- the input has a part at this place, and it is of this type
-abbrev pub PartHas : Program → Parts → Place → ℕ → Type 0
-PartHas p i q t = (room : ℕ) × (slotAt (p .types) i q (sourceSlots p) ≡ some (record { type = t; room = room }))
-
--- The alternatives are those of a case on type t: one or none for each constructor, which sees the variables in view and the constructor's fields.
-pub record CaseOn (p : Program) (t : ℕ) (alts : Alternatives) (env : Env) : Type 0 where
-  pub variables : List ℕ
-  pub result : ℕ
-  pub in-view : size env ≡ length variables
-  pub covers : Covers (p .types) (signatures p) alts variables (getD (p .types) t []) result
-  pub as-many : countAlternatives alts ≡ length (getD (p .types) t [])
-
--- A case on type t in `outer` has constructor c chosen: it is one of the type's, and not beyond the alternatives; and the alternative's
--- environment `inner` has a variable more for each field of c.
-pub record Chooses (p : Program) (t c : ℕ) (alts : Alternatives) (outer inner : Env) : Type 0 where
-  pub fields : List ℕ
-  pub constructor-exists : fieldTypes (p .types) t c ≡ some fields
-  pub within-alternatives : c < countAlternatives alts
-  pub fields-agree : size inner ≡ size outer + length fields
-
--- What a step meets at a state: a variable that is there; a function that exists, with an argument for each parameter; an input part that is
--- there; a case on the type of the constructor or of the input part that it is given, with fields in the right number.
-abbrev pub Sound : Program → Parts → State → Type 0
-Sound p i (evaluating (variable n) env fs) = (x : Closure) × (lookup env n ≡ some x)
-Sound p i (evaluating (call f es) env fs) = (g : Function) × (functionAt p f ≡ some g) × (count es ≡ length (g .parameters))
-Sound p i (evaluating (construct t c es) env []) = Unit {0}
-Sound p i (evaluating (construct t c es) env (waiting alts outer ∷ fs)) = CaseOn p t alts outer × Chooses p t c alts outer (operands outer es env)
-Sound p i (evaluating (case t e alts) env fs) = CaseOn p t alts env
-Sound p i (evaluating (bind t e body) env fs) = Unit {0}
-Sound p i (evaluating (target l e) env fs) = Unit {0}
-Sound p i (inspecting q []) = (t : ℕ) × PartHas p i q t
-Sound p i (inspecting q (waiting alts outer ∷ fs)) =
-    (t : ℕ) × PartHas p i q t × CaseOn p t alts outer × ((c k : ℕ) → at i q ≡ has c k → Chooses p t c alts outer (inputParts outer (fieldsOf q) k))
-Sound p i missing = Unit {0}
-Sound p i stuck = ⊥
+use Rattle.reach.specs.Typing.{Signature, signatureOf, signatures, HasType, HaveTypes, Covers, WellTyped}
+use Rattle.reach.proofs.WellTyped.{at-below, at-getD, accepted-typed}
 
 -- Lists, and what expressions and alternatives of given types number.
 

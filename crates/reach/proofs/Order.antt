@@ -4,15 +4,10 @@ use Prim.Native.Nat.{ℕ, zero, suc, _<_}
 use mathlib.Core.Path.{_≡_, refl, sym, _∙_, ap, subst}
 use mathlib.Core.Logic.{_⊎_, inl, inr}
 use native.Mathlib.Nat.{le-of-suc-le-suc, not-suc-le-zero}
-use Rattle.reach.specs.Parts.{Parts, end, opened, bound, width, allOpen, Place, here, after, inside, part, within}
+use Rattle.reach.specs.Parts.{Parts, end, opened, bound, width, allOpen, Place, here, after, inside, part, within, There}
 use Rattle.reach.specs.Parts.{Seen, gone, free, has, at, bindAt, openAt, Closed, _⊑_, ⊑-end, ⊑-open, ⊑-bind, ⊑-same}
 
--- something stands at a place; a constructor does; which one, with how many fields
-abbrev pub There : Seen → Type 0
-There gone = ⊥
-There free = Unit {0}
-There (has c k) = Unit {0}
-
+-- a constructor stands at a place; which one, with how many fields
 abbrev pub Bound : Seen → Type 0
 Bound gone = ⊥
 Bound free = ⊥

@@ -7,12 +7,12 @@ use mathlib.Core.List.{List, [], _∷_}
 use mathlib.Core.Option.{some, Option·some-injective}
 use lib.ListN.{length}
 use Rattle.reach.specs.Syntax.{Types, Program, fieldTypes, sourceTypes}
-use Rattle.reach.specs.Parts.{Parts, end, opened, bound, width, allOpen, Place, here, after, inside, free, at, bindAt, _⊑_}
-use Rattle.reach.specs.Types.{Typed, Slot, slots, slotsOf, fieldSlots, slotAt}
+use Rattle.reach.specs.Parts.{Parts, end, opened, bound, width, allOpen, Place, here, after, inside, free, at, bindAt, _⊑_, There}
+use Rattle.reach.specs.Types.{Typed, Slot, slots, fieldSlots, slotAt}
 use Rattle.reach.specs.Eval.{State, goes}
-use Rattle.reach.proofs.Order.{There, free-unbound}
-use Rattle.reach.proofs.Evaluation.{StateIn, start-in, next-in, next-more}
-use Rattle.reach.proofs.NeverStuck.{Steps, no-step, one-more}
+use Rattle.reach.proofs.Order.{free-unbound}
+use Rattle.reach.specs.States.{StateIn, Steps, no-step, one-more}
+use Rattle.reach.proofs.Evaluation.{start-in, next-in, next-more}
 
 -- the places that they speak of are there
 pub steps-in : (p : Program) (e : Parts) → width e ≡ length (sourceTypes p) → {n : ℕ} {s : State} → Steps p e n s → StateIn e s

@@ -1,6 +1,6 @@
--- Accepted files are well typed: a typing of expressions, and the theorem that in an accepted program every number names something
--- and every function's body has the result type, with the parameters in view.
--- Rests on Syntax, Reader, RuleFile and Answers, and on IfFound of Limits.
+-- Accepted files are well typed: in an accepted program every number names something, and every function's body has the result type, with
+-- the parameters in view.
+-- Rests on specs/Typing, on Reader, RuleFile and Answers, and on IfFound of Limits.
 use Prim.Native.Nat.{ℕ, zero, suc, _+_, _<_, suc-le-suc, zero-le}
 use mathlib.Core.Path.{_≡_, refl, sym, _∙_, ap, subst}
 use mathlib.Core.Bool.{Bool, true, false, _&&_, and-eq-true-iff}
@@ -11,73 +11,18 @@ use lib.Dec.{ltb, leb, eqb}
 use borrow.Author.Tests.{ltb-true, eqb-true}
 use native.Mathlib.Omega.{arith}
 use native.Mathlib.Nat.{not-suc-le-zero, le-of-suc-le-suc}
+use Rattle.reach.specs.Typing.{Signature, Exists, HasType, HaveTypes, Covers, signatureOf, signatures, FunctionTyped, WellTyped}
 use Rattle.reach.specs.declared.Refusal.{Refusal}
 use Rattle.reach.specs.declared.Refusal.the-variants.{OutOfRange, UnknownNumber, UnknownCode, TypeMismatch, TrailingBytes, EmptyType, DepthTooSmall}
-use Rattle.reach.specs.Base.{pick}
+use Rattle.reach.specs.Base.{pick, Each}
 use Rattle.reach.specs.Limits.{nestingLimit}
-use Rattle.reach.specs.Syntax.{Expr, variable, call, construct, case, bind, target, Exprs, []ₑ, _∷ₑ_, Alternatives, no-more, absent, present, Types, Function, Program, fieldTypes, functionAt}
+use Rattle.reach.specs.Syntax.{Expr, Types, Function, Program, fieldTypes, functionAt}
 use Rattle.reach.specs.Types.{leastDepths}
 use Rattle.reach.specs.Reader.{Got, got, refused, onGot, Reader, demand, byte, atEnd}
 use Rattle.reach.specs.RuleFile.{Head, Outline, outline, allBelow, constructorsExist, typesExist, headsExist, numbersExist, Below, operandsOf, alternatives, inLimits, variableExpr, callOf, callExpr, constructOf, constructExpr, caseOf, caseExpr, letExpr, targetExpr, expressionBy, expression, bodyOf, functionsOf, programOf, noEmptyType, deepEnough, sizeInLimit, ruleFile}
 use Rattle.reach.specs.Answers.{accepted, turnedBack, check}
-use Rattle.reach.proofs.Base.{clash, Each}
+use Rattle.reach.proofs.Base.{clash}
 use Rattle.reach.proofs.Limits.{IfFound, if-found-then}
-
--- What a call has to know of a function.
-pub record Signature : Type 0 where
-  pub parameters : List ℕ
-  pub result : ℕ
-
--- a type of this number exists
-abbrev pub Exists : Types → ℕ → Type 0
-Exists types t = t < length types
-
--- An expression has a type, given the types of the variables in view. Numbers in it name something: a variable in view, a function, a
--- type, a constructor of its type.
-module _ (types : Types) (known : List Signature) where
-  abbrev mutual
-    pub HasType : Expr → List ℕ → ℕ → Type 0
-    HasType (variable n) view t = getElem? view n ≡ some t
-    HasType (call f es) view t = (g : Signature) × (getElem? known f ≡ some g) × (g .result ≡ t) × HaveTypes es view (g .parameters)
-    HasType (construct u c es) view t = (us : List ℕ) × (fieldTypes types u c ≡ some us) × (u ≡ t) × HaveTypes es view us
-    HasType (case u e alts) view t = Exists types u × HasType e view u × Covers alts view (getD types u []) t
-    HasType (bind u e body) view t = Exists types u × HasType e view u × HasType body (view ++ (u ∷ [])) t
-    HasType (target l e) view t = HasType e view t
-
-    -- one expression for each of the types
-    pub HaveTypes : Exprs → List ℕ → List ℕ → Type 0
-    HaveTypes []ₑ view [] = Unit {0}
-    HaveTypes []ₑ view (t ∷ ts) = ⊥
-    HaveTypes (e ∷ₑ es) view [] = ⊥
-    HaveTypes (e ∷ₑ es) view (t ∷ ts) = HasType e view t × HaveTypes es view ts
-
-    -- an alternative or none for each of the constructors; an alternative sees the constructor's fields too
-    pub Covers : Alternatives → List ℕ → List (List ℕ) → ℕ → Type 0
-    Covers no-more view [] t = Unit {0}
-    Covers no-more view (us ∷ cs) t = ⊥
-    Covers (absent alts) view [] t = ⊥
-    Covers (absent alts) view (us ∷ cs) t = Covers alts view cs t
-    Covers (present e alts) view [] t = ⊥
-    Covers (present e alts) view (us ∷ cs) t = HasType e (view ++ us) t × Covers alts view cs t
-
-abbrev pub signatureOf : Function → Signature
-signatureOf f = record { parameters = f .parameters; result = f .result }
-
-abbrev pub signatures : Program → List Signature
-signatures p = map signatureOf (p .functions)
-
--- the types in a function's head exist, and its body has the result type with the parameters in view
-abbrev pub FunctionTyped : Types → List Signature → Function → Type 0
-FunctionTyped types known f =
-    Each (Exists types) (f .parameters) × Exists types (f .result) × HasType types known (f .body) (f .parameters) (f .result)
-
--- What the check of a file establishes about its program.
-pub record WellTyped (p : Program) : Type 0 where
-  -- every field of every constructor of every type has a type that exists
-  pub fields-exist : Each (Each (Each (Exists (p .types)))) (p .types)
-  -- every function has a body of its result type
-  pub functions-typed : (f : ℕ) (g : Function) → functionAt p f ≡ some g → FunctionTyped (p .types) (signatures p) g
-  pub source-exists : p .source < length (p .functions)
 
 -- What stands at a number of a list.
 

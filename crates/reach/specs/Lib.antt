@@ -16,3 +16,5 @@ pub mod Text
 pub mod Examples
 pub mod Encoding
 pub mod Places
+pub mod Typing
+pub mod States

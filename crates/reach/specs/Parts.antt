@@ -113,3 +113,9 @@ unfoldable pub prefix : Parts → List ℕ
 prefix end = []
 prefix (opened r) = 0xff ∷ prefix r
 prefix (bound c fs r) = c ∷ prefix fs ++ prefix r
+
+-- something stands at a place
+abbrev pub There : Seen → Type 0
+There gone = ⊥
+There free = Unit {0}
+There (has c k) = Unit {0}

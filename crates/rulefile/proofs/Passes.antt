@@ -12,7 +12,8 @@ use Rattle.reach.specs.Syntax.{Types, Function}
 use Rattle.reach.specs.Reader.{Got, got, refused}
 use Rattle.reach.specs.RuleFile.{Head, Goal, Outline, outline, Below, variableExpr, callOf, callExpr, constructOf, constructExpr, caseOf, caseExpr, letExpr, targetExpr, expressionBy, expression, bodyOf, functionsOf}
 use Rattle.reach.specs.Places.{typeAt, headAt, goalAt, outlineAt}
-use Rattle.reach.proofs.Base.{clash, nth-member, Each, each-member}
+use Rattle.reach.specs.Base.{Each}
+use Rattle.reach.proofs.Base.{clash, nth-member, each-member}
 use Rattle.reach.proofs.Limits.{IfFound, ConstructorKept, TypeKept, HeadKept, OutlineKept, outline-kept}
 use Rattle.reach.proofs.Encoding.{BodyInside, outline-inside}
 use Rattle.records.specs.declared.Step.{Step}

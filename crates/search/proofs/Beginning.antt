@@ -15,7 +15,8 @@ use Rattle.reach.specs.RuleFile as RuleFile
 use Rattle.reach.specs.Places.{bytesAt, headAt, goalAt}
 use Rattle.reach.proofs.Order.{open-width}
 use Rattle.reach.proofs.Limits.{accepted-keeps}
-use Rattle.reach.proofs.NeverStuck.{no-step, steps-sound}
+use Rattle.reach.specs.States.{no-step}
+use Rattle.reach.proofs.NeverStuck.{steps-sound}
 use Rattle.reach.proofs.Reached.{steps-in, open-typed}
 use Rattle.reach.proofs.Places.{bytes-length}
 use Rattle.lookups.specs.declared.Head.{Head}

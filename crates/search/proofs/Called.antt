@@ -23,12 +23,12 @@ use Rattle.reach.specs.Answers.{Checked, accepted, turnedBack, check, SearchAns
 use Rattle.reach.proofs.Base.{clash}
 use Rattle.reach.proofs.Lists.{none-empty}
 use Rattle.reach.proofs.Answers.{Means, search-means, search-turned-back}
+use Rattle.reach.proofs.Refusals.{turned-back-by}
 use Rattle.search.specs.declared.Answer.{Answer}
 use Rattle.search.specs.declared.Answer.the-variants as Answer
 use Rattle.search.specs.Answering.{answerOf}
 use Rattle.search.specs.Listing.{lengthIn, refusalIn, verdictIn}
 use Rattle.search.proofs.Cutting.{size-more, answer-complete, answer-full, answer-short, answer-refused}
-use Rattle.search.proofs.Refusals.{turned-back-by}
 
 -- The answer shows the length, the refusal and the verdict of the definition's.
 

@@ -3,6 +3,5 @@ pub mod Exploring
 pub mod Beginning
 pub mod Answering
 pub mod Reading
-pub mod Refusals
 pub mod Called
 pub mod Demands

@@ -13,19 +13,15 @@ use Rattle.reach.specs.Base.{_∈_}
 use Rattle.reach.specs.Limits.{listLimit}
 use Rattle.reach.specs.Syntax.{Types, Program, fieldTypes, sourceTypes}
 use Rattle.reach.specs.Parts.{Parts, end, opened, bound, prefix}
-use Rattle.reach.specs.Types.{Typed, sourceSlots, leastDepths}
-use Rattle.reach.specs.Eval.{State}
-use Rattle.reach.specs.Search.{Entry, branches, openInput, entries}
-use Rattle.reach.specs.RuleFile.{deepEnough}
+use Rattle.reach.specs.Types.{Typed}
+use Rattle.reach.specs.Search.{Entry, entries}
 use Rattle.reach.specs.Lists.{entryBytes, listBytes, entryPart, Decoded, decoded}
 use Rattle.reach.specs.Answers.{accepted, check}
 use Rattle.reach.proofs.Base.{clash, nth-member}
 use Rattle.reach.proofs.WellTyped.{at-getD}
 use Rattle.reach.proofs.Limits.{accepted-keeps}
-use Rattle.reach.proofs.Depths.{Fit, open-fit, bind-fit, fit-typed}
-use Rattle.reach.proofs.Evaluation.{waits-free}
+use Rattle.reach.proofs.Accepted.{entry-typed}
 use Rattle.reach.proofs.EntryLength.{entry-within}
-use Rattle.reach.proofs.Entries.{Finds, at-target, at-limit, at-limit-waiting, by-step, by-fork, entry-found}
 use Rattle.reach.proofs.ReadBack.{decoded-entry, entry-read-back, beyond-end}
 use Rattle.listing.proofs.Bytes.{entry-length}
 use Rattle.search.specs.Listing.{ReadsAs}
@@ -83,25 +79,6 @@ module _ (file : List ℕ) (p : Program) (h : check file ≡ accepted p) where
   pub prefix-unique : (i j : Parts) → Typed (p .types) (sourceTypes p) i → Typed (p .types) (sourceTypes p) j → prefix i ≡ prefix j → i ≡ j
   prefix-unique i j a b is = (row-unique (p .types) number-low (sourceTypes p) i j [] [] a b (ap (λ (l : List ℕ). l ++ []) is)) .0
 
-  -- the search begins with open parts that fit, and a fork keeps to the types and the depth
-  start-fit : Fit (p .types) (sourceSlots p) (openInput p)
-  unfolding openInput sourceSlots deepEnough
-  start-fit = open-fit (p .types) (sourceTypes p) (p .depth) ((accepted-keeps file p h) .deep-enough)
-
-  found-fit : {left n : ℕ} {i : Parts} {s : State} {e : Entry} → Finds p (leastDepths (p .types)) left n i s e
-      → Fit (p .types) (sourceSlots p) i → Fit (p .types) (sourceSlots p) (e .input)
-  unfolding branches
-  found-fit (at-target w) f = f
-  found-fit (at-limit w) f = f
-  found-fit (at-limit-waiting w) f = f
-  found-fit (by-step w d) f = found-fit d f
-  found-fit (by-fork {i = i} {s = s} q g w m d) f = found-fit d (bind-fit (p .types) (sourceSlots p) i (q .place) g f (waits-free p i s q w) m)
-
-  -- every entry has the source's types
-  pub entry-typed : (e : Entry) → e ∈ entries p → Typed (p .types) (sourceTypes p) (e .input)
-  unfolding sourceSlots
-  entry-typed e m = (fit-typed (p .types) (sourceTypes p) (p .depth) (e .input) (found-fit (entry-found p e m) start-fit)) .0
-
   -- its steps fit their two bytes
   entry-steps : (e : Entry) → e ∈ entries p → e .steps < 65536
   entry-steps e m = omega (arith, (entry-within file p h e m) .1, (accepted-keeps file p h) .steps-limit)
@@ -119,7 +96,7 @@ module _ (file : List ℕ) (p : Program) (h : check file ≡ accepted p) where
     reads k e there =
         let m = all e (nth-member es k e there) in
         rw (part-of k e there)
-        (λ none. clash (omega (arith, ap length none, entry-length e)), decoded-entry e (entry-steps e m), entry-typed e m)
+        (λ none. clash (omega (arith, ap length none, entry-length e)), decoded-entry e (entry-steps e m), entry-typed file p h e m)
 
     read : (k : ℕ) (e : Entry) → ReadsAs p (listBytes es) k e → getElem? es k ≡ some e
     read k e (there, says, typed) = go (getElem? es k) refl
@@ -129,7 +106,7 @@ module _ (file : List ℕ) (p : Program) (h : check file ≡ accepted p) where
         go (some f) is =
             let m = all f (nth-member es k f is) in
             let both : _≡_ {A = Decoded} _ _ = sym (decoded-entry f (entry-steps f m)) ∙ ap decoded (sym (part-of k f is)) ∙ says in
-            let input = prefix-unique (f .input) (e .input) (entry-typed f m) typed (ap (λ (d : Decoded). d .parameters) both) in
+            let input = prefix-unique (f .input) (e .input) (entry-typed file p h f m) typed (ap (λ (d : Decoded). d .parameters) both) in
             ap some (same-entry f e (ap (λ (d : Decoded). d .kind) both) (ap (λ (d : Decoded). d .steps) both) input)
 
     pub reads-exactly : (k : ℕ) (e : Entry) → ReadsAs p (listBytes es) k e ↔ (getElem? es k ≡ some e)

@@ -9,8 +9,7 @@ use Rattle.reach.specs.Syntax.{construct, Exprs, Alternatives, Program}
 use Rattle.reach.specs.Parts.{Parts}
 use Rattle.reach.specs.Eval as Eval
 use Rattle.reach.specs.Eval.{Env, operands, size, Frame, waiting, State, choose, view, answer, next}
-use Rattle.reach.proofs.Evaluation.{EnvIn, FramesIn}
-use Rattle.reach.proofs.NeverStuck.{Chooses, Sound}
+use Rattle.reach.specs.States.{EnvIn, FramesIn, Chooses, Sound}
 use Rattle.machine.specs.Cells.{cellOf}
 use Rattle.machine.specs.Records.{recordWord, Code, CodeAlternatives, nothingLeft, EnvAt, FramesAt, evaluating-at, missing-at}
 use Rattle.machine.specs.Walks.{ChosenAt}

@@ -5,12 +5,11 @@ use mathlib.Core.Path.{_≡_, refl, sym, _∙_, ap, subst}
 use mathlib.Core.List.{List, [], _∷_}
 use native.Mathlib.Omega.{arith}
 use Rattle.reach.specs.Syntax.{Alternatives, Program}
-use Rattle.reach.specs.Parts.{Parts, Place, free, has, at}
+use Rattle.reach.specs.Parts.{Parts, Place, free, has, at, There}
 use Rattle.reach.specs.Eval as Eval
 use Rattle.reach.specs.Eval.{fieldsOf, partOf, Env, inputParts, size, Frame, waiting, State, choose, answered, view, look, answer, next}
-use Rattle.reach.proofs.Evaluation.{FramesIn, StateIn}
-use Rattle.reach.proofs.Order.{There, field-there}
-use Rattle.reach.proofs.NeverStuck.{PartHas, Chooses, Sound}
+use Rattle.reach.specs.States.{FramesIn, StateIn, PartHas, Chooses, Sound}
+use Rattle.reach.proofs.Order.{field-there}
 use Rattle.machine.specs.Cells.{cellOf, cellWord}
 use Rattle.machine.specs.Records.{recordWord, partIn, EnvAt, FramesAt}
 use Rattle.machine.proofs.Cells.{walk-field, head-open, head-constructor}

@@ -10,8 +10,7 @@ use Rattle.reach.specs.Parts.{Parts}
 use Rattle.reach.specs.Encoding.{countAlternatives}
 use Rattle.reach.specs.Eval as Eval
 use Rattle.reach.specs.Eval.{Env, operands, size, Frame, waiting, State}
-use Rattle.reach.proofs.Evaluation.{EnvIn, FramesIn, StateIn}
-use Rattle.reach.proofs.NeverStuck.{Sound}
+use Rattle.reach.specs.States.{EnvIn, FramesIn, StateIn, Sound}
 use Rattle.machine.specs.Cells.{cellOf}
 use Rattle.machine.specs.Records.{Holds, Code, CodeAll, CodeAlternatives, Control, expressionAt, environmentOf, EnvAt, FramesAt, StateAt}
 use Rattle.machine.proofs.Codes.{Coded, coded-known, code-kind}

@@ -10,8 +10,8 @@ use Rattle.reach.specs.Syntax.{Function, Program, functionAt, sourceTypes}
 use Rattle.reach.specs.Parts.{Parts, allOpen}
 use Rattle.reach.specs.Types.{sourceSlots}
 use Rattle.reach.specs.Eval.{parameters, partOf, empty, inputParts, size, State, evaluating, next, goes, startOf, start}
-use Rattle.reach.proofs.Evaluation.{StateIn, next-in}
-use Rattle.reach.proofs.NeverStuck.{Sound}
+use Rattle.reach.specs.States.{StateIn, Sound}
+use Rattle.reach.proofs.Evaluation.{next-in}
 use Rattle.machine.specs.Cells.{Cells, cellOf, Unmoved}
 use Rattle.machine.specs.Records.{Code, Holds, EnvAt, empty-at, parts-at, none-at, evaluating-at}
 use Rattle.machine.proofs.Cells.{walk-part, kept-cells}

@@ -12,8 +12,7 @@ use Rattle.reach.specs.Eval as Eval
 use Rattle.reach.specs.Eval.{State, Question, Env, Frame, Closure}
 use Rattle.reach.specs.RuleFile.{Outline}
 use Rattle.reach.specs.Places.{typeAt, headAt, outlineAt}
-use Rattle.reach.proofs.Evaluation.{StateIn}
-use Rattle.reach.proofs.NeverStuck.{Sound}
+use Rattle.reach.specs.States.{StateIn, Sound}
 use Rattle.lookups.specs.Fields.{fieldsIn}
 use Rattle.machine.specs.Cells.{Cells, cellOf}
 use Rattle.machine.specs.Records.{Code, Holds, recordWord, Control, environmentOf, StateAt, expressionAt, partIn, nothingLeft}

@@ -8,31 +8,22 @@ use mathlib.Core.Option.{some}
 use native.Mathlib.Omega.{arith}
 use lib.ListN.{length}
 use Rattle.reach.specs.Syntax.{Types, Program, sourceTypes}
-use Rattle.reach.specs.Parts.{Parts, end, opened, allOpen, Place, here, after, inside, Seen, free, has, at, part, within, bindAt, _⊑_, ⊑-end, ⊑-open, ⊑-bind, ⊑-same}
+use Rattle.reach.specs.Parts.{Parts, end, opened, allOpen, Place, here, after, inside, Seen, free, has, at, part, within, bindAt, _⊑_, ⊑-end, ⊑-open, ⊑-bind, ⊑-same, There}
 use Rattle.reach.specs.Types.{Slot, fieldSlots, slotAt, sourceSlots}
 use Rattle.reach.specs.Reader.{got}
 use Rattle.reach.specs.Input.{row, inputOf}
 use Rattle.reach.specs.Places.{bytesAt, typeAt}
-use Rattle.reach.proofs.Order.{There, free-unbound, ⊑-there, bind-refines, bind-has, bind-below, bind-new, open-unbound, open-least}
+use Rattle.reach.proofs.Order.{free-unbound, ⊑-there, bind-refines, bind-has, bind-below, bind-new, open-unbound, open-least}
 use Rattle.reach.proofs.Places.{bytes-length}
 use Rattle.machine.specs.Cells.{cellWord, cellOf, Cells, Binds, Unmoved}
 use Rattle.machine.proofs.Cells.{field, walk-part, walk-kept, OneOf, bind-places, bind-elsewhere}
 use Rattle.cells.specs.Writes.{Starts}
 use Rattle.cells.proofs.Binding.{bound-cells}
-use Rattle.inputs.proofs.Closed.{Placed, input-row, ValueStands, row-width}
+use Rattle.inputs.specs.Positions.{Placed, byteOf}
+use Rattle.inputs.proofs.Closed.{input-row, ValueStands, row-width}
 use Rattle.inputs.proofs.Rows.{sourceRow}
-use Rattle.inputs.proofs.Positions.{byteOf, PartStands, input-part}
-use Rattle.values.specs.Notes.{notedPlace, Noted}
-
--- in the cell of each open part of e is noted where its value in the closed input j stands
-abbrev pub NotesStand : List ℕ → Parts → Parts → Type 0
-NotesStand w e j = (r : Place) → at e r ≡ free → notedPlace w (cellOf w r) ≡ byteOf j r 0
-
--- The words stand for the input e, which the closed input j completes, with these notes.
-pub record Follows (types : Types) (ss : List Slot) (w : List ℕ) (top : ℕ) (e j : Parts) : Type 0 where
-  pub cells : Cells types ss w top e
-  pub below : e ⊑ j
-  pub notes : NotesStand w e j
+use Rattle.inputs.proofs.Positions.{PartStands, input-part}
+use Rattle.values.specs.Notes.{notedPlace, Noted, NotesStand, Follows}
 
 free-there : {s : Seen} → s ≡ free → There s
 free-there h = subst There (sym h) tt

@@ -21,7 +21,8 @@ use Rattle.reach.proofs.Places.{bytes-length}
 use Rattle.records.proofs.Answers.{clash}
 use Rattle.cells.proofs.Writing.{bytes-nth}
 use Rattle.inputs.proofs.Closed.{ValueStands, row-width, value-answer}
-use Rattle.inputs.proofs.Positions.{byteOf, following-part, part-stands}
+use Rattle.inputs.specs.Positions.{byteOf}
+use Rattle.inputs.proofs.Positions.{following-part, part-stands}
 use Rattle.values.specs.Notes.{notedPlace, notePlace, placeOr, behindValue, NotedFirst}
 
 -- One note.

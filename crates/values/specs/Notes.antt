@@ -5,15 +5,17 @@ use mathlib.Core.Path.{_≡_}
 use mathlib.Core.List.{List, map}
 use mathlib.Core.Logic.{_≢_}
 use lib.ListN.{length, getD, set}
-use Rattle.reach.specs.Parts.{Parts, part}
+use Rattle.reach.specs.Syntax.{Types}
+use Rattle.reach.specs.Parts.{Parts, Place, free, at, part, _⊑_}
+use Rattle.reach.specs.Types.{Slot}
 use Rattle.reach.specs.Reader.{got}
 use Rattle.reach.specs.Input.{row}
 use Rattle.reach.specs.Places.{typeAt}
-use Rattle.machine.specs.Cells.{cellWord}
+use Rattle.machine.specs.Cells.{cellWord, cellOf, Cells}
 use Rattle.inputs.specs.declared.Behind.{Behind}
 use Rattle.inputs.specs.declared.Behind.the-variants as Behind
 use Rattle.inputs.specs.Values.{behindOf, valueAt}
-use Rattle.inputs.proofs.Positions.{byteOf}
+use Rattle.inputs.specs.Positions.{byteOf}
 
 -- the place noted in cell x: its low half is word 4, its high half word 1
 abbrev pub notedPlace : List ℕ → ℕ → ℕ
@@ -43,3 +45,13 @@ pub record NotedFirst (file types input w w′ : List ℕ) (first : ℕ) (ts : L
 -- in every cell
 abbrev pub Noted : List ℕ → List ℕ → List ℕ → List ℕ → List ℕ → ℕ → List ℕ → ℕ → ℕ → Type 0
 Noted file types input w w′ first ts at room = NotedFirst file types input w w′ first ts at room (length ts)
+
+-- in the cell of each open part of e is noted where its value in the closed input j stands
+abbrev pub NotesStand : List ℕ → Parts → Parts → Type 0
+NotesStand w e j = (r : Place) → at e r ≡ free → notedPlace w (cellOf w r) ≡ byteOf j r 0
+
+-- The words stand for the input e, which the closed input j completes, with these notes.
+pub record Follows (types : Types) (ss : List Slot) (w : List ℕ) (top : ℕ) (e j : Parts) : Type 0 where
+  pub cells : Cells types ss w top e
+  pub below : e ⊑ j
+  pub notes : NotesStand w e j

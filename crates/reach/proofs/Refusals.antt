@@ -1,6 +1,6 @@
 -- A file is turned back by 1 to 9 only: 01, "Turned back". Each reader says by which refusals it may end; what they say is joined along the reader's own
 -- text.
--- Rests on reach's Reader, RuleFile, Words and Answers.
+-- Rests on Reader, RuleFile, Words and Answers.
 use Prim.Native.Nat.{ℕ, zero, suc, pred, _+_, _≤_}
 use native.Mathlib.Omega.{arith}
 use mathlib.Core.Path.{_≡_, subst}
