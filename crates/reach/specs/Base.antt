@@ -13,7 +13,6 @@ abbrev pub _∈_ : {A : Type 0} → A → List A → Type 0
 _∈_ x xs = List·Memᴰ x xs
 
 infix 40 _∈_
-
 -- the fact holds of each element of the list
 abbrev pub Each : {A : Type 0} → (A → Type 0) → List A → Type 0
 Each P [] = Unit {0}
