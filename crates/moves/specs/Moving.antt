@@ -58,7 +58,7 @@ EntryIn g w x kind new =
     (e : Parts) × (new ≡ record { kind = kind; steps = x .done; input = e } ∷ [])
     × Cells (g .program .types) (sourceSlots (g .program)) w (x .cells) e × Typed (g .program .types) (sourceTypes (g .program)) e
 
--- the entries that a move lists: none, or one
+-- the entries that a path lists at its end: none, or one
 abbrev pub Lists : Setting → List ℕ → Walk → Listing → List Entry → Type 0
 Lists g w x Listing.Nothing new = new ≡ []
 Lists g w x Listing.Reached new = EntryIn g w x RE new
@@ -166,7 +166,7 @@ Standing file types functions least label w limit base stack x =
     (p : Program) × (position : Model.Position) × (cs : List Choice) × Given (setting file types functions least p limit base stack) × (label ≡ p .label)
     × StandsAs (setting file types functions least p limit base stack) w x position cs
 
--- one move or more
+-- one move or more: those of a path up to its end
 abbrev pub Moves : List ℕ → List ℕ → List ℕ → List ℕ → ℕ → List ℕ → List ℕ → ℕ → ℕ → ℕ → Walk → Moved → Type 0
 Moves file types functions least label w w′ limit base stack x m =
     (p : Program) (position : Model.Position) (cs : List Choice) → Given (setting file types functions least p limit base stack) → label ≡ p .label

@@ -185,7 +185,7 @@ module _ (file types functions least : List ℕ) (label : ℕ) (w₀ : List ℕ)
           ∙ moved-keeps p (leastDepths (p .types)) (now .position) (made .position) (now .choices) (made .choices) (now .listed) (made .new) (made .more) (made .model-is (now .listed))
           ∙ now .owed-is
 
-      -- the input of an entry that a move lists
+      -- the input of an entry that a path lists
       input-in :
           (p : Program) → Begins (at-program p) label w₀ parameters from → (kind : Kind) {new : List Entry} (entry : EntryIn (at-program p) w′ (m .walk) kind new)
           → InputIn file types w′ parameters (m .walk .cells) (p .types) (sourceTypes p) (p .depth) (entry .0)
