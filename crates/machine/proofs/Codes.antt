@@ -1,5 +1,5 @@
 -- What stands in the file, as the steps read it: the bytes of each kind of expression and the places of its parts, the operand of a number and
--- the alternative of a constructor, found by passing over what stands before them.
+-- the alternative of a constructor, behind what is passed over before them.
 -- Rests on specs/Records and specs/Walks and on reach's Encoding.
 use Prim.Native.Nat.{ℕ, zero, suc, _+_, _-_, _≤_, _<_}
 use mathlib.Core.Path.{_≡_, refl, subst}
@@ -7,21 +7,16 @@ use mathlib.Core.List.{List, append-nil}
 use mathlib.Core.Option.{some}
 use native.Mathlib.Omega.{arith}
 use lib.ListN.{length, getD, drop}
-use borrow.Author.Tests.{lt-ltb}
 use Rattle.reach.specs.Limits.{nestingLimit}
 use Rattle.reach.specs.Syntax.{Expr, variable, call, construct, case, bind, target, Exprs, []ₑ, _∷ₑ_, nthExpr, Alternatives, no-more, absent, present, Function}
-use Rattle.reach.specs.Reader.{got, byte}
+use Rattle.reach.specs.Reader.{byte}
 use Rattle.reach.specs.RuleFile.{Head, Outline}
-use Rattle.reach.specs.Encoding.{encode, ByteAt, countAlternatives, nesting, skippedAll, skippedAlternatives, skipped}
-use Rattle.reach.specs.Eval.{Env, Frame, State, evaluating, missing, stuck, choose}
+use Rattle.reach.specs.Encoding.{encode, ByteAt, countAlternatives, nesting}
+use Rattle.reach.specs.Eval.{Env, Frame, State, evaluating, missing, choose}
 use Rattle.reach.proofs.Base.{clash}
 use Rattle.reach.proofs.Encoding.{stands-variable, stands-call, stands-construct, stands-case, stands-let, stands-target, stands-next, stands-absent, stands-present, skipped-finds, BodyAt}
 use Rattle.machine.specs.Records.{Code, CodeAll, CodeAlternatives}
 use Rattle.machine.specs.Walks.{Behind, OperandAt, this-operand, later-operand, ChosenAt, none-chosen, this-chosen, past-absent, past-present}
-
-byte-there : (s : List ℕ) (i b : ℕ) → ByteAt s i b → byte s i ≡ got b (i + 1)
-unfolding byte
-byte-there s i b there = let z : i + 1 ≡ suc i = omega arith in rw (lt-ltb i (length s) (there .0), there .1, z)
 
 -- the kinds of expression, by the code that is their first byte
 pub data Coded : ℕ → Expr → Type 0 where
@@ -146,26 +141,6 @@ module _ (file : List ℕ) (o : Outline) where
       let at = code-next i x es code in
       later-operand x (at .0) (λ next passed. operand-at next j es e (at .1 next passed) is)
 
-  -- with none left to pass over, it stands here
-  pub operand-here : (i j : ℕ) (e : Expr) → OperandAt file o i j e → j ≡ 0 → Code file o i e
-  operand-here i j e (this-operand code) none-left = code
-  operand-here i j e (later-operand x code rest) none-left = absurd (clash (omega arith))
-
-  -- else an expression stands here, and the operand is one nearer behind it
-  pub operand-later : (i j : ℕ) (e : Expr) → OperandAt file o i j e → 0 < j → (x : Expr) × Code file o i x × ((next : ℕ) → Behind file o i next → OperandAt file o next (j - 1) e)
-  operand-later i j e (this-operand code) more = absurd (clash (omega arith))
-  operand-later i j e (later-operand {j = k} x code rest) more = let z : suc k - 1 ≡ k = omega arith in (x, code, λ next passed. rw z (rest next passed))
-
-  -- so it stands where passing over j expressions leads
-  pub operand-place : (i j : ℕ) (e : Expr) → OperandAt file o i j e → (place : ℕ) × (skippedAll (skipped o nestingLimit) j file i ≡ got tt place) × Code file o place e
-  unfolding skippedAll
-  operand-place i j e (this-operand code) = (i, refl, code)
-  operand-place i j e (later-operand {j = k} x code rest) =
-      let passed = code-behind i x code in
-      let next = i + length (encode x) in
-      let found = operand-place next k e (rest next passed) in
-      (found .0, rw passed (found .1), found .2)
-
   -- The alternative of constructor c, of alternatives that begin at i: c of them are passed over. The state is the one that the case goes on to.
   module _ (env : Env) (fs : List Frame) where
     pub chosen-at : (i c : ℕ) (alts : Alternatives) → CodeAlternatives file o i alts → c < countAlternatives alts → ChosenAt file o env fs i c (choose alts c env fs)
@@ -182,13 +157,6 @@ module _ (file : List ℕ) (o : Outline) where
         let at = code-present i e alts code in
         past-present e (at .0) (at .1) (λ next passed. chosen-at next c alts (at .2 next passed) (omega arith))
 
-    -- a byte stands there
-    pub chosen-byte : (i c : ℕ) (s : State) → ChosenAt file o env fs i c s → i < length file
-    chosen-byte i c s (none-chosen b) = b .0
-    chosen-byte i c s (this-chosen e b code) = b .0
-    chosen-byte i c s (past-absent b rest) = b .0
-    chosen-byte i c s (past-present e b code rest) = b .0
-
     -- with none left to pass over: it is missing, or its expression stands behind the byte
     pub chosen-missing : (i c : ℕ) (s : State) → ChosenAt file o env fs i c s → c ≡ 0 → getD file i 0 ≡ 0 → s ≡ missing
     chosen-missing i c s (none-chosen b) none-left zero-byte = refl
@@ -202,42 +170,3 @@ module _ (file : List ℕ) (o : Outline) where
     chosen-present i c s (this-chosen e b code) none-left other = (e, refl, code)
     chosen-present i c s (past-absent b rest) none-left other = absurd (other (b .1))
     chosen-present i c s (past-present e b code rest) none-left other = absurd (clash (omega arith))
-
-    -- else the alternative is one nearer behind the byte, or behind the byte and an expression
-    pub chosen-past-absent : (i c : ℕ) (s : State) → ChosenAt file o env fs i c s → 0 < c → getD file i 0 ≡ 0 → ChosenAt file o env fs (i + 1) (c - 1) s
-    chosen-past-absent i c s (none-chosen b) more zero-byte = absurd (clash (omega arith))
-    chosen-past-absent i c s (this-chosen e b code) more zero-byte = absurd (clash (omega arith))
-    chosen-past-absent i c s (past-absent {c = k} b rest) more zero-byte = let z : suc k - 1 ≡ k = omega arith in rw z rest
-    chosen-past-absent i c s (past-present e b code rest) more zero-byte = absurd (clash (omega (arith, b .1)))
-
-    pub chosen-past-present :
-        (i c : ℕ) (s : State) → ChosenAt file o env fs i c s → 0 < c → (getD file i 0 ≡ 0 → ⊥)
-        → (e : Expr) × Code file o (i + 1) e × ((next : ℕ) → Behind file o (i + 1) next → ChosenAt file o env fs next (c - 1) s)
-    chosen-past-present i c s (none-chosen b) more other = absurd (clash (omega arith))
-    chosen-past-present i c s (this-chosen e b code) more other = absurd (clash (omega arith))
-    chosen-past-present i c s (past-absent b rest) more other = absurd (other (b .1))
-    chosen-past-present i c s (past-present {c = k} e b code rest) more other =
-        let z : suc k - 1 ≡ k = omega arith in (e, code, λ next passed. rw z (rest next passed))
-
-    -- so it stands where passing over c alternatives leads
-    pub chosen-place : (i c : ℕ) (s : State) → ChosenAt file o env fs i c s → (place : ℕ) × (skippedAlternatives (skipped o nestingLimit) c file i ≡ got tt place) × ChosenAt file o env fs place 0 s
-    unfolding skippedAlternatives
-    chosen-place i c s (none-chosen b) = (i, refl, none-chosen b)
-    chosen-place i c s (this-chosen e b code) = (i, refl, this-chosen e b code)
-    chosen-place i c s (past-absent {c = k} b rest) =
-        let found = chosen-place (i + 1) k s rest in
-        (found .0, rw (byte-there file i 0 b) (found .1), found .2)
-    chosen-place i c s (past-present {c = k} e b code rest) =
-        let passed = code-behind (i + 1) e code in
-        let next = i + 1 + length (encode e) in
-        let found = chosen-place next k s (rest next passed) in
-        (found .0, rw (byte-there file i 1 b, passed) (found .1), found .2)
-
--- a constructor past the last alternative names nothing
-pub choose-stuck : (alts : Alternatives) (c : ℕ) (env : Env) (fs : List Frame) → countAlternatives alts ≤ c → choose alts c env fs ≡ stuck
-unfolding choose countAlternatives
-choose-stuck no-more c env fs past = refl
-choose-stuck (absent alts) zero env fs past = absurd (clash (omega arith))
-choose-stuck (absent alts) (suc c) env fs past = choose-stuck alts c env fs (omega arith)
-choose-stuck (present e alts) zero env fs past = absurd (clash (omega arith))
-choose-stuck (present e alts) (suc c) env fs past = choose-stuck alts c env fs (omega arith)

@@ -33,7 +33,7 @@ use Rattle.choices.specs.Returning.{setting}
 use Rattle.choices.proofs.Keeping.{reopened-other, there, cell-below, choices-kept, choices-more}
 use Rattle.choices.proofs.Taking.{path-taken, goes-taken, choices-taken, step-kept, path-goes}
 use Rattle.choices.proofs.Weights.{weight-kept, weight-taken}
-use Rattle.choices.proofs.Returning.{stack-small, height-small, long, cells-small}
+use Rattle.choices.proofs.Returning.{height-small, long, cells-small}
 use Rattle.moves.specs.Moving.{UnderWay, ComesTo, Forking, Takes}
 use Rattle.moves.proofs.Arriving.{step-standing}
 
@@ -85,9 +85,6 @@ module _ {g : Setting} (given : Given g) {w : List ℕ} {h n i k : ℕ} (f : For
 
   pub height-few : h ≤ 4096
   height-few = height-small given (f .next-at .choice-at)
-
-  pub stack-few : g .stack ≤ 1000000
-  stack-few = stack-small given
 
   -- the cell can be bound
   pub bindable :
