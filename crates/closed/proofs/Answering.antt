@@ -1,5 +1,5 @@
 -- The answer of the whole run, by what the check, the reading of the input and the evaluation found.
--- Rests on specs/Running, on loaded's Files and Loaded, on rulefile's Tabled and inputs' Closed.
+-- Rests on specs/Answering and specs/Running, on loaded's Files and Loaded, on rulefile's Tabled and inputs' Closed.
 use Prim.Native.Nat.{ℕ, _+_, _*_, _≤_, _<_}
 use mathlib.Core.Path.{_≡_, sym, _∙_, subst}
 use mathlib.Core.Bool.{Bool, true, false, not}
@@ -28,9 +28,14 @@ use Rattle.rulefile.proofs.Tabled.{program-types, program-source, program-label
 use Rattle.machine.proofs.Cells.{kept-cells}
 use Rattle.loaded.proofs.Files.{file-of}
 use Rattle.loaded.proofs.Loaded.{goal-of, loaded-accepted, goal-small}
-use Rattle.closed.specs.Running.{Given, Runnable, LookedAt, RunsAs, Leaves, answerOf}
+use Rattle.closed.specs.Answering.{LookedAt, Leaves, answerOf, Promised, HasRun}
+use Rattle.closed.specs.Running.{Given, Runnable, RunsAs}
 use Rattle.closed.specs.declared.Answer.{Answer}
 use Rattle.closed.specs.declared.Answer.the-variants as Answer
+
+-- what a call promises of its own answer holds of the definition's
+pub run-so : {file input work work′ : List ℕ} {r : Answer} → Promised file input work work′ r → HasRun file input work work′
+run-so {file} {input} {work} {work′} call = subst (Promised file input work work′) (call .answer-is) call
 
 -- a refused file
 pub answer-refused : (file input : List ℕ) (work : ℕ) {why : Refusal} → check file ≡ turnedBack why → Answer.Refused why ≡ answerOf (runAnswer file input work)

@@ -24,7 +24,8 @@ use Rattle.values.specs.Notes as Values
 use Rattle.values.proofs.Binding.{start-follows}
 use Rattle.machine.specs.Records.{Code}
 use Rattle.steps.specs.Stepping.{outlineOf}
-use Rattle.closed.specs.Running.{Given, Underway, Begun, LookedAt}
+use Rattle.closed.specs.Running.{Given, Underway, Begun}
+use Rattle.closed.specs.Answering.{LookedAt}
 use Rattle.closed.proofs.Reached.{reached-in, reached-sound}
 use Rattle.steps.proofs.Standing.{startRegisters, stands-start}
 use Rattle.closed.proofs.Advancing.{within, follows-kept}

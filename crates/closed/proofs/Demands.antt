@@ -1,21 +1,21 @@
 -- The demands of the request, said of the call `run`: its answer, by what its contract promises, is the outcome of the published evaluation on the closed
 -- input whose bytes it was given, with exact steps, or one refusal under exactly its condition.
 -- What is proved of that evaluation stands in reach's Demands; what the search says of the same evaluation, in search's Demands.
--- Rests on reach's ClosedInputs and Evaluation.
+-- Rests on reach's ClosedInputs, Evaluation and Refusals.
 use Prim.Native.Nat.{ℕ, _≤_, _<_}
 use mathlib.Core.Path.{_≡_, refl, sym, _∙_, ap, subst}
-use mathlib.Core.Logic.{_⊎_, inl, inr, _↔_}
+use mathlib.Core.Logic.{_⊎_, inl, inr, ⊎-elim, _↔_}
 use mathlib.Core.List.{List}
 use mathlib.Core.Option.{Option, none, some, Option·some-injective}
 use native.Mathlib.Omega.{arith}
-use lib.ListN.{length}
+use lib.ListN.{length, drop}
 use lib.Dec.{leb}
 use borrow.Author.Tests.{le-leb, lt-leb, leb-true, leb-false}
 use Rattle.reach.specs.declared.Refusal.{Refusal}
 use Rattle.reach.specs.declared.Refusal.the-variants.{BadInput, WorkTooShort}
 use Rattle.reach.specs.declared.Outcome.{Outcome}
 use Rattle.reach.specs.declared.Outcome.the-variants.{Reached, Ended, Unfinished}
-use Rattle.reach.specs.Words.{stepsOf}
+use Rattle.reach.specs.Words.{numberOf, stepsOf}
 use Rattle.reach.specs.Limits.{workWords}
 use Rattle.reach.specs.Syntax.{Program}
 use Rattle.reach.specs.Parts.{Parts, prefix}
@@ -26,13 +26,10 @@ use Rattle.reach.specs.Answers.{Checked, accepted, turnedBack, check, RunAnswer
 use Rattle.reach.proofs.Base.{clash, picked}
 use Rattle.reach.proofs.Evaluation.{run-spent, run-ends}
 use Rattle.reach.proofs.ClosedInputs.{input-exactly}
+use Rattle.reach.proofs.Refusals.{turned-back-by}
 use Rattle.closed.specs.declared.Answer.{Answer}
 use Rattle.closed.specs.declared.Answer.the-variants as Answer
-use Rattle.closed.specs.Running.{answerOf}
-
--- the bytes are one closed, fitting value per parameter: the prefix form of j
-abbrev pub IsInput : Program → List ℕ → Parts → Type 0
-IsInput p input j = WithinDepth p j × (prefix j ≡ input)
+use Rattle.closed.specs.Answering.{answerOf, Unchanged, LookedAt, Leaves, Promised, IsInput}
 
 -- What the answer of an accepted file says.
 abbrev RunMeans : Program → List ℕ → ℕ → RunAnswer → Type 0
@@ -69,11 +66,11 @@ unfinished-kept limit n (ended why m) spent ends is = absurd (clash (cc))
 unfinished-kept limit n (unfinished m) spent ends is = let same : n ≡ m = cc in same ∙ spent
 unfinished-kept limit n (halted q m) spent ends is = absurd ends
 
--- `r ≡ answerOf (runAnswer file input (length work))` is the contract: the call answered r.
-module _ (file input work : List ℕ) (r : Answer) (call : r ≡ answerOf (runAnswer file input (length work))) where
+-- `Promised file input work work′ r` is the contract: the call answered r, and the work slice that held the words `work` holds `work′`.
+module _ (file input work work′ : List ℕ) (r : Answer) (call : Promised file input work work′ r) where
   -- 01, "Turned back": a file that the check refuses gets its number, whatever the input and the words are.
   pub refused-file : (why : Refusal) → check file ≡ turnedBack why → r ≡ Answer.Refused why
-  refused-file why checked = call ∙ ap answerOf (run-turned-back file input (length work) why checked)
+  refused-file why checked = call .answer-is ∙ ap answerOf (run-turned-back file input (length work) why checked)
 
   module _ (p : Program) (checked : check file ≡ accepted p) where
     means : RunMeans p input (length work) (runAnswer file input (length work))
@@ -89,7 +86,7 @@ module _ (file input work : List ℕ) (r : Answer) (call : r ≡ answerOf (runAn
     -- Demand 1 and 2: the call runs exactly where the bytes are a closed input that fits and the words are enough, and answers as the published evaluation of
     -- that input ends, after exactly its steps.
     pub ran-exactly : (o : Outcome) → (r ≡ Answer.Ran o) ↔ ((j : Parts) × IsInput p input j × (workWords (p .steps) ≤ length work) × (o ≡ outcomeOf (run p j)))
-    ran-exactly o = (λ is. from (runAnswer file input (length work)) means (sym call ∙ is), λ h. call ∙ into (h .0) (h .1) (h .2) (h .3) (runAnswer file input (length work)) means)
+    ran-exactly o = (λ is. from (runAnswer file input (length work)) means (sym (call .answer-is) ∙ is), λ h. call .answer-is ∙ into (h .0) (h .1) (h .2) (h .3) (runAnswer file input (length work)) means)
       where
         from : (a : RunAnswer) → RunMeans p input (length work) a → answerOf a ≡ Answer.Ran o
             → (j : Parts) × IsInput p input j × (workWords (p .steps) ≤ length work) × (o ≡ outcomeOf (run p j))
@@ -107,7 +104,7 @@ module _ (file input work : List ℕ) (r : Answer) (call : r ≡ answerOf (runAn
 
     -- 01, "Turned back", refusal 10: "the bytes are not one closed, fitting value per parameter".
     pub bad-exactly : (r ≡ Answer.Refused BadInput) ↔ ((j : Parts) → ¬ IsInput p input j)
-    bad-exactly = (λ is j other. from (runAnswer file input (length work)) means (sym call ∙ is) j other, λ never. call ∙ into never (runAnswer file input (length work)) means)
+    bad-exactly = (λ is j other. from (runAnswer file input (length work)) means (sym (call .answer-is) ∙ is) j other, λ never. call .answer-is ∙ into never (runAnswer file input (length work)) means)
       where
         from : (a : RunAnswer) → RunMeans p input (length work) a → answerOf a ≡ Answer.Refused BadInput → (j : Parts) → IsInput p input j → ⊥
         from (noRun why) (inl (by, unread)) is j other = clash (cc (unread, input-exactly p input j .1 other))
@@ -121,7 +118,7 @@ module _ (file input work : List ℕ) (r : Answer) (call : r ≡ answerOf (runAn
 
     -- 01, "Turned back", refusal 11: "the work slice of 32-bit words is shorter than 64 × S + 1,024", tested after the input.
     pub short-exactly : (r ≡ Answer.Refused WorkTooShort) ↔ ((j : Parts) × IsInput p input j × (length work < workWords (p .steps)))
-    short-exactly = (λ is. from (runAnswer file input (length work)) means (sym call ∙ is), λ h. call ∙ into (h .0) (h .1) (h .2) (runAnswer file input (length work)) means)
+    short-exactly = (λ is. from (runAnswer file input (length work)) means (sym (call .answer-is) ∙ is), λ h. call .answer-is ∙ into (h .0) (h .1) (h .2) (runAnswer file input (length work)) means)
       where
         from : (a : RunAnswer) → RunMeans p input (length work) a → answerOf a ≡ Answer.Refused WorkTooShort → (j : Parts) × IsInput p input j × (length work < workWords (p .steps))
         from (noRun why) (inl (by, unread)) is = absurd (clash (cc (by)))
@@ -143,3 +140,57 @@ module _ (file input work : List ℕ) (r : Answer) (call : r ≡ answerOf (runAn
     unfinished-all n is =
         let (j, reads, enough, ends) = ran-exactly (Unfinished n) .0 is in
         unfinished-kept (p .steps) n (run p j) (run-spent p j) (run-ends p j (reads .0 .0 .0)) ends
+
+  -- which condition a refusal has
+  abbrev Refusable : Refusal → Type 0
+  Refusable why =
+      ((numberOf why ≤ 9) × (check file ≡ turnedBack why))
+      ⊎ (((why ≡ BadInput) × ((p : Program) × (check file ≡ accepted p) × ((j : Parts) → ¬ IsInput p input j)))
+      ⊎ ((why ≡ WorkTooShort) × ((p : Program) × (check file ≡ accepted p) × ((j : Parts) × IsInput p input j × (length work < workWords (p .steps))))))
+
+  -- Demand 1: "returns a result or one of the numbered refusals, each under its own condition only". In both directions and for every number: 1 to 9 are the
+  -- check's; 10 is given for an accepted file where "the bytes are not one closed, fitting value per parameter"; 11 behind it where "the work slice of 32-bit
+  -- words is shorter than 64 × S + 1,024". No other number is given.
+  pub refused-exactly : (why : Refusal)
+      → (r ≡ Answer.Refused why)
+      ↔ (((numberOf why ≤ 9) × (check file ≡ turnedBack why))
+      ⊎ (((why ≡ BadInput) × ((p : Program) × (check file ≡ accepted p) × ((j : Parts) → ¬ IsInput p input j)))
+      ⊎ ((why ≡ WorkTooShort) × ((p : Program) × (check file ≡ accepted p) × ((j : Parts) × IsInput p input j × (length work < workWords (p .steps)))))))
+  refused-exactly why = (λ is. from (check file) refl is, ⊎-elim (λ h. refused-file why (h .1)) (⊎-elim bad short))
+    where
+      by-means :
+          (p : Program) → check file ≡ accepted p → (a : RunAnswer) → RunMeans p input (length work) a → answerOf a ≡ Answer.Refused why
+          → (why ≡ BadInput) ⊎ (why ≡ WorkTooShort)
+      by-means p checked (noRun by) (inl (same-as, unread)) is = let same : by ≡ why = cc in inl (sym same ∙ same-as)
+      by-means p checked (noRun by) (inr (same-as, rest)) is = let same : by ≡ why = cc in inr (sym same ∙ same-as)
+      by-means p checked (ran o) m is = absurd (clash (cc))
+
+      from : (c : Checked) → check file ≡ c → r ≡ Answer.Refused why → Refusable why
+      from (turnedBack by) checked is =
+          let same : by ≡ why = cc (refused-file by checked) in
+          let turned : check file ≡ turnedBack why = checked ∙ ap turnedBack same in
+          inl (turned-back-by file why turned, turned)
+      from (accepted p) checked is =
+          inr (⊎-elim (λ same-as. inl (same-as, (p, checked, bad-exactly p checked .0 (is ∙ ap Answer.Refused same-as))))
+          (λ same-as. inr (same-as, (p, checked, short-exactly p checked .0 (is ∙ ap Answer.Refused same-as))))
+          (by-means p checked (runAnswer file input (length work)) (run-means file input (length work) p checked) (sym (call .answer-is) ∙ is)))
+
+      bad : (why ≡ BadInput) × ((p : Program) × (check file ≡ accepted p) × ((j : Parts) → ¬ IsInput p input j)) → r ≡ Answer.Refused why
+      bad (same-as, (p, checked, never)) = bad-exactly p checked .1 never ∙ ap Answer.Refused (sym same-as)
+
+      short :
+          (why ≡ WorkTooShort) × ((p : Program) × (check file ≡ accepted p) × ((j : Parts) × IsInput p input j × (length work < workWords (p .steps))))
+          → r ≡ Answer.Refused why
+      short (same-as, (p, checked, few)) = short-exactly p checked .1 few ∙ ap Answer.Refused (sym same-as)
+
+  -- 01, "Turned back": "Refusals 1 to 11 change no buffer."
+  pub refused-unchanged : (why : Refusal) → r ≡ Answer.Refused why → work′ ≡ work
+  refused-unchanged why is = subst (λ (a : Answer). Unchanged a file work work′) is (call .words-are)
+
+  -- What the words stand for after a run: a partial input below the closed one, on which the evaluation comes to the same end.
+  pub run-looked : (o : Outcome) → r ≡ Answer.Ran o → (p : Program) (j : Parts) → check file ≡ accepted p → IsInput p input j
+      → (drop (workWords (p .steps)) work′ ≡ drop (workWords (p .steps)) work) × LookedAt p j (p .steps) work′
+  run-looked o is p j checked input-is = (
+    subst (λ (a : Answer). Unchanged a file work work′) is (call .words-are) p checked,
+    subst (λ (a : Answer). Leaves a file input work′) is (call .cells-are) p j checked (input-exactly p input j .1 input-is),
+  )

@@ -23,7 +23,8 @@ use Rattle.steps.specs.Running.{StepsTo, no-step, one-more, Onward, ComesToHalt
 use Rattle.skipping.specs.Ends.{Ends}
 use Rattle.closed.proofs.Reached.{same-demands, same-stops, same-spent}
 use Rattle.closed.proofs.Advancing.{within, went}
-use Rattle.closed.specs.Running.{Given, Underway, Advances, ComesTo, LookedAt, AdvancesAll, SomeWaiting, Enters, EndsAs, Begins, CameTo}
+use Rattle.closed.specs.Answering.{LookedAt}
+use Rattle.closed.specs.Running.{Given, Underway, Advances, ComesTo, AdvancesAll, SomeWaiting, Enters, EndsAs, Begins, CameTo}
 
 -- it is the end: nothing comes next, or no step is left
 abbrev Last : Next → Type 0 → Type 0

@@ -13,7 +13,7 @@ use Rattle.reach.specs.Eval as Eval
 use Rattle.reach.specs.Eval.{State, start, eval, reached, ended, unfinished, run}
 use Rattle.reach.specs.Input.{inputOf}
 use Rattle.reach.specs.Places.{bytesAt, typeAt, goalAt}
-use Rattle.reach.specs.Answers.{check, accepted, outcomeOf, RunAnswer, noRun, ran}
+use Rattle.reach.specs.Answers.{check, accepted, outcomeOf}
 use Rattle.reach.specs.States.{Steps}
 use Rattle.lookups.specs.Fields.{fieldsIn}
 use Rattle.machine.specs.Cells.{cellWord, Binds, Cells}
@@ -24,10 +24,9 @@ use Rattle.values.specs.Notes as Values
 use Rattle.steps.specs.declared.Registers.{Registers}
 use Rattle.steps.specs.declared.Next.{Next}
 use Rattle.steps.specs.declared.Next.the-variants as Next
-use Rattle.closed.specs.declared.Answer.{Answer}
-use Rattle.closed.specs.declared.Answer.the-variants as Answer
 use Rattle.steps.specs.Stepping.{FileOf, StandsFor, Wrote, Stepped}
 use Rattle.skipping.specs.Ends.{Ends}
+use Rattle.closed.specs.Answering.{LookedAt}
 
 -- A checked file with its tables, its program, and a closed input of the program.
 pub record Given (file types functions input : List ℕ) (goal : ℕ) (p : Program) (j : Parts) : Type 0 where
@@ -133,15 +132,6 @@ Enters file types ends input w₁ w′ base cells x r cells′ r′ =
     (functions w : List ℕ) (label : ℕ) → Ends file types functions ends → Stepped file types functions w w₁ base label r (Next.Waits x)
     → AdvancesAll file types functions input label w w′ base cells r cells′ (Next.Goes r′)
 
--- What words w stand for after a run of at most `limit` steps: a partial input below the closed one, on which the evaluation comes to the same end. So
--- each part that is bound has the constructor that the closed input has there, and no step of the run looked at a part that is open.
-pub record LookedAt (p : Program) (j : Parts) (limit : ℕ) (w : List ℕ) : Type 0 where
-  pub cells : ℕ
-  pub input : Parts
-  pub stands : Cells (p .types) (sourceSlots p) w cells input
-  pub below : input ⊑ j
-  pub enough : eval p input limit 0 (start p) ≡ eval p j limit 0 (start p)
-
 -- the run of at most `limit` steps from where it is under way ends so, in words w′
 abbrev pub EndsAs : List ℕ → List ℕ → List ℕ → List ℕ → ℕ → ℕ → List ℕ → List ℕ → ℕ → ℕ → Registers → Outcome → Type 0
 EndsAs file types functions input label limit w w′ base cells r o =
@@ -178,19 +168,3 @@ RunsAs file types functions input goal w′ o =
 -- there is such a program and input, the tables' places are small, and the words are as many as the run needs
 abbrev pub Runnable : List ℕ → List ℕ → List ℕ → List ℕ → ℕ → List ℕ → Type 0
 Runnable file types functions input goal w = (p : Program) × (j : Parts) × Given file types functions input goal p j × (length w ≡ 64 * p .steps + 1024) × (goal ≤ 16384)
-
--- the answer of reach's definition, as the enum shows it
-abbrev pub answerOf : RunAnswer → Answer
-answerOf (noRun why) = Answer.Refused why
-answerOf (ran o) = Answer.Ran o
-
--- A refusal changes no word, and a run none behind its first 64 S + 1,024 words.
-abbrev pub Unchanged : Answer → List ℕ → List ℕ → List ℕ → Type 0
-Unchanged (Answer.Refused why) file w w′ = w′ ≡ w
-Unchanged (Answer.Ran o) file w w′ = (p : Program) → check file ≡ accepted p → drop (64 * p .steps + 1024) w′ ≡ drop (64 * p .steps + 1024) w
-
--- After a run the words stand for a part of the closed input that has all that its steps looked at. What the evaluation's records left behind the
--- cells is not said.
-abbrev pub Leaves : Answer → List ℕ → List ℕ → List ℕ → Type 0
-Leaves (Answer.Refused why) file input w′ = Unit {0}
-Leaves (Answer.Ran o) file input w′ = (p : Program) (j : Parts) → check file ≡ accepted p → inputOf p input ≡ some j → LookedAt p j (p .steps) w′

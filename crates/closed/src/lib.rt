@@ -3,9 +3,9 @@
 ghost use mathlib.Core.Path.{_≡_};
 ghost use Prim.Native.Nat.{ℕ, _+_, _*_, _≤_, _<_};
 ghost use lib.ListN.{length, getD};
-ghost use Rattle.reach.specs.Answers.{runAnswer};
 ghost use Rattle.skipping.specs.Ends.{Ends};
-ghost use Rattle.closed.specs.Running.{Bindable, BoundAs, SomeWaiting, Enters, Begins, EndsAs, Begun, Runnable, RunsAs, answerOf, Unchanged, Leaves};
+ghost use Rattle.closed.specs.Answering.{Promised};
+ghost use Rattle.closed.specs.Running.{Bindable, BoundAs, SomeWaiting, Enters, Begins, EndsAs, Begun, Runnable, RunsAs};
 use cells::bind_cell;
 use cells::start_cells;
 use inputs::input_fits;
@@ -222,9 +222,7 @@ fn evaluate<'a>(
 
 // The closed run of a rule file on an input, in the lent words.
 pub fn run<'a>(file: &'a [u8], input: &'a [u8], work: &mut [u32]) -> Answer
-    ensures { λ r. ⌜ r ≡ answerOf (runAnswer (now (file .entry)) (now (input .entry)) (length (now (work .entry)))) ⌝ }
-    ensures words { λ r. ⌜ Unchanged r (now (file .entry)) (now (work .entry)) (now (work .exit)) ⌝ }
-    ensures bound { λ r. ⌜ Leaves r (now (file .entry)) (now (input .entry)) (now (work .exit)) ⌝ }
+    ensures { λ r. ⌜ Promised (now (file .entry)) (now (input .entry)) (now (work .entry)) (now (work .exit)) r ⌝ }
 {
     let loaded = load(file);
     let answer = loaded.answer;

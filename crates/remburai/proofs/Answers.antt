@@ -20,13 +20,11 @@ use Rattle.rulefile.specs.declared.Checked.the-variants as Checked
 use Rattle.rulefile.specs.Loading.{checkedOf}
 use Rattle.search.specs.declared.Answer.{Answer}
 use Rattle.search.specs.declared.Answer.the-variants as Answer
-use Rattle.search.specs.Answering.{answerOf}
-use Rattle.search.specs.Exploring.{WordsAfter}
-use Rattle.search.specs.Listing.{lengthIn}
+use Rattle.search.specs.Answering.{answerOf, lengthIn}
 use Rattle.search.proofs.Called.{length-is, listed-room}
 use Rattle.closed.specs.declared.Answer.{Answer as Ended}
 use Rattle.closed.specs.declared.Answer.the-variants as Ended
-use Rattle.closed.specs.Running as Running
+use Rattle.closed.specs.Answering as Closed
 use Rattle.entries.specs.declared.Span.{Span}
 use Rattle.entries.specs.declared.Span.the-variants as span
 use Rattle.entries.specs.Spans.{spanOf}
@@ -78,23 +76,13 @@ complete-small file work list n v is = length-small file work list (Answer.Compl
 pub full-small : (file : List ℕ) (work list n : ℕ) → Answer.Full n ≡ answerOf (Answers.searchAnswer file work list) → n ≤ listLimit
 full-small file work list n is = length-small file work list (Answer.Full n) is
 
--- what holds of the words is said of the definition's answer
-pub search-words : (r a : Answer) (file w w′ : List ℕ) → r ≡ a → WordsAfter r file w w′ → WordsAfter a file w w′
-search-words r a file w w′ is h = subst (λ (x : Answer). WordsAfter x file w w′) is h
-
 -- The closed run.
 
-pub run-words : (r a : Ended) (file w w′ : List ℕ) → r ≡ a → Running.Unchanged r file w w′ → Running.Unchanged a file w w′
-run-words r a file w w′ is h = subst (λ (x : Ended). Running.Unchanged x file w w′) is h
-
-pub run-bound : (r a : Ended) (file input w′ : List ℕ) → r ≡ a → Running.Leaves r file input w′ → Running.Leaves a file input w′
-run-bound r a file input w′ is h = subst (λ (x : Ended). Running.Leaves x file input w′) is h
-
-pub no-run-number : (a : Answers.RunAnswer) (why : Refusal) → Ended.Refused why ≡ Running.answerOf a → numberOf why ≡ runNumber a
+pub no-run-number : (a : Answers.RunAnswer) (why : Refusal) → Ended.Refused why ≡ Closed.answerOf a → numberOf why ≡ runNumber a
 no-run-number (Answers.noRun by) why is = let same : why ≡ by = cc in ap numberOf same
 no-run-number (Answers.ran o) why is = absurd (clash (cc))
 
-pub ran-number : (a : Answers.RunAnswer) (o : Outcome) → Ended.Ran o ≡ Running.answerOf a → 256 * outcomeNumber o + 65536 * stepsOf o ≡ runNumber a
+pub ran-number : (a : Answers.RunAnswer) (o : Outcome) → Ended.Ran o ≡ Closed.answerOf a → 256 * outcomeNumber o + 65536 * stepsOf o ≡ runNumber a
 ran-number (Answers.noRun by) o is = absurd (clash (cc))
 ran-number (Answers.ran other) o is = let same : o ≡ other = cc in ap (λ (x : Outcome). 256 * outcomeNumber x + 65536 * stepsOf x) same
 

@@ -4,11 +4,9 @@ ghost use mathlib.Core.Path.{_≡_};
 ghost use Prim.Native.Nat.{_≤_};
 ghost use lib.ListN.{length};
 ghost use Rattle.reach.specs.Words.{stepsOf};
-ghost use Rattle.reach.specs.Lists.{written};
 ghost use Rattle.reach.specs.Answers as Answers;
-ghost use Rattle.search.specs.Answering as Search;
-ghost use Rattle.search.specs.Exploring.{WordsAfter};
-ghost use Rattle.closed.specs.Running as Running;
+ghost use Rattle.search.specs.Answering.{Searched};
+ghost use Rattle.closed.specs.Answering.{HasRun};
 ghost use Rattle.remburai.specs.Packing.{verdictNumber, outcomeNumber, checkNumber, searchNumber, runNumber, partNumber, PartAt};
 use entries::Span;
 use entries::room;
@@ -71,8 +69,7 @@ pub extern "C" fn remburai_check(file: &[u8]) -> u64
 #[no_mangle]
 pub extern "C" fn remburai_search<'a>(file: &'a [u8], work: &mut [u32], list: &mut [u8]) -> u64
     ensures { λ r. ⌜ r ≡ searchNumber (Answers.searchAnswer (now (file .entry)) (length (now (work .entry))) (length (now (list .entry)))) ⌝ }
-    ensures entries { λ r. ⌜ now (list .exit) ≡ written (Answers.listed (Answers.searchAnswer (now (file .entry)) (length (now (work .entry))) (length (now (list .entry))))) (now (list .entry)) ⌝ }
-    ensures words { λ r. ⌜ WordsAfter (Search.answerOf (Answers.searchAnswer (now (file .entry)) (length (now (work .entry))) (length (now (list .entry))))) (now (file .entry)) (now (work .entry)) (now (work .exit)) ⌝ }
+    ensures slices { λ r. ⌜ Searched (now (file .entry)) (now (work .entry)) (now (work .exit)) (now (list .entry)) (now (list .exit)) ⌝ }
 {
     match search::search(file, work, list) {
         search::Answer::Refused(why) => number(why),
@@ -85,8 +82,7 @@ pub extern "C" fn remburai_search<'a>(file: &'a [u8], work: &mut [u32], list: &m
 #[no_mangle]
 pub extern "C" fn remburai_run<'a>(file: &'a [u8], input: &'a [u8], work: &mut [u32]) -> u64
     ensures { λ r. ⌜ r ≡ runNumber (Answers.runAnswer (now (file .entry)) (now (input .entry)) (length (now (work .entry)))) ⌝ }
-    ensures words { λ r. ⌜ Running.Unchanged (Running.answerOf (Answers.runAnswer (now (file .entry)) (now (input .entry)) (length (now (work .entry))))) (now (file .entry)) (now (work .entry)) (now (work .exit)) ⌝ }
-    ensures bound { λ r. ⌜ Running.Leaves (Running.answerOf (Answers.runAnswer (now (file .entry)) (now (input .entry)) (length (now (work .entry))))) (now (file .entry)) (now (input .entry)) (now (work .exit)) ⌝ }
+    ensures slices { λ r. ⌜ HasRun (now (file .entry)) (now (input .entry)) (now (work .entry)) (now (work .exit)) ⌝ }
 {
     match closed::run(file, input, work) {
         closed::Answer::Refused(why) => number(why),

@@ -17,8 +17,7 @@ use Rattle.printing.specs.Writing.{Fronts}
 use Rattle.printing.proofs.Lengths.{Bytes, part-bytes, text-short}
 use Rattle.search.specs.declared.Answer.{Answer}
 use Rattle.search.specs.declared.Answer.the-variants as Answer
-use Rattle.search.specs.Answering.{answerOf}
-use Rattle.search.specs.Listing.{lengthIn}
+use Rattle.search.specs.Answering.{answerOf, lengthIn}
 use Rattle.search.proofs.Cutting.{written-length}
 use Rattle.search.proofs.Called.{length-is, listed-room, written-take, room-inside}
 use Rattle.report.specs.Answers.{reportText}

@@ -1,2 +1,4 @@
--- Lemmas of this crate; the proof of the function stands in its own folder.
+-- Lemmas of this crate; the proof of each function stands in its own folder.
 pub mod Answers
+pub mod Program
+pub mod Demands

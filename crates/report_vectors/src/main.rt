@@ -1,11 +1,11 @@
-// Prints the report of every rule file of a container, each behind its three-byte length, and a line `end` behind each report. The buffers are those
-// of the program `reachlist`: of a longer file the first 16,385 bytes are handed on. tests/make_reachlist.py makes the container and the reports.
+// Prints what `reachlist` prints for every rule file of a container, each behind its three-byte length, and a line `end` behind each text. Of a longer file the
+// first 16,385 bytes are handed on, as that program does. tests/make_reachlist.py makes the container and the texts.
 ghost use Prim.Native.Nat.{_≤_};
 use libc::STDIN_FILENO;
 use libc::STDOUT_FILENO;
-use report::report;
+use report::program_text;
 
-// The bytes of the longest file of a container, and of the longest that is handed on.
+// The bytes of the longest file of a container, those that are handed on, and those that may be left.
 const LONGEST: usize = 100000;
 
 const READ: usize = 16385;
@@ -25,29 +25,33 @@ fn least(a: usize, b: usize) -> usize
     if a < b { a } else { b }
 }
 
-// Prints the report of a rule file, and the line behind it.
-fn print_report(file: &[u8]) {
-    let mut work = [0u32; 16384];
-    let mut list = [0u8; 32768];
+// Prints the text of the rule file whose n bytes come next, and the line behind it.
+fn print_text(n: usize) {
+    let mut file = [0u8; 16385];
     let mut text = [0u8; 131136];
-    let size = report(file, &mut work, &mut list, &mut text);
+    let got = io::read_full(STDIN_FILENO, &mut file[..least(n, READ)]);
+    let size = program_text(&file, got, &mut text);
     io::write_all(STDOUT_FILENO, &text[..size]);
     io::write_all(STDOUT_FILENO, b"end\n");
 }
 
-// Reads one rule file and prints its report; false where the container has ended.
+// Passes over so many bytes.
+fn pass(n: usize) {
+    let mut rest = [0u8; 100000];
+    io::read_full(STDIN_FILENO, &mut rest[..least(n, LONGEST)]);
+}
+
+// Reads one rule file and prints its text; false where the container has ended.
 fn run_case() -> bool {
     let mut head = [0u8; 3];
     if io::read_full(STDIN_FILENO, &mut head) < 3 {
         return false;
     }
     let n = wide(head[0]) + 256 * wide(head[1]) + 65536 * wide(head[2]);
-    if LONGEST < n {
-        return false;
+    print_text(n);
+    if READ < n {
+        pass(n - READ);
     }
-    let mut file = [0u8; 100000];
-    let got = io::read_full(STDIN_FILENO, &mut file[..n]);
-    print_report(&file[..least(got, READ)]);
     true
 }
 

@@ -1,5 +1,5 @@
 -- The answer of the whole search, by what the check and the exploration found; the list slice, of which only its room was lent on; and the words.
--- Rests on specs/Exploring, on Cutting and Beginning, and on the laws of loaded files.
+-- Rests on specs/Answering and specs/Exploring, on Cutting and Beginning, and on the laws of loaded files.
 use Prim.Native.Nat.{ℕ, _+_, _*_, _≤_, _<_, min}
 use mathlib.Core.Path.{_≡_, refl, sym, _∙_, ap, subst}
 use mathlib.Core.List.{List, [], _∷_, _++_}
@@ -25,23 +25,17 @@ use Rattle.loaded.proofs.Files.{file-of}
 use Rattle.loaded.proofs.Loaded.{goal-of, loaded-accepted, loaded-refused, behind-kept}
 use Rattle.search.specs.declared.Answer.{Answer}
 use Rattle.search.specs.declared.Answer.the-variants as Answer
-use Rattle.search.specs.Answering.{answerOf}
-use Rattle.search.specs.Exploring.{WholeList, FirstEntries, Explored, Searchable, settingOf, WordsAfter}
+use Rattle.search.specs.Answering.{Promised}
+use Rattle.search.specs.Exploring.{WholeList, FirstEntries, Explored, Searchable, settingOf}
 use Rattle.search.proofs.Cutting.{written-none, written-front, answer-complete, answer-full, answer-short, answer-refused}
-
--- what `search` promises of its answer, of the list slice and of the words
-abbrev pub Keeps : List ℕ → List ℕ → List ℕ → List ℕ → List ℕ → Answer → Type 0
-Keeps file work list work′ list′ a =
-    (a ≡ answerOf (searchAnswer file (length work) (length list)))
-    × ((list′ ≡ written (listed (searchAnswer file (length work) (length list))) list) × WordsAfter a file work work′)
 
 -- a refusal leaves the list as it was
 refused-list : (why : Refusal) (list : List ℕ) → list ≡ written (listed (noSearch why)) list
 unfolding listed
 refused-list why list = sym (written-none list)
 
-keeps-refused : (file work list : List ℕ) (why : Refusal) → searchAnswer file (length work) (length list) ≡ noSearch why → Keeps file work list work list (Answer.Refused why)
-keeps-refused file work list why is = rw is (refl, (refused-list why list, refl))
+keeps-refused : (file work list : List ℕ) (why : Refusal) → searchAnswer file (length work) (length list) ≡ noSearch why → Promised file work work list list (Answer.Refused why)
+keeps-refused file work list why is = record { answer-is = rw is refl; list-is = rw is (refused-list why list); words-are = refl }
 
 listed-complete : (es : List Entry) → listed (complete es) ≡ es
 unfolding listed
@@ -66,7 +60,7 @@ room-inside list is = omega arith
 
 module _ (file : List ℕ) (r : Loaded) (loads : Loads file r) where
   -- a refused file
-  pub search-refused : (work list : List ℕ) {why : Refusal} → r .answer ≡ Checked.Refused why → Keeps file work list work list (Answer.Refused why)
+  pub search-refused : (work list : List ℕ) {why : Refusal} → r .answer ≡ Checked.Refused why → Promised file work work list list (Answer.Refused why)
   search-refused work list {why} is = keeps-refused file work list why (answer-refused file (length work) (length list) why (loaded-refused file r loads is))
 
   module _ (is : r .answer ≡ Checked.Accepted) {limit : ℕ} (read-limit : limit ≡ (goalAt file (r .«goal_at»)) .steps) where
@@ -77,7 +71,7 @@ module _ (file : List ℕ) (r : Loaded) (loads : Loads file r) where
     limit-is = read-limit ∙ program-steps (here .2)
 
     -- too few words
-    pub search-short : (work list : List ℕ) → length work < 64 * limit + 1024 → Keeps file work list work list (Answer.Refused WorkTooShort)
+    pub search-short : (work list : List ℕ) → length work < 64 * limit + 1024 → Promised file work work list list (Answer.Refused WorkTooShort)
     search-short work list short = keeps-refused file work list WorkTooShort (answer-short file (length work) (length list) (here .0) (here .1) (omega (arith, limit-is)))
 
     -- enough of them
@@ -119,21 +113,16 @@ module _ (file : List ℕ) (r : Loaded) (loads : Loads file r) where
             subst (λ (x : Program). Cells (x .types) (sourceSlots x) work-then top (e x)) one (cells-longer (drop (64 * limit + 1024) work) stands)
 
         keeps-whole : (n : ℕ) (d : Rattle.reach.specs.declared.Verdict.Verdict) → WholeList (settingOf file (typePlaces r) (functionPlaces r) (r .least) (here .0)) (take room list) after v n d
-            → Keeps file work list work-then list-then (Answer.Complete n d)
+            → Promised file work work-then list list-then (Answer.Complete n d)
         keeps-whole n d whole =
             let es = entries (here .0) in
             let fits : length (listBytes es) ≤ room = omega (arith, whole .fits, whole .length-is, room-taken list room-is) in
             let answered : searchAnswer file (length work) (length list) ≡ complete es = answer-complete file (length work) (length list) (here .0) (here .1) words-enough (omega (arith, room-is)) in
-            rw answered (
-              rw (whole .length-is, whole .verdict-is) refl,
-              (
-                rw (listed-complete es, whole .list-is) (written-front es list room (room-inside list room-is) fits),
-                λ p checked. (
-                  behind-kept file r loads is v work read-limit long p checked,
-                  whole-open p checked (whole .all-open .1),
-                ),
-              ),
-            )
+            record {
+              answer-is = rw (answered, whole .length-is, whole .verdict-is) refl;
+              list-is = rw (answered, listed-complete es, whole .list-is) (written-front es list room (room-inside list room-is) fits);
+              words-are = λ p checked. (behind-kept file r loads is v work read-limit long p checked, whole-open p checked (whole .all-open .1));
+            }
           where
             whole-open :
                 (p : Program) → check file ≡ accepted p → Cells (here .0 .types) (sourceSlots (here .0)) v (length (sourceTypes (here .0))) (openInput (here .0))
@@ -143,42 +132,40 @@ module _ (file : List ℕ) (r : Loaded) (loads : Loads file r) where
                 subst (λ (x : Program). Cells (x .types) (sourceSlots x) work-then (length (sourceTypes x)) (openInput x)) one (cells-longer (drop (64 * limit + 1024) work) stands)
 
         keeps-first : (n : ℕ) → FirstEntries (settingOf file (typePlaces r) (functionPlaces r) (r .least) (here .0)) (take room list) after v n
-            → Keeps file work list work-then list-then (Answer.Full n)
+            → Promised file work work-then list list-then (Answer.Full n)
         keeps-first n first =
             let es = first .listed in
             let fits : length (listBytes es) ≤ room = omega (arith, first .fits, first .length-is, room-taken list room-is) in
             let answered : searchAnswer file (length work) (length list) ≡ cutShort es =
             answer-full file (length work) (length list) (here .0) (here .1) words-enough es (first .next) (first .rest) (first .entries-are) (omega (arith, room-is))
             (omega (arith, room-is, first .too-long, first .length-is, room-taken list room-is)) in
-            rw answered (
-              rw (first .length-is) refl,
-              (
-                rw (listed-short es, first .list-is) (written-front es list room (room-inside list room-is) fits),
-                λ p checked.
-                    let one : here .0 ≡ p = cc (here .1, checked) in (
-                      behind-kept file r loads is v work read-limit long p checked,
-                      (
-                        es,
-                        first .next,
-                        first .rest,
-                        first .cells,
-                        ap entries (sym one) ∙ first .entries-are,
-                        first .length-is,
-                        stands-then checked (λ x. first .next .input) (first .stands),
-                      ),
+            record {
+              answer-is = rw (answered, first .length-is) refl;
+              list-is = rw (answered, listed-short es, first .list-is) (written-front es list room (room-inside list room-is) fits);
+              words-are = λ p checked.
+                  let one : here .0 ≡ p = cc (here .1, checked) in (
+                    behind-kept file r loads is v work read-limit long p checked,
+                    (
+                      es,
+                      first .next,
+                      first .rest,
+                      first .cells,
+                      ap entries (sym one) ∙ first .entries-are,
+                      first .length-is,
+                      stands-then checked (λ x. first .next .input) (first .stands),
                     ),
-              ),
-            )
+                  );
+            }
 
         pub search-done :
             (a : Answer)
             → ((p : Program) → Searchable file (typePlaces r) (functionPlaces r) (r .least) (r .«goal_at») (take (64 * limit + 1024) work) p
             → Explored (settingOf file (typePlaces r) (functionPlaces r) (r .least) p) (take room list) after v a)
-            → Keeps file work list work-then list-then a
+            → Promised file work work-then list list-then a
         unfolding search-able
         search-done a explored = let able = search-able work enough in by-answer a (explored (able .0) (able .1))
           where
-            by-answer : (b : Answer) → Explored (settingOf file (typePlaces r) (functionPlaces r) (r .least) (here .0)) (take room list) after v b → Keeps file work list work-then list-then b
+            by-answer : (b : Answer) → Explored (settingOf file (typePlaces r) (functionPlaces r) (r .least) (here .0)) (take room list) after v b → Promised file work work-then list list-then b
             by-answer (Answer.Refused why) none = absurd none
             by-answer (Answer.Complete n d) whole = keeps-whole n d whole
             by-answer (Answer.Full n) first = keeps-first n first

@@ -1,6 +1,6 @@
 -- A list that grows entry by entry, written to the front of its slice: its verdict, its bytes, and where its room ends; and the answer of the
 -- search when the last entry is listed, or the next one does not fit.
--- Rests on reach's Lists, Search and Answers, and on specs/Listing.
+-- Rests on reach's Lists, Search and Answers, and on specs/Exploring.
 use Prim.Native.Nat.{ℕ, _+_, _-_, _≤_, _<_}
 use native.Mathlib.Omega.{arith}
 use mathlib.Core.Path.{_≡_, refl, sym, ap, _∙_}
@@ -19,7 +19,7 @@ use Rattle.reach.specs.Search.{Kind, RE, UN, Entry, withEntry, verdict, entries
 use Rattle.reach.specs.Lists.{entryBytes, listBytes, keep, cut, roomOf, written}
 use Rattle.reach.specs.Answers.{accepted, turnedBack, check, noSearch, complete, cutShort, cutAnswer, searchChecked, searchAnswer}
 use Rattle.reach.proofs.Answers.{search-turned-back, short-work}
-use Rattle.search.specs.Listing.{joined}
+use Rattle.search.specs.Exploring.{joined}
 
 -- One entry more.
 

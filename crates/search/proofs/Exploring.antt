@@ -38,8 +38,7 @@ use Rattle.listing.specs.declared.Written.the-variants as Written
 use Rattle.listing.specs.Entry.{kindOf, InputIn, Listable, entryFor, WroteFor, WroteEntry}
 use Rattle.listing.proofs.Bytes.{entry-length}
 use Rattle.search.specs.declared.Answer.the-variants as Answer
-use Rattle.search.specs.Listing.{joined}
-use Rattle.search.specs.Exploring.{firstWalk, GoesOn, verdictAfter, ListableAs, WroteAs, FirstEntries, Begins, SomeBegins, Explores}
+use Rattle.search.specs.Exploring.{joined, firstWalk, GoesOn, verdictAfter, ListableAs, WroteAs, FirstEntries, Begins, SomeBegins, Explores}
 use Rattle.search.proofs.Cutting.{verdict-more, size-more, written-none, written-length, written-more}
 
 -- the search goes on while a path is under way, and behind the end of one while there is a choice point

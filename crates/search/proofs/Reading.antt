@@ -1,6 +1,6 @@
 -- The bytes of a list determine its entries: a partial input of the source's types is determined by its prefix form, so that an entry is determined by
 -- what is read back of it.
--- Rests on specs/Listing, on reach's ReadBack for the bytes of a list, on its Limits (a constructor's number is not 0xFF) and on its Depths and Entries
+-- Rests on specs/Answering, on reach's ReadBack for the bytes of a list, on its Limits (a constructor's number is not 0xFF) and on its Depths and Entries
 -- (an entry has the source's types).
 use Prim.Native.Nat.{ℕ, zero, suc, _≤_, _<_}
 use native.Mathlib.Omega.{arith}
@@ -24,7 +24,7 @@ use Rattle.reach.proofs.Accepted.{entry-typed}
 use Rattle.reach.proofs.EntryLength.{entry-within}
 use Rattle.reach.proofs.ReadBack.{decoded-entry, entry-read-back, beyond-end}
 use Rattle.listing.proofs.Bytes.{entry-length}
-use Rattle.search.specs.Listing.{ReadsAs}
+use Rattle.search.specs.Answering.{ReadsAs}
 
 -- the same bytes, put together the other way
 regroup : (x y r x′ y′ r′ : List ℕ) → x ++ y ++ r ≡ x′ ++ y′ ++ r′ → x ++ (y ++ r) ≡ x′ ++ (y′ ++ r′)

@@ -1,15 +1,24 @@
--- What the call `search` answers, in terms of reach's definition.
--- Rests on reach's Answers, Search and Lists, on Exploring and on the enum of src/lib.rt.
-use Prim.Native.Nat.{ℕ}
+-- What a caller of `search` reads: the answer, the list in the caller's slice and the words afterwards, in terms of reach's definition; and what a caller
+-- takes from an answer and from the bytes of its list.
+-- Rests on reach's Answers, Search and Lists, on machine's Cells for what the words stand for, and on the enum of src/lib.rt.
+use Prim.Native.Nat.{ℕ, _+_, _*_}
 use mathlib.Core.Path.{_≡_}
-use mathlib.Core.List.{List}
-use lib.ListN.{length}
-use Rattle.reach.specs.Search.{Entry, verdict}
-use Rattle.reach.specs.Lists.{listBytes, written}
-use Rattle.reach.specs.Answers.{SearchAnswer, noSearch, complete, cutShort, searchAnswer, listed}
+use mathlib.Core.List.{List, [], _∷_, _++_}
+use mathlib.Core.Option.{Option, none, some}
+use lib.ListN.{length, drop}
+use Rattle.reach.specs.declared.Refusal.{Refusal}
+use Rattle.reach.specs.declared.Refusal.the-variants.{ListFull}
+use Rattle.reach.specs.declared.Verdict.{Verdict}
+use Rattle.reach.specs.Limits.{workWords}
+use Rattle.reach.specs.Syntax.{Program, sourceTypes}
+use Rattle.reach.specs.Parts.{prefix}
+use Rattle.reach.specs.Types.{Typed, sourceSlots}
+use Rattle.reach.specs.Search.{Entry, openInput, entries, verdict}
+use Rattle.reach.specs.Lists.{listBytes, written, entryPart, decoded}
+use Rattle.reach.specs.Answers.{check, accepted, SearchAnswer, noSearch, complete, cutShort, searchAnswer, listed}
+use Rattle.machine.specs.Cells.{Cells}
 use Rattle.search.specs.declared.Answer.{Answer}
 use Rattle.search.specs.declared.Answer.the-variants as Answer
-use Rattle.search.specs.Exploring.{WordsAfter}
 
 -- the answer of reach's definition, as the enum shows it: the length of the list in bytes, and the verdict where the list is complete
 abbrev pub answerOf : SearchAnswer → Answer
@@ -17,9 +26,55 @@ answerOf (noSearch why) = Answer.Refused why
 answerOf (complete es) = Answer.Complete (length (listBytes es)) (verdict es)
 answerOf (cutShort es) = Answer.Full (length (listBytes es))
 
--- What the call promises, the three sentences of its contract: of its answer; of the list slice, which held the bytes `before` (the entries of the
--- definition's answer stand at its front, and the bytes after them are as before); and of the words.
+-- A refusal but 12 changes no word, and a search none behind its first 64 S + 1,024 words. Those first words are its own: where the list is complete,
+-- every parameter is open in its cell again; where it was cut short, the cells stand for the input of the entry that did not fit.
+abbrev pub WordsAfter : Answer → List ℕ → List ℕ → List ℕ → Type 0
+WordsAfter (Answer.Refused why) file w w′ = w′ ≡ w
+WordsAfter (Answer.Complete n v) file w w′ =
+    (p : Program) → check file ≡ accepted p
+    → (drop (workWords (p .steps)) w′ ≡ drop (workWords (p .steps)) w)
+    × Cells (p .types) (sourceSlots p) w′ (length (sourceTypes p)) (openInput p)
+WordsAfter (Answer.Full n) file w w′ =
+    (p : Program) → check file ≡ accepted p
+    → (drop (workWords (p .steps)) w′ ≡ drop (workWords (p .steps)) w)
+    × ((listed : List Entry) × (next : Entry) × (rest : List Entry) × (cells : ℕ) × (entries p ≡ listed ++ (next ∷ rest)) × (n ≡ length (listBytes listed))
+    × Cells (p .types) (sourceSlots p) w′ cells (next .input))
+
+-- What the call promises, and all that it promises: of its answer; of the list slice, which held the bytes `before` (the entries of the definition's
+-- answer stand at its front, and the bytes after them are as before); and of the words.
 pub record Promised (file work work′ before after : List ℕ) (r : Answer) : Type 0 where
   pub answer-is : r ≡ answerOf (searchAnswer file (length work) (length before))
   pub list-is : after ≡ written (listed (searchAnswer file (length work) (length before))) before
   pub words-are : WordsAfter r file work work′
+
+-- the same of a call that searches and does not hand on the search's own answer: the list and the words are as the definition's answer says
+abbrev pub Searched : List ℕ → List ℕ → List ℕ → List ℕ → List ℕ → Type 0
+Searched file work work′ before after = Promised file work work′ before after (answerOf (searchAnswer file (length work) (length before)))
+
+-- What a caller takes from an answer.
+
+-- the length of the list, which every answer gives but a refusal of 1 to 11
+abbrev pub lengthIn : Answer → ℕ
+lengthIn (Answer.Refused why) = 0
+lengthIn (Answer.Complete n v) = n
+lengthIn (Answer.Full n) = n
+
+-- the refusal of an answer, if it is one
+abbrev pub refusalIn : Answer → Option Refusal
+refusalIn (Answer.Refused why) = some why
+refusalIn (Answer.Complete n v) = none
+refusalIn (Answer.Full n) = some ListFull
+
+-- the verdict, if one is given
+abbrev pub verdictIn : Answer → Option Verdict
+verdictIn (Answer.Refused why) = none
+verdictIn (Answer.Complete n v) = some v
+verdictIn (Answer.Full n) = none
+
+-- Entry k of these bytes of a list, read back, is e: the part that it fills is there, and says the kind and the steps of e and, in prefix form, its
+-- partial input, which has the source's types.
+abbrev pub ReadsAs : Program → List ℕ → ℕ → Entry → Type 0
+ReadsAs p bytes k e =
+    ¬ (entryPart bytes k ≡ [])
+    × (decoded (entryPart bytes k) ≡ record { kind = e .kind; steps = e .steps; parameters = prefix (e .input) })
+    × Typed (p .types) (sourceTypes p) (e .input)

@@ -6,11 +6,12 @@ use mathlib.Core.Bool.{Bool, true, false}
 use mathlib.Core.List.{List, [], _∷_, _++_}
 use lib.ListN.{length, getD, drop}
 use Rattle.reach.specs.declared.Verdict.{Verdict}
+use Rattle.reach.specs.declared.Verdict.the-variants.{Found, Undecided, None}
 use Rattle.reach.specs.Syntax.{Program, sourceTypes}
 use Rattle.reach.specs.Types.{sourceSlots, leastDepths}
 use Rattle.reach.specs.Eval.{start}
 use Rattle.reach.specs.Places.{bytesAt, headAt, goalAt}
-use Rattle.reach.specs.Search.{RE, UN, Entry, openInput, entries, verdict}
+use Rattle.reach.specs.Search.{Kind, RE, UN, Entry, openInput, entries, verdict}
 use Rattle.reach.specs.Lists.{entryBytes, listBytes, written}
 use Rattle.reach.specs.Answers.{check, accepted}
 use Rattle.machine.specs.Cells.{Cells}
@@ -30,7 +31,6 @@ use Rattle.listing.specs.declared.Written.the-variants as Written
 use Rattle.listing.specs.Entry.{Listable, WroteEntry}
 use Rattle.search.specs.declared.Answer.{Answer}
 use Rattle.search.specs.declared.Answer.the-variants as Answer
-use Rattle.search.specs.Listing.{joined}
 
 -- The words at the beginning: the source's n parameters, whose types stand from place `first` of the file on, have open cells, and records 0 and 1 are
 -- the empty environment and the parameters' group.
@@ -49,6 +49,13 @@ firstWalk parameters from = record { paths = 1; registers = from; cells = parame
 abbrev pub GoesOn : Walk → Bool → Type 0
 GoesOn x true = Active x
 GoesOn x false = (x .paths ≡ 0) × (x .height ≡ 0)
+
+-- the verdict when one entry more is listed
+abbrev pub joined : Verdict → Kind → Verdict
+joined v RE = Found
+joined Found UN = Found
+joined Undecided UN = Undecided
+joined None UN = Undecided
 
 -- the verdict after what a path lists
 abbrev pub verdictAfter : Verdict → Listing → Verdict
@@ -124,17 +131,3 @@ pub record Searchable (file types functions least : List ℕ) (goal : ℕ) (w : 
 -- the setting of its search
 abbrev pub settingOf : List ℕ → List ℕ → List ℕ → List ℕ → Program → Setting
 settingOf file types functions least p = setting file types functions least p (p .steps) (30 * p .steps + 80) (34 * p .steps + 96)
-
--- A refusal but 12 changes no word, and a search none behind its first 64 S + 1,024 words. Those first words are its own: where the list is complete,
--- every parameter is open in its cell again; where it was cut short, the cells stand for the input of the entry that did not fit.
-abbrev pub WordsAfter : Answer → List ℕ → List ℕ → List ℕ → Type 0
-WordsAfter (Answer.Refused why) file w w′ = w′ ≡ w
-WordsAfter (Answer.Complete n v) file w w′ =
-    (p : Program) → check file ≡ accepted p
-    → (drop (64 * p .steps + 1024) w′ ≡ drop (64 * p .steps + 1024) w)
-    × Cells (p .types) (sourceSlots p) w′ (length (sourceTypes p)) (openInput p)
-WordsAfter (Answer.Full n) file w w′ =
-    (p : Program) → check file ≡ accepted p
-    → (drop (64 * p .steps + 1024) w′ ≡ drop (64 * p .steps + 1024) w)
-    × ((listed : List Entry) × (next : Entry) × (rest : List Entry) × (cells : ℕ) × (entries p ≡ listed ++ (next ∷ rest)) × (n ≡ length (listBytes listed))
-    × Cells (p .types) (sourceSlots p) w′ cells (next .input))

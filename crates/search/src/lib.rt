@@ -5,11 +5,9 @@ ghost use mathlib.Core.Path.{_≡_};
 ghost use Prim.Native.Nat.{ℕ, _+_, _*_, _≤_};
 ghost use lib.ListN.{length};
 ghost use Rattle.reach.specs.Syntax.{Program};
-ghost use Rattle.reach.specs.Lists.{written};
-ghost use Rattle.reach.specs.Answers.{searchAnswer, listed};
 ghost use Rattle.skipping.specs.Ends.{Ends};
-ghost use Rattle.search.specs.Answering.{answerOf};
-ghost use Rattle.search.specs.Exploring.{Opened, firstWalk, GoesOn, verdictAfter, ListableAs, WroteAs, SomeBegins, Explores, Searchable, settingOf, Explored, WordsAfter};
+ghost use Rattle.search.specs.Answering.{Promised};
+ghost use Rattle.search.specs.Exploring.{Opened, firstWalk, GoesOn, verdictAfter, ListableAs, WroteAs, SomeBegins, Explores, Searchable, settingOf, Explored};
 use cells::start_cells;
 use depths::Depths;
 use entries::room;
@@ -250,9 +248,7 @@ fn search_checked<'a>(
 
 // The search of a rule file, in the lent words, its list written to the lent list slice.
 pub fn search<'a>(file: &'a [u8], work: &mut [u32], list: &mut [u8]) -> Answer
-    ensures { λ r. ⌜ r ≡ answerOf (searchAnswer (now (file .entry)) (length (now (work .entry))) (length (now (list .entry)))) ⌝ }
-    ensures entries { λ r. ⌜ now (list .exit) ≡ written (listed (searchAnswer (now (file .entry)) (length (now (work .entry))) (length (now (list .entry))))) (now (list .entry)) ⌝ }
-    ensures words { λ r. ⌜ WordsAfter r (now (file .entry)) (now (work .entry)) (now (work .exit)) ⌝ }
+    ensures { λ r. ⌜ Promised (now (file .entry)) (now (work .entry)) (now (work .exit)) (now (list .entry)) (now (list .exit)) r ⌝ }
 {
     let loaded = load(file);
     let answer = loaded.answer;

@@ -1,4 +1,4 @@
--- `reachlist::main` is safe: the rule file that was read and the text that was written lie in their buffers.
+-- `reachlist::main` is safe: the text that was written lies in its buffer.
 use mathlib.Core.Path.{sym}
 use lib.Seq.{length-take-le}
 use borrow.Author.Needs.{needs}
@@ -6,10 +6,10 @@ use Rattle.reachlist.proofs.main.Statement.{statement}
 use Rattle.reachlist.proofs.main.Tie as tie
 
 array-share-prefix-text : tie.Need-array-share-prefix-text
-array-share-prefix-text c = search needs
+array-share-prefix-text c = c .program-text .ensures .inside
 
 slice-aggregate-write-all : tie.Need-slice-aggregate-write-all
-slice-aggregate-write-all c = sym (length-take-le _ _ (array-share-prefix-text (c .before)))
+slice-aggregate-write-all c = sym (length-take-le _ _ (c .before .program-text .ensures .inside))
 
 pub main-spec : {M : Type 1} → statement M
 main-spec =
@@ -17,11 +17,6 @@ main-spec =
     (tie.spec
     (λ c. search needs)
     (λ c κs. search needs)
-    (λ c. search needs)
-    (λ c. search needs)
-    (λ c. search needs)
-    (λ c. search needs)
-    (λ c. search needs)
     (λ c κs. search needs)
     array-share-prefix-text
     slice-aggregate-write-all

@@ -3,7 +3,8 @@ use lib.ListN.{length}
 use Rattle.reach.specs.Answers.{runAnswer}
 use mathlib.Core.Path.{sym, _∙_}
 use borrow.Author.Needs.{needs}
-use Rattle.remburai.proofs.Answers.{no-run-number, ran-number, run-words, run-bound}
+use Rattle.closed.proofs.Answering.{run-so}
+use Rattle.remburai.proofs.Answers.{no-run-number, ran-number}
 use Rattle.remburai.proofs.remburai_run.Statement.{statement}
 use Rattle.remburai.proofs.remburai_run.Tie as tie
 
@@ -11,16 +12,16 @@ returns : tie.Need-returns
 returns c =
     let a = c .before .before .before .before .before .before .before .before .before .before .before .args in
     let ended = c .before .before .before .before .before .before .run .ensures in (
-      c .number .ensures ∙ no-run-number (runAnswer (a .file .now) (a .input .now) (length (a .work .now))) _ (sym (c .before .before .why .given .1) ∙ ended .0),
-      (run-words _ _ _ _ _ (ended .0) (ended .1 .0), run-bound _ _ _ _ _ (ended .0) (ended .1 .1)),
+      c .number .ensures ∙ no-run-number (runAnswer (a .file .now) (a .input .now) (length (a .work .now))) _ (sym (c .before .before .why .given .1) ∙ ended .answer-is),
+      run-so ended,
     )
 
 returns-2 : tie.Need-returns-2
 returns-2 c =
     let a = c .before .before .before .before .before .before .before .before .before .before .before .before .args in
     let ended = c .before .before .before .before .before .before .before .run .ensures in (
-      rw (c .steps-of .ensures .0, c .before .outcome-number .ensures .0) (ran-number (runAnswer (a .file .now) (a .input .now) (length (a .work .now))) _ (sym (c .before .before .before .outcome .given .1) ∙ ended .0)),
-      (run-words _ _ _ _ _ (ended .0) (ended .1 .0), run-bound _ _ _ _ _ (ended .0) (ended .1 .1)),
+      rw (c .steps-of .ensures .0, c .before .outcome-number .ensures .0) (ran-number (runAnswer (a .file .now) (a .input .now) (length (a .work .now))) _ (sym (c .before .before .before .outcome .given .1) ∙ ended .answer-is)),
+      run-so ended,
     )
 
 pub remburai-run-spec : {M : Type 1} → statement M

@@ -1,0 +1,56 @@
+-- What a caller of `run` reads: the answer and the words afterwards, in terms of reach's definition.
+-- Rests on reach's Answers, Input and Eval, on machine's Cells for what the words stand for, and on the enum of src/lib.rt.
+use Prim.Native.Nat.{ℕ}
+use mathlib.Core.Path.{_≡_}
+use mathlib.Core.List.{List}
+use mathlib.Core.Option.{some}
+use lib.ListN.{length, drop}
+use Rattle.reach.specs.Limits.{workWords}
+use Rattle.reach.specs.Syntax.{Program}
+use Rattle.reach.specs.Parts.{Parts, _⊑_, prefix}
+use Rattle.reach.specs.Types.{sourceSlots, WithinDepth}
+use Rattle.reach.specs.Eval.{start, eval}
+use Rattle.reach.specs.Input.{inputOf}
+use Rattle.reach.specs.Answers.{check, accepted, RunAnswer, noRun, ran, runAnswer}
+use Rattle.machine.specs.Cells.{Cells}
+use Rattle.closed.specs.declared.Answer.{Answer}
+use Rattle.closed.specs.declared.Answer.the-variants as Answer
+
+-- the answer of reach's definition, as the enum shows it
+abbrev pub answerOf : RunAnswer → Answer
+answerOf (noRun why) = Answer.Refused why
+answerOf (ran o) = Answer.Ran o
+
+-- A refusal changes no word, and a run none behind its first 64 S + 1,024 words.
+abbrev pub Unchanged : Answer → List ℕ → List ℕ → List ℕ → Type 0
+Unchanged (Answer.Refused why) file w w′ = w′ ≡ w
+Unchanged (Answer.Ran o) file w w′ = (p : Program) → check file ≡ accepted p → drop (workWords (p .steps)) w′ ≡ drop (workWords (p .steps)) w
+
+-- What words w stand for after a run of at most `limit` steps: a partial input below the closed one, on which the evaluation comes to the same end. So
+-- each part that is bound has the constructor that the closed input has there, and no step of the run looked at a part that is open.
+pub record LookedAt (p : Program) (j : Parts) (limit : ℕ) (w : List ℕ) : Type 0 where
+  pub cells : ℕ
+  pub input : Parts
+  pub stands : Cells (p .types) (sourceSlots p) w cells input
+  pub below : input ⊑ j
+  pub enough : eval p input limit 0 (start p) ≡ eval p j limit 0 (start p)
+
+-- After a run the words stand for a part of the closed input that has all that its steps looked at. What the evaluation's records left behind the
+-- cells is not said.
+abbrev pub Leaves : Answer → List ℕ → List ℕ → List ℕ → Type 0
+Leaves (Answer.Refused why) file input w′ = Unit {0}
+Leaves (Answer.Ran o) file input w′ = (p : Program) (j : Parts) → check file ≡ accepted p → inputOf p input ≡ some j → LookedAt p j (p .steps) w′
+
+-- What the call promises, and all that it promises: of its answer, of the words that it may not change, and of those that it may.
+pub record Promised (file input work work′ : List ℕ) (r : Answer) : Type 0 where
+  pub answer-is : r ≡ answerOf (runAnswer file input (length work))
+  pub words-are : Unchanged r file work work′
+  pub cells-are : Leaves r file input work′
+
+-- the same of a call that runs and does not hand on the run's own answer
+abbrev pub HasRun : List ℕ → List ℕ → List ℕ → List ℕ → Type 0
+HasRun file input work work′ = Promised file input work work′ (answerOf (runAnswer file input (length work)))
+
+-- the bytes are one closed, fitting value per parameter: the prefix form of j
+abbrev pub IsInput : Program → List ℕ → Parts → Type 0
+IsInput p input j = WithinDepth p j × (prefix j ≡ input)
