@@ -1,6 +1,6 @@
 // The third pass over a rule file: bodies. The check of an expression and the checks of its operands and of its alternatives call
 // each other; the nesting that is left falls. Records of types and functions are looked at where the first pass found them.
-// Rests on crates records and lookups.
+// Rests on crates marks, records and lookups.
 ghost use mathlib.Core.Path.{_≡_};
 ghost use mathlib.Core.List.{[], _∷_, _++_};
 ghost use Prim.Native.Nat.{_+_, _≤_, _<_};
@@ -12,12 +12,12 @@ use lookups::Fields;
 use lookups::constructors_of;
 use lookups::fields_of;
 use lookups::head_of;
+use marks::Taken;
+use marks::byte_or_zero;
+use marks::take_byte;
+use marks::wide;
 use reach::Refusal;
 use records::Step;
-use records::Taken;
-use records::byte_or_zero;
-use records::take_byte;
-use records::wide;
 
 const VIEW_LIMIT: usize = 32;
 

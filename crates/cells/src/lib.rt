@@ -1,5 +1,5 @@
 // The input's cells in the lent words: a row of open cells, an open cell bound to a constructor with fresh open fields, a bound
-// cell opened again. Rests on crates records and machine.
+// cell opened again. Rests on crates marks and machine.
 ghost use mathlib.Core.Path.{_≡_};
 ghost use Prim.Native.Nat.{_+_, _*_, _-_, _≤_, _<_};
 ghost use lib.ListN.{length, getD, set};
@@ -7,7 +7,7 @@ ghost use Rattle.reach.specs.Places.{bytesAt};
 ghost use Rattle.machine.specs.Cells.{Binds, cellWord};
 ghost use Rattle.cells.specs.Writes.{openCell, Opens, Starts};
 use machine::word_or_zero;
-use records::byte_or_zero;
+use marks::byte_or_zero;
 
 // Makes k open cells from cell `first` on: their types stand from a place of the file on, and each may be so deep.
 fn open_cells(file: &[u8], work: &mut [u32], first: usize, fields: usize, k: usize, room: usize)

@@ -1,6 +1,6 @@
 // The least depth of each type, that of its shallowest closed value, in an array of 32 numbers by value: filled round by round
 // until a round changes nothing. 0 stands for a type without a closed value. `types` holds the places of the types' records. Rests on
-// crates records and lookups.
+// crates marks and lookups.
 ghost use mathlib.Core.Path.{_≡_};
 ghost use mathlib.Core.List.{map};
 ghost use Prim.Native.Nat.{_≤_};
@@ -12,7 +12,7 @@ ghost use Rattle.reach.specs.RuleFile.{noEmptyType};
 ghost use Rattle.reach.specs.Places.{bytesAt, constructorsAt, typeAt};
 ghost use Rattle.depths.specs.Table.{padded, RoundsMade, RoundMade};
 use lookups::constructors_of;
-use records::byte_or_zero;
+use marks::byte_or_zero;
 
 // The least depths, by type number.
 pub struct Depths {

@@ -1,12 +1,12 @@
-// An entry of a list, handed back as the part of the caller's list that it fills. No byte is copied. Rests on crates reach and records.
+// An entry of a list, handed back as the part of the caller's list that it fills. No byte is copied. Rests on crates reach and marks.
 ghost use mathlib.Core.Path.{_≡_};
 ghost use Prim.Native.Nat.{_+_, _≤_, _<_};
 ghost use lib.ListN.{length};
 ghost use Rattle.reach.specs.Places.{wordAt};
 ghost use Rattle.reach.specs.Lists.{knownMark, entrySize, entrySpan, entryPart, roomOf};
 ghost use Rattle.entries.specs.Spans.{sizeOf, spanOf};
-use records::is_mark;
-use records::wide;
+use marks::is_mark;
+use marks::wide;
 
 // Of a list only the first 16,777,216 bytes count.
 const LIST_LIMIT: usize = 16777216;

@@ -16,10 +16,9 @@ use Rattle.reach.specs.Parts.{Parts, end, opened, bound, width, prefix}
 use Rattle.reach.specs.Reader.{Got, got, refused, onGot, byte, atEnd}
 use Rattle.reach.specs.Input.{row, inputOf}
 use Rattle.reach.specs.Places.{bytesAt, typeAt, headAt, outlineAt}
-use Rattle.reach.proofs.Base.{picked}
+use Rattle.reach.proofs.Base.{clash, picked}
 use Rattle.reach.proofs.Encoding.{Outlined}
 use Rattle.reach.proofs.Limits.{IfFound, if-found-then}
-use Rattle.records.proofs.Answers.{clash}
 use Rattle.lookups.specs.Fields.{fieldsOf, fieldsIn}
 use Rattle.lookups.specs.declared.Fields.{Fields}
 use Rattle.lookups.proofs.Tables.{found}

@@ -11,7 +11,7 @@ use Rattle.reach.specs.Types.{Slot, slots, sourceSlots, fieldSlots, slotAt}
 use Rattle.reach.specs.Reader.{got}
 use Rattle.reach.specs.Input.{row, inputOf}
 use Rattle.reach.specs.Places.{typeAt, headAt}
-use Rattle.records.proofs.Answers.{clash}
+use Rattle.reach.proofs.Base.{clash}
 use Rattle.inputs.specs.Positions.{Placed, byteOf}
 use Rattle.inputs.proofs.Closed.{input-row, ValueStands, row-empty, row-closed, value-stands, row-width, row-length}
 

@@ -16,8 +16,7 @@ use Rattle.reach.specs.Parts.{Parts, end, opened, bound}
 use Rattle.reach.specs.Reader.{Got, got, refused, onGot, _>>=_, _>>_, give, byte, atEnd}
 use Rattle.reach.specs.Input.{orBad, rowBy, row}
 use Rattle.reach.specs.Places.{bytesAt, typeAt, headAt}
-use Rattle.reach.proofs.Base.{picked}
-use Rattle.records.proofs.Answers.{clash}
+use Rattle.reach.proofs.Base.{clash, picked}
 use Rattle.lookups.specs.Fields.{fieldsOf, fieldsIn}
 use Rattle.lookups.specs.declared.Fields.{Fields}
 use Rattle.lookups.proofs.Tables.{bytes-more, bytes-none}

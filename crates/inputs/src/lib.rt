@@ -1,4 +1,4 @@
-// Reading a closed input where it stands: values of given types, in prefix form, each at most so deep. Rests on crates records and
+// Reading a closed input where it stands: values of given types, in prefix form, each at most so deep. Rests on crates marks and
 // lookups.
 ghost use mathlib.Core.Path.{_≡_};
 ghost use Prim.Native.Nat.{ℕ, _≤_};
@@ -7,10 +7,10 @@ ghost use Rattle.inputs.specs.Values.{rowAt, behindOf, fitsAt};
 use lookups::Fields;
 use lookups::fields_of;
 use lookups::head_of;
-use records::Taken;
-use records::byte_or_zero;
-use records::take_byte;
-use records::wide;
+use marks::Taken;
+use marks::byte_or_zero;
+use marks::take_byte;
+use marks::wide;
 
 // The place behind what was read, or the bytes are not what they should be.
 pub enum Behind {

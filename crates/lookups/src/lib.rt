@@ -1,12 +1,12 @@
 // Lookups in a rule file whose records stand at known places: the entry of a table of places, what the record of a function says,
-// where the constructors of a type stand, and where the fields of a constructor do. Rests on crate records.
+// where the constructors of a type stand, and where the fields of a constructor do. Rests on crate marks.
 ghost use mathlib.Core.Path.{_≡_};
 ghost use Prim.Native.Nat.{ℕ, _≤_};
 ghost use lib.ListN.{getD, getElem?};
 ghost use Rattle.reach.specs.Places.{constructorsAt, typeAt, headAt};
 ghost use Rattle.lookups.specs.Fields.{fieldsOf, fieldsIn, Near};
 ghost use Rattle.lookups.specs.Heads.{headOf, NearHead, NearType};
-use records::byte_or_zero;
+use marks::byte_or_zero;
 
 // Where the fields of a constructor stand, and how many there are.
 pub enum Fields {

@@ -1,6 +1,6 @@
 // The second pass over a rule file: the type and function numbers in TY, FN heads and GO all exist. The records are looked at
 // where the first pass found them: `types` and `functions` hold the places behind the marks. Rests on crates
-// records and lookups.
+// marks and lookups.
 ghost use mathlib.Core.Path.{_≡_};
 ghost use Prim.Native.Nat.{_≤_};
 ghost use mathlib.Core.List.{map};
@@ -8,7 +8,7 @@ ghost use Rattle.reach.specs.RuleFile.{allBelow, constructorsExist, typesExist,
 ghost use Rattle.reach.specs.Places.{bytesAt, constructorsAt, typeAt, headAt, outlineAt};
 use lookups::constructors_of;
 use lookups::head_of;
-use records::byte_or_zero;
+use marks::byte_or_zero;
 
 // The n bytes from a place on are all below a limit.
 fn all_below(s: &[u8], at: usize, n: usize, limit: usize) -> bool

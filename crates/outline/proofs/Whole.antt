@@ -1,5 +1,5 @@
 -- The outline of a file as first_pass reads it: the first mark, the types, the functions, and the goal with the end of the file.
--- Rests on Tables, on reach's RuleFile and Places, and on the laws of crate records about what was found.
+-- Rests on Tables, on reach's RuleFile and Places, and on the laws of crate records about steps.
 use Prim.Native.Nat.{ℕ, _<_}
 use mathlib.Core.Path.{_≡_, refl, sym, _∙_}
 use mathlib.Core.List.{List}
@@ -13,8 +13,7 @@ use Rattle.reach.specs.Places.{goalAt}
 use Rattle.reach.proofs.Places.{goal-read}
 use Rattle.records.specs.declared.Step.{Step}
 use Rattle.records.specs.Steps.{stepOf}
-use Rattle.records.proofs.Answers.{step-got, step-refused}
-use Rattle.records.proofs.Found.{on-got}
+use Rattle.records.proofs.Answers.{step-got, step-refused, on-got}
 use Rattle.outline.specs.Tables.{typesFrom, functionsFrom, firstMark, lastRecord}
 
 -- one reading and then the rest, however the rest is grouped

@@ -1,5 +1,6 @@
 // The first pass over a rule file: marks, counts, lengths, D and S, bodies passed over. What it leaves is the places where the
-// records stand. Rests on crate records.
+// records stand. Every mark is read through the cursor: the first where the file begins, each other one where the record before it
+// ends. Rests on crates cursor and records.
 ghost use mathlib.Core.Path.{_≡_};
 ghost use Prim.Native.Nat.{ℕ, _≤_};
 ghost use lib.ListN.{length};
@@ -7,15 +8,15 @@ ghost use Rattle.reach.specs.Limits.{typeLimit, functionLimit};
 ghost use Rattle.reach.specs.RuleFile.{moreTypes, moreFunctions, outline};
 ghost use Rattle.records.specs.Steps.{stepOf};
 ghost use Rattle.outline.specs.Tables.{typesTurn, functionsTurn, Room, typesFrom, functionsFrom, typesOf, functionsOf, outlinedOf, InLimits, firstMark, lastRecord};
+use cursor::mark_at;
+use cursor::mark_behind;
+use marks::Mark;
+use marks::Marked;
 use reach::Refusal;
-use records::Mark;
-use records::Marked;
 use records::Step;
-use records::mark_at_start;
 use records::skip_function;
 use records::skip_goal;
 use records::skip_type;
-use records::take_mark;
 
 const TYPE_LIMIT: usize = 32;
 
@@ -52,12 +53,12 @@ pub struct Outlined {
     pub goal_at: usize,
 }
 
-// The mark behind a type, where so many more types may come.
-fn turn_after_type(s: &[u8], at: usize, more: usize) -> Turn
-    ensures { λ r. ⌜ moreTypes more (now (s .entry)) at ≡ typesTurn (now (s .entry)) more r ⌝ }
+// The mark behind a type that begins at `from`, where so many more types may come.
+fn turn_after_type(s: &[u8], from: usize, behind: usize, more: usize) -> Turn
+    ensures { λ r. ⌜ moreTypes more (now (s .entry)) behind ≡ typesTurn (now (s .entry)) more r ⌝ }
     ensures room { λ r. ⌜ Room more r ⌝ }
 {
-    let Marked::Mark(mark, next) = take_mark(s, at) else {
+    let Marked::Mark(mark, next) = mark_behind(s, from, behind) else {
         return Turn::Refused(Refusal::Truncated);
     };
     match mark {
@@ -74,12 +75,12 @@ fn turn_after_type(s: &[u8], at: usize, more: usize) -> Turn
     }
 }
 
-// The mark behind a function, where so many more functions may come.
-fn turn_after_function(s: &[u8], at: usize, more: usize) -> Turn
-    ensures { λ r. ⌜ moreFunctions more (now (s .entry)) at ≡ functionsTurn (now (s .entry)) more r ⌝ }
+// The mark behind a function that begins at `from`, where so many more functions may come.
+fn turn_after_function(s: &[u8], from: usize, behind: usize, more: usize) -> Turn
+    ensures { λ r. ⌜ moreFunctions more (now (s .entry)) behind ≡ functionsTurn (now (s .entry)) more r ⌝ }
     ensures room { λ r. ⌜ Room more r ⌝ }
 {
-    let Marked::Mark(mark, next) = take_mark(s, at) else {
+    let Marked::Mark(mark, next) = mark_behind(s, from, behind) else {
         return Turn::Refused(Refusal::Truncated);
     };
     match mark {
@@ -116,7 +117,7 @@ fn read_types(s: &[u8], first: usize) -> TypeTable
         };
         places[count] = at as u16;
         count += 1;
-        match turn_after_type(s, behind, TYPE_LIMIT - count) {
+        match turn_after_type(s, at, behind, TYPE_LIMIT - count) {
             Turn::Again(next) => at = next,
             Turn::Done(next) => {
                 return TypeTable {
@@ -156,7 +157,7 @@ fn read_functions(s: &[u8], first: usize) -> FunctionTable
         };
         places[count] = at as u16;
         count += 1;
-        match turn_after_function(s, behind, FUNCTION_LIMIT - count) {
+        match turn_after_function(s, at, behind, FUNCTION_LIMIT - count) {
             Turn::Again(next) => at = next,
             Turn::Done(next) => {
                 return FunctionTable {
@@ -180,7 +181,7 @@ fn read_functions(s: &[u8], first: usize) -> FunctionTable
 fn first_mark(s: &[u8]) -> Step
     ensures { λ r. ⌜ r ≡ stepOf (firstMark (now (s .entry)) 0) ⌝ }
 {
-    let Marked::Mark(mark, next) = mark_at_start(s) else {
+    let Marked::Mark(mark, next) = mark_at(s, 0) else {
         return Step::Refused(Refusal::Truncated);
     };
     match mark {

@@ -1,5 +1,5 @@
 // The printed text of a list, written into a lent slice. Every function that writes answers with the place behind its text, also where the
-// slice is too short for it: so a caller sees by the place whether all of it was written. Rests on crates reach, records, rulefile and
+// slice is too short for it: so a caller sees by the place whether all of it was written. Rests on crates reach, marks, rulefile and
 // entries.
 ghost use mathlib.Core.Path.{_≡_};
 ghost use mathlib.Core.List.{[], _∷_, map};
@@ -16,8 +16,8 @@ use entries::Size;
 use entries::room;
 use entries::size_at;
 use entries::word_at;
+use marks::wide;
 use reach::Refusal;
-use records::wide;
 use rulefile::number;
 
 // Writes one byte.

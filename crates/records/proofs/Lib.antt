@@ -2,5 +2,3 @@ pub mod Answers
 pub mod Passing
 pub mod Counts
 pub mod Tails
-pub mod Found
-pub mod Stands

@@ -1,27 +1,19 @@
 -- So many bytes read one by one, and the same reading so many times, as steps: the value is forgotten.
--- Rests on Answers and on reach's Reader.
+-- Rests on Answers, on the answers of crate marks, and on reach's Reader.
 use Prim.Native.Nat.{ℕ, zero, suc, _+_, _-_, _≤_, _<_}
 use mathlib.Core.Path.{_≡_, refl, _∙_}
 use mathlib.Core.List.{List, _∷_}
-use lib.ListN.{length, getD}
+use lib.ListN.{length}
 use native.Mathlib.Omega.{arith}
 use native.Mathlib.Decide.{decLe}
-use borrow.Author.Tests.{lt-ltb, le-ltb, le-leb, lt-leb}
+use borrow.Author.Tests.{le-leb, lt-leb}
 use Rattle.reach.specs.declared.Refusal.{Refusal}
 use Rattle.reach.specs.declared.Refusal.the-variants.{Truncated}
 use Rattle.reach.specs.Reader.{got, refused, Reader, byte, times, passed}
+use Rattle.marks.proofs.Answers.{byte-there, byte-none}
 use Rattle.records.specs.Steps.{stepOf}
 use Rattle.records.specs.declared.Step.{Step}
 use Rattle.records.proofs.Answers.{step-got, step-refused, step-mapped}
-
--- a byte below the length, and none from there on
-pub byte-there : (s : List ℕ) (at : ℕ) → at < length s → byte s at ≡ got (getD s at 0) (suc at)
-unfolding byte
-byte-there s at h = rw (lt-ltb at (length s) h)
-
-pub byte-none : (s : List ℕ) (at : ℕ) → length s ≤ at → byte s at ≡ refused Truncated
-unfolding byte
-byte-none s at h = rw (le-ltb at (length s) h)
 
 -- n bytes from a place on that lie within the length, and that do not
 pub passed-there : (n : ℕ) (s : List ℕ) (at : ℕ) → at + n ≤ length s → passed n s at ≡ got at (at + n)

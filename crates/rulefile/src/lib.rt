@@ -14,12 +14,12 @@ use depths::all_shallow;
 use depths::least_depths;
 use depths::none_empty;
 use lookups::head_of;
+use marks::byte_or_zero;
 use numbers::numbers_exist;
 use outline::Outlined;
 use outline::first_pass;
 use reach::Refusal;
 use records::Step;
-use records::byte_or_zero;
 
 const FILE_LIMIT: usize = 16384;
 

@@ -1,5 +1,5 @@
 // The table of the ends of expressions: an entry for each place of a rule file. Where an expression stands, its entry is the place
-// behind it. The table is filled once, from the last place to the first, each entry from entries behind it. Rests on crates records
+// behind it. The table is filled once, from the last place to the first, each entry from entries behind it. Rests on crates marks
 // and lookups; the definitions also on machine.
 ghost use mathlib.Core.Path.{_≡_};
 ghost use Prim.Native.Nat.{max, _+_, _≤_, _<_};
@@ -10,7 +10,7 @@ use lookups::constructors_of;
 use lookups::fields_of;
 use lookups::head_of;
 use lookups::place_or_zero;
-use records::byte_or_zero;
+use marks::byte_or_zero;
 
 // The place behind n expressions that stand one after the other from a place on, by the table of ends.
 pub fn pass_operands(ends: &[u16], at: usize, n: usize) -> usize

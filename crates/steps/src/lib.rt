@@ -17,7 +17,7 @@ use lookups::fields_of;
 use lookups::head_of;
 use lookups::place_or_zero;
 use machine::word_or_zero;
-use records::byte_or_zero;
+use marks::byte_or_zero;
 use skipping::pass_alternatives;
 use skipping::pass_operands;
 

@@ -16,9 +16,9 @@ use Rattle.reach.specs.Types.{Slot, slots, slotAt}
 use Rattle.reach.specs.Reader.{got}
 use Rattle.reach.specs.Input.{row}
 use Rattle.reach.specs.Places.{bytesAt, typeAt}
+use Rattle.reach.proofs.Base.{clash}
 use Rattle.reach.proofs.Order.{part-there}
 use Rattle.reach.proofs.Places.{bytes-length}
-use Rattle.records.proofs.Answers.{clash}
 use Rattle.cells.proofs.Writing.{bytes-nth}
 use Rattle.inputs.proofs.Closed.{ValueStands, row-width, value-answer}
 use Rattle.inputs.specs.Positions.{byteOf}

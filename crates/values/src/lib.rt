@@ -8,7 +8,7 @@ ghost use Rattle.values.specs.Notes.{Noted, notedPlace, notePlace, behin
 use inputs::Behind;
 use inputs::value;
 use machine::word_or_zero;
-use records::byte_or_zero;
+use marks::byte_or_zero;
 
 // The place that is noted in an open cell.
 pub fn noted(work: &[u32], cell: usize) -> usize

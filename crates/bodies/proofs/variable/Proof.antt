@@ -1,7 +1,7 @@
 -- `bodies::variable` meets its contract: the number, the limits and the type are tested in the definition's order.
--- Rests on Expressions, and on the answers of crate records.
+-- Rests on Expressions, and on the answers of crate marks.
 use borrow.Author.Needs.{needs}
-use Rattle.records.proofs.Answers.{byte-got, byte-short}
+use Rattle.marks.proofs.Answers.{byte-got, byte-short}
 use Rattle.bodies.proofs.Expressions.{variable-short, variable-unknown, variable-over, variable-mismatch, variable-ends}
 use Rattle.bodies.proofs.variable.Statement.{statement}
 use Rattle.bodies.proofs.variable.Tie as tie

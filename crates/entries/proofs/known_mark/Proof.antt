@@ -1,5 +1,5 @@
 -- `entries::known_mark` meets its contract: the marks are tried in the definition's order.
--- Rests on `is_mark` of crate records.
+-- Rests on `is_mark` of crate marks.
 use borrow.Author.Needs.{needs}
 use Rattle.reach.specs.Lists.{knownMark}
 use Rattle.entries.proofs.known_mark.Statement.{statement}

@@ -1,5 +1,5 @@
 -- `entries::word_at` meets its contract: two bytes, each below 256, the low byte first.
--- Rests on `wide` of crate records.
+-- Rests on `wide` of crate marks.
 use Prim.Native.Nat.{_+_}
 use native.Mathlib.Omega.{arith}
 use borrow.Author.Needs.{needs}

@@ -1,5 +1,5 @@
 -- `inputs::value` and `inputs::values` meet their contracts: the one proof of their cycle of calls.
--- Each call falls in the measure, which is twice the room, and 1 more for a row. Rests on Rows, on the lookups' Tables and on the records' Answers.
+-- Each call falls in the measure, which is twice the room, and 1 more for a row. Rests on Rows, on the lookups' Tables and on the answers of crate marks.
 use Prim.Native.Nat.{ℕ, _+_, _*_, _≤_, _<_}
 use mathlib.Core.Path.{_≡_, refl, sym, _∙_, ap}
 use native.Mathlib.Omega.{arith}
@@ -7,10 +7,10 @@ use borrow.Author.Needs.{needs}
 use borrow.Fn.Kinds.{In}
 use borrow.Fn.PlainCycle.{Measures, is, falls, and}
 use Rattle.reach.specs.Places.{bytesAt}
-use Rattle.records.proofs.Answers.{byte-got, byte-short}
-use Rattle.records.proofs.byte_or_zero.Reads as byte-or-zero
-use Rattle.records.proofs.take_byte.Reads as take-byte
-use Rattle.records.proofs.wide.Reads as wide
+use Rattle.marks.proofs.Answers.{byte-got, byte-short}
+use Rattle.marks.proofs.byte_or_zero.Reads as byte-or-zero
+use Rattle.marks.proofs.take_byte.Reads as take-byte
+use Rattle.marks.proofs.wide.Reads as wide
 use Rattle.lookups.proofs.Tables.{near-at}
 use Rattle.lookups.proofs.fields_of.Reads as fields-of
 use Rattle.inputs.specs.Values.{behindOf, rowAt}

@@ -1,30 +1,30 @@
--- `outline::first_mark` meets its contract: the mark that take_mark answers is the one that `firstMark` goes by.
--- Rests on Marks.
+-- `outline::first_mark` meets its contract: the mark that mark_at answers is the one that `firstMark` goes by.
+-- Rests on the answers of crate marks.
 use borrow.Author.Needs.{needs}
+use Rattle.marks.proofs.Answers.{mark-got, mark-short}
 use Rattle.outline.specs.Tables.{firstMark}
-use Rattle.outline.proofs.Marks.{mark-got, mark-short}
 use Rattle.outline.proofs.first_mark.Statement.{statement}
 use Rattle.outline.proofs.first_mark.Tie as tie
 
 returns : tie.Need-returns
 unfolding firstMark
-returns c = rw (mark-short _ _ (c .before .before .mark-at-start .ensures) (c .enum-told .given .1))
+returns c = rw (mark-short _ _ (c .before .before .mark-at .ensures) (c .enum-told .given .1))
 
 returns-2 : tie.Need-returns-2
 unfolding firstMark
-returns-2 c = rw (mark-got _ _ (c .before .before .before .before .before .mark-at-start .ensures) (c .before .before .before .mark .given .1) (c .enum-told2 .given .1))
+returns-2 c = rw (mark-got _ _ (c .before .before .before .before .before .mark-at .ensures) (c .before .before .before .mark .given .1) (c .enum-told2 .given .1))
 
 returns-3 : tie.Need-returns-3
 unfolding firstMark
-returns-3 c = rw (mark-got _ _ (c .before .before .before .before .before .mark-at-start .ensures) (c .before .before .before .mark .given .1) (c .enum-told3 .given .1))
+returns-3 c = rw (mark-got _ _ (c .before .before .before .before .before .mark-at .ensures) (c .before .before .before .mark .given .1) (c .enum-told3 .given .1))
 
 returns-4 : tie.Need-returns-4
 unfolding firstMark
-returns-4 c = rw (mark-got _ _ (c .before .before .before .before .before .mark-at-start .ensures) (c .before .before .before .mark .given .1) (c .enum-told4 .given .1))
+returns-4 c = rw (mark-got _ _ (c .before .before .before .before .before .mark-at .ensures) (c .before .before .before .mark .given .1) (c .enum-told4 .given .1))
 
 returns-5 : tie.Need-returns-5
 unfolding firstMark
-returns-5 c = rw (mark-got _ _ (c .before .before .before .before .before .mark-at-start .ensures) (c .before .before .before .mark .given .1) (c .enum-told5 .given .1))
+returns-5 c = rw (mark-got _ _ (c .before .before .before .before .before .mark-at .ensures) (c .before .before .before .mark .given .1) (c .enum-told5 .given .1))
 
 pub first-mark-spec : {M : Type 1} → statement M
 first-mark-spec =

@@ -1,5 +1,5 @@
 -- `outline::last_record` meets its contract: the goal is read, and then the end of the bytes is asked for, as in `lastRecord`.
--- Rests on the laws of crate records about answers.
+-- Rests on the laws of crate records about steps.
 use mathlib.Core.Path.{sym, _∙_}
 use borrow.Author.Needs.{needs}
 use borrow.Author.Tests.{lt-ltb, le-ltb}

@@ -1,10 +1,10 @@
 -- `records::skip_body` meets its contract: the code goes through `bodyPart` in its order.
--- Rests on Answers and Counts.
+-- Rests on Counts and on the answers of crate marks.
 use native.Mathlib.Omega.{arith}
 use borrow.Author.Needs.{needs}
 use Rattle.reach.specs.Limits.{bodyLimit}
 use Rattle.records.specs.Steps.{bodyPart}
-use Rattle.records.proofs.Answers.{word-got, word-short}
+use Rattle.marks.proofs.Answers.{word-got, word-short}
 use Rattle.records.proofs.Counts.{between, under, over}
 use Rattle.records.proofs.skip_body.Statement.{statement}
 use Rattle.records.proofs.skip_body.Tie as tie

@@ -1,15 +1,15 @@
 -- `records::skip_limits` meets its contract: the code goes through `limitsPart` in its order.
--- Rests on Answers and Counts.
+-- Rests on Counts and on the answers of crate marks.
 use mathlib.Core.Path.{_≡_}
 use native.Mathlib.Omega.{arith}
 use denote.Ref.{now}
 use borrow.Author.Tests.{le-leb, lt-leb}
 use borrow.Author.Needs.{needs}
-use Rattle.reach.specs.Limits.{depthLimit}
+use Rattle.reach.specs.Limits.{depthLimit, stepLimit}
 use Rattle.reach.specs.Reader.{got}
 use Rattle.reach.specs.RuleFile.{counted}
 use Rattle.records.specs.Steps.{limitsPart}
-use Rattle.records.proofs.Answers.{byte-got, byte-short, word-got, word-short}
+use Rattle.marks.proofs.Answers.{byte-got, byte-short, word-got, word-short}
 use Rattle.records.proofs.Counts.{counted-got, counted-short, counted-under, counted-over}
 use Rattle.records.proofs.skip_limits.Statement.{statement}
 use Rattle.records.proofs.skip_limits.Tie as tie
@@ -40,11 +40,11 @@ returns-4 c = rw (d-read (c .before .before .before), word-short _ _ (c .before 
 
 returns-5 : tie.Need-returns-5
 unfolding limitsPart
-returns-5 c = rw (d-read (c .before .before .before .before .before), word-got _ _ (c .before .before .before .before .take-word .ensures) (c .before .before .n .given .1), lt-leb _ _ (c .if3 .taken))
+returns-5 c = rw (d-read (c .before .before .before .before .before), word-got _ _ (c .before .before .before .before .take-word .ensures) (c .before .before .n .given .1), lt-leb (c .before .before .n .given .0 .0) stepLimit (omega arith))
 
 returns-6 : tie.Need-returns-6
 unfolding limitsPart
-returns-6 c = rw (d-read (c .before .before .before .before .before), word-got _ _ (c .before .before .before .before .take-word .ensures) (c .before .before .n .given .1), le-leb _ _ (c .if3 .left))
+returns-6 c = rw (d-read (c .before .before .before .before .before), word-got _ _ (c .before .before .before .before .take-word .ensures) (c .before .before .n .given .1), le-leb (c .before .before .n .given .0 .0) stepLimit (omega arith))
 
 pub skip-limits-spec : {M : Type 1} → statement M
 skip-limits-spec =

@@ -1,10 +1,10 @@
 -- `records::skip_type` meets its contract: the code goes through `typeRecord` in its order.
--- Rests on Answers and Counts.
+-- Rests on Counts and on the answers of crate marks.
 use native.Mathlib.Omega.{arith}
 use borrow.Author.Needs.{needs}
 use Rattle.reach.specs.Limits.{constructorLimit}
 use Rattle.reach.specs.RuleFile.{typeRecord}
-use Rattle.records.proofs.Answers.{byte-got, byte-short}
+use Rattle.marks.proofs.Answers.{byte-got, byte-short}
 use Rattle.records.proofs.Counts.{counted-got, counted-short, counted-under, counted-over}
 use Rattle.records.proofs.skip_type.Statement.{statement}
 use Rattle.records.proofs.skip_type.Tie as tie

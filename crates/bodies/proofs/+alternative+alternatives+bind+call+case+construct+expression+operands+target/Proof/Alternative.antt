@@ -1,9 +1,9 @@
 -- `bodies::alternative` meets its contract: a byte, and behind a 1 an expression that sees the fields too.
--- Rests on Sequences, and on the answers of crate records.
+-- Rests on Sequences, and on the answers of crate marks.
 use Prim.Native.Nat.{ℕ}
 use native.Mathlib.Omega.{arith}
 use borrow.Author.Needs.{needs}
-use Rattle.records.proofs.Answers.{byte-got, byte-short}
+use Rattle.marks.proofs.Answers.{byte-got, byte-short}
 use Rattle.bodies.proofs.Sequences.{alternative-short, alternative-unknown, alternative-none, alternative-goes}
 use Rattle.bodies.proofs.alternative.Reads as reads
 use Rattle.bodies.proofs.+alternative+alternatives+bind+call+case+construct+expression+operands+target.Lts-alternative as lts

@@ -1,9 +1,9 @@
 -- `bodies::bind` meets its contract: a type's number, the limits, the bound expression, and the body, which sees one more variable.
--- Rests on Views and Expressions, and on the answers of crate records.
+-- Rests on Views and Expressions, and on the answers of crate marks.
 use Prim.Native.Nat.{ℕ}
 use native.Mathlib.Omega.{arith}
 use borrow.Author.Needs.{needs}
-use Rattle.records.proofs.Answers.{byte-got, byte-short}
+use Rattle.marks.proofs.Answers.{byte-got, byte-short}
 use Rattle.bodies.proofs.Views.{limits-nested, limits-view}
 use Rattle.bodies.proofs.Expressions.{let-short, let-unknown, let-over, let-refused, let-goes}
 use Rattle.bodies.proofs.bind.Reads as reads

@@ -1,9 +1,9 @@
 -- `bodies::call` meets its contract: a function's number, the limits, its result type, and an operand for each parameter.
--- Rests on Views and Expressions, and on the answers of crate records.
+-- Rests on Views and Expressions, and on the answers of crate marks.
 use Prim.Native.Nat.{ℕ}
 use native.Mathlib.Omega.{arith}
 use borrow.Author.Needs.{needs}
-use Rattle.records.proofs.Answers.{byte-got, byte-short}
+use Rattle.marks.proofs.Answers.{byte-got, byte-short}
 use Rattle.bodies.proofs.Views.{limits-nested}
 use Rattle.bodies.proofs.Expressions.{call-short, call-unknown, call-over, call-mismatch, call-goes}
 use Rattle.bodies.proofs.call.Reads as reads

@@ -1,9 +1,9 @@
 -- `bodies::case` meets its contract: a type's number, the limits, the subject, and an alternative or none for each constructor of the type.
--- Rests on Tables, Views and Expressions, and on the answers of crate records.
+-- Rests on Tables, Views and Expressions, and on the answers of crate marks.
 use Prim.Native.Nat.{ℕ}
 use native.Mathlib.Omega.{arith}
 use borrow.Author.Needs.{needs}
-use Rattle.records.proofs.Answers.{byte-got, byte-short}
+use Rattle.marks.proofs.Answers.{byte-got, byte-short}
 use Rattle.bodies.proofs.Tables.{narrow-type}
 use Rattle.bodies.proofs.Views.{limits-nested, limits-view}
 use Rattle.bodies.proofs.Expressions.{case-short, case-unknown, case-over, case-refused, case-goes}

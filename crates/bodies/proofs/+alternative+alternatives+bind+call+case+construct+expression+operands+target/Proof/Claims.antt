@@ -38,9 +38,9 @@ use Rattle.lookups.proofs.head_of.Reads as head-of-reads
 use Rattle.lookups.proofs.constructors_of.Reads as constructors-of-reads
 use Rattle.bodies.proofs.variable.Reads as variable-reads
 use Rattle.bodies.proofs.with_one.Reads as with-one-reads
-use Rattle.records.proofs.byte_or_zero.Reads as byte-or-zero-reads
-use Rattle.records.proofs.take_byte.Reads as take-byte-reads
-use Rattle.records.proofs.wide.Reads as wide-reads
+use Rattle.marks.proofs.byte_or_zero.Reads as byte-or-zero-reads
+use Rattle.marks.proofs.take_byte.Reads as take-byte-reads
+use Rattle.marks.proofs.wide.Reads as wide-reads
 
 abbrev pub μ-alternative : Measures 1 alternative-kinds.ps ℕ
 μ-alternative κs a = 4 * a .1 .1 .1 .1 .1 .0 + 3

@@ -1,9 +1,9 @@
 -- `bodies::construct` meets its contract: a type's and a constructor's number, the limits, the type, and an operand for each field.
--- Rests on Tables, Views and Expressions, and on the answers of crate records.
+-- Rests on Tables, Views and Expressions, and on the answers of crate marks.
 use Prim.Native.Nat.{ℕ}
 use native.Mathlib.Omega.{arith}
 use borrow.Author.Needs.{needs}
-use Rattle.records.proofs.Answers.{byte-got, byte-short}
+use Rattle.marks.proofs.Answers.{byte-got, byte-short}
 use Rattle.lookups.proofs.Tables.{near-at}
 use Rattle.bodies.proofs.Views.{limits-nested}
 use Rattle.bodies.proofs.Expressions.{construct-short, construct-short-2, construct-unknown, construct-over, construct-mismatch, construct-goes}

@@ -1,9 +1,9 @@
 -- `bodies::expression` meets its contract: its code, and the kind of that code.
--- Rests on Expressions, and on the answers of crate records.
+-- Rests on Expressions, and on the answers of crate marks.
 use Prim.Native.Nat.{ℕ}
 use native.Mathlib.Omega.{arith}
 use borrow.Author.Needs.{needs}
-use Rattle.records.proofs.Answers.{byte-got, byte-short}
+use Rattle.marks.proofs.Answers.{byte-got, byte-short}
 use Rattle.bodies.proofs.Expressions.{expression-short, expression-variable, expression-call, expression-construct, expression-case, expression-let, expression-target, expression-unknown}
 use Rattle.bodies.proofs.expression.Reads as reads
 use Rattle.bodies.proofs.+alternative+alternatives+bind+call+case+construct+expression+operands+target.Lts-expression as lts

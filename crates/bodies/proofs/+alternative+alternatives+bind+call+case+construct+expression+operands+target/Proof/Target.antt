@@ -1,8 +1,8 @@
 -- `bodies::target` meets its contract: a label, the limits, and the expression inside.
--- Rests on Views and Expressions, and on the answers of crate records.
+-- Rests on Views and Expressions, and on the answers of crate marks.
 use Prim.Native.Nat.{ℕ}
 use borrow.Author.Needs.{needs}
-use Rattle.records.proofs.Answers.{byte-got, byte-short}
+use Rattle.marks.proofs.Answers.{byte-got, byte-short}
 use Rattle.bodies.proofs.Views.{limits-nested}
 use Rattle.bodies.proofs.Expressions.{target-short, target-over, target-goes}
 use Rattle.bodies.proofs.target.Reads as reads
