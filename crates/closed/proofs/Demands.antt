@@ -20,11 +20,11 @@ use Rattle.reach.specs.Limits.{workWords}
 use Rattle.reach.specs.Syntax.{Program}
 use Rattle.reach.specs.Parts.{Parts, prefix}
 use Rattle.reach.specs.Types.{WithinDepth}
-use Rattle.reach.specs.Eval.{Run, reached, ended, unfinished, halted, run, Spent, NotHalted}
+use Rattle.reach.specs.Eval.{Run, reached, ended, unfinished, halted, run, Spent}
 use Rattle.reach.specs.Input.{inputOf}
 use Rattle.reach.specs.Answers.{Checked, accepted, turnedBack, check, RunAnswer, noRun, ran, outcomeOf, runInput, runChecked, runAnswer}
 use Rattle.reach.proofs.Base.{clash, picked}
-use Rattle.reach.proofs.Evaluation.{run-spent, run-ends}
+use Rattle.reach.proofs.Evaluation.{run-spent}
 use Rattle.reach.proofs.ClosedInputs.{input-exactly}
 use Rattle.reach.proofs.Refusals.{turned-back-by}
 use Rattle.closed.specs.declared.Answer.{Answer}
@@ -59,12 +59,12 @@ steps-kept limit (ended why n) spent = spent
 steps-kept limit (unfinished n) spent = omega arith
 steps-kept limit (halted q n) spent = omega arith
 
-unfinished-kept : (limit n : ℕ) (x : Run) → Spent limit x → NotHalted x → Unfinished n ≡ outcomeOf x → n ≡ limit
+unfinished-kept : (limit n : ℕ) (x : Run) → Spent limit x → Unfinished n ≡ outcomeOf x → n ≡ limit
 unfolding outcomeOf
-unfinished-kept limit n (reached m) spent ends is = absurd (clash (cc))
-unfinished-kept limit n (ended why m) spent ends is = absurd (clash (cc))
-unfinished-kept limit n (unfinished m) spent ends is = let same : n ≡ m = cc in same ∙ spent
-unfinished-kept limit n (halted q m) spent ends is = absurd ends
+unfinished-kept limit n (reached m) spent is = absurd (clash (cc))
+unfinished-kept limit n (ended why m) spent is = absurd (clash (cc))
+unfinished-kept limit n (unfinished m) spent is = let same : n ≡ m = cc in same ∙ spent
+unfinished-kept limit n (halted q m) spent is = absurd (clash (cc))
 
 -- `Promised file input work work′ r` is the contract: the call answered r, and the work slice that held the words `work` holds `work′`.
 module _ (file input work work′ : List ℕ) (r : Answer) (call : Promised file input work work′ r) where
@@ -139,7 +139,7 @@ module _ (file input work work′ : List ℕ) (r : Answer) (call : Promised file
     pub unfinished-all : (n : ℕ) → r ≡ Answer.Ran (Unfinished n) → n ≡ p .steps
     unfinished-all n is =
         let (j, reads, enough, ends) = ran-exactly (Unfinished n) .0 is in
-        unfinished-kept (p .steps) n (run p j) (run-spent p j) (run-ends p j (reads .0 .0 .0)) ends
+        unfinished-kept (p .steps) n (run p j) (run-spent p j) ends
 
   -- which condition a refusal has
   abbrev Refusable : Refusal → Type 0

@@ -74,12 +74,13 @@ pub data RunAnswer : Type 0 where
   noRun : Refusal → RunAnswer
   ran : Outcome → RunAnswer
 
--- the end of a closed run as it is answered: every way to end off target is `ended`. (A closed input never halts.)
+-- the end of a closed run as it is answered: every way to stop off target is `ended`. (A closed input never halts; a halt would be neither reached nor
+-- unfinished, so that it counts here as in `StopsInside`.)
 unfoldable pub outcomeOf : Run → Outcome
 outcomeOf (reached n) = Reached n
 outcomeOf (ended why n) = Ended n
 outcomeOf (unfinished n) = Unfinished n
-outcomeOf (halted q n) = Unfinished n
+outcomeOf (halted q n) = Ended n
 
 unfoldable pub runInput : Program → ℕ → Option Parts → RunAnswer
 runInput p work none = noRun BadInput

@@ -30,12 +30,6 @@ stepsOf (Reached n) = n
 stepsOf (Ended n) = n
 stepsOf (Unfinished n) = n
 
--- the word for how it ended, in ASCII: "reached", "ended", "unfinished"
-abbrev pub outcomeWord : Outcome → List ℕ
-outcomeWord (Reached n) = 0x72 ∷ 0x65 ∷ 0x61 ∷ 0x63 ∷ 0x68 ∷ 0x65 ∷ 0x64 ∷ []
-outcomeWord (Ended n) = 0x65 ∷ 0x6e ∷ 0x64 ∷ 0x65 ∷ 0x64 ∷ []
-outcomeWord (Unfinished n) = 0x75 ∷ 0x6e ∷ 0x66 ∷ 0x69 ∷ 0x6e ∷ 0x69 ∷ 0x73 ∷ 0x68 ∷ 0x65 ∷ 0x64 ∷ []
-
 -- the word for a verdict, as `reachlist` prints it: "found", "undecided", "none"
 abbrev pub verdictWord : Verdict → List ℕ
 verdictWord Found = 0x66 ∷ 0x6f ∷ 0x75 ∷ 0x6e ∷ 0x64 ∷ []
