@@ -1,7 +1,7 @@
 """Tests tools/rule: every text in examples builds to the rule file beside it, and its comment has the lines that the
 blind search gives with the text's names; `show` and `build` give back the bytes of the examples and of the stored rule
 files that are accepted, and of no others; each kind of fault is reported with its line; the commands print what they
-should. The exit status is 1 where anything differs."""
+should. The exit status is 1 where anything differs, and where there is nothing to compare."""
 
 import importlib.util
 import os
@@ -53,12 +53,12 @@ def commented(text):
 
 
 def agree(shown, lines):
-    """Whether the lines shown are the lines of the output, where '..' stands for lines left out."""
+    """Whether the lines shown are the lines of the output, where '..' stands for lines left out before the last ones."""
     if ".." not in shown:
         return shown == lines
     cut = shown.index("..")
     rest = shown[cut + 1:]
-    return shown[:cut] == lines[:cut] and len(lines) > len(shown) - 1 and rest == lines[len(lines) - len(rest):]
+    return rest != [] and shown[:cut] == lines[:cut] and len(lines) > len(shown) - 1 and rest == lines[len(lines) - len(rest):]
 
 
 def check_example(name):
@@ -86,13 +86,16 @@ def check_round_trip(name, data, accepted):
 
 
 def check_vectors():
-    """The stored cases of the program check_vectors: each file behind its two-byte length, and a line with its answer."""
+    """The stored cases of the program check_vectors: each file behind its two-byte length, and a line with its answer. The result
+    is their number."""
     data, place = stored("crates", "check_vectors", "stdin"), 0
-    for number, answer in enumerate(stored("crates", "check_vectors", "stdout").split(b"\n")[:-1]):
+    answers = stored("crates", "check_vectors", "stdout").split(b"\n")[:-1]
+    for number, answer in enumerate(answers):
         length = int.from_bytes(data[place:place + 2], "little")
         check_round_trip(f"case {number} of check_vectors", data[place + 2:place + 2 + length], answer == b"accepted")
         place += 2 + length
     compare("bytes of check_vectors", place, len(data))
+    return len(answers)
 
 
 # Faults: a text that is right, what is changed in it, and the line and the message that this must give.
@@ -261,17 +264,17 @@ def main():
     for name in examples:
         check_example(name)
         check_round_trip(name, stored("examples", name + ".rule"), True)
-    for name in sorted(os.listdir(os.path.join(ROOT, "tests", "reachlist"))):
-        if name.endswith(".rule"):
-            data = stored("tests", "reachlist", name)
-            check_round_trip(name, data, isinstance(check(data), Program))
-    check_vectors()
+    files = sorted(name for name in os.listdir(os.path.join(ROOT, "tests", "reachlist")) if name.endswith(".rule"))
+    for name in files:
+        data = stored("tests", "reachlist", name)
+        check_round_trip(name, data, isinstance(check(data), Program))
+    cases = check_vectors()
     check_faults()
     check_commands()
     for fault in wrong:
         print(f"rule: {fault}", file=sys.stderr)
-    print(f"rule: {len(examples)} examples, {len(FAULTS)} faults, {len(wrong)} wrong")
-    return 1 if wrong or not examples else 0
+    print(f"rule: {len(examples)} examples, {len(files) + cases} other rule files, {len(FAULTS)} faults, {len(wrong)} wrong")
+    return 0 if examples and files and cases and not wrong else 1
 
 
 if __name__ == "__main__":

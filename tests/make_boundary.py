@@ -11,6 +11,7 @@ import sys
 from collections import Counter
 
 from blind.build import call, case, con, fn, go, let, random_program, target, two, ty, var
+from blind.compare import same
 from blind.rulefile import (CODE, HOLLOW, MARK, MISFIT, RANGE, SHALLOW, SHORT, STRANGER, TAIL, Program, check)
 from vectors import store
 
@@ -736,14 +737,14 @@ def make():
                   order_inside_expressions):
         group()
     for name, data, expected in CASES:
-        assert answer(data) == expected, f"{name}: expected {expected}, the blind checker says {answer(data)}"
-    assert len({name for name, _, _ in CASES}) == len(CASES)
+        same(f"the blind checker's answer to '{name}'", answer(data), expected)
+    same("names that two cases share", [name for name, count in Counter(name for name, _, _ in CASES).items() if count > 1], [])
 
     rng = random.Random(1)
     files = random_accepted(rng, 250)
     for number, data in enumerate(files):
         expect(ACCEPTED, f"random {number}", data)
-        assert answer(data) == ACCEPTED
+        same(f"the blind checker's answer to random file {number}", answer(data), ACCEPTED)
     for number, data in enumerate(random_damaged(rng, files, 600)):
         expect(answer(data), f"damaged {number}", data)
 

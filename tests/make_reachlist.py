@@ -4,7 +4,7 @@ They lie in the folder tests/reachlist: NAME.rule is what it reads, NAME.out wha
 runs the program on them. The program report_vectors runs the same files, in the order of their names: its stdin has
 each behind its three-byte length, low byte first, its stdout each text and a line `end`. With --check nothing is
 written, and the exit status is 1 where the stored files differ. Either way it is 1 where the set lacks a kind of last
-line.
+line, or would be printed alike with a buffer of another size.
 """
 
 import os
@@ -12,10 +12,11 @@ import sys
 
 import rules
 from blind.build import call, case, con, fn, go, target, two, ty, var
-from blind.enumerate import reachlist
+from blind.enumerate import printed, reachlist
 from make_boundary import file_of_size
+from make_searches import answer
 from rules import HOLLOW, P, changed
-from vectors import store
+from vectors import checking, store
 
 FOLDER = os.path.join(os.path.dirname(os.path.abspath(__file__)), "reachlist")
 
@@ -25,6 +26,12 @@ BOOL = ty((), ())
 def third(first, second):
     """Three entries, of which the two given are the first and the second."""
     return BOOL + fn((0, 0), 0, case(0, var(0), first, case(0, var(1), second, target(7, var(0))))) + go()
+
+
+def largest():
+    """A rule file of 16,384 bytes with a list: the last of its functions is searched, and it calls none of the others."""
+    source = fn((0,), 0, case(0, var(0), target(7, var(0)), None))
+    return file_of_size(16384 - len(source))[:-7] + source + go(16, depth=3)
 
 
 def examples():
@@ -45,7 +52,7 @@ def refused():
         "shallow": ty((1,)) + ty(()) + fn((0,), 0, var(0)) + go(depth=1),
         "s240": changed(steps=240), "s241": changed(steps=241), "s4096": changed(steps=4096),
         "size_16384": file_of_size(16384)[:-3] + b"\3" + two(20), "size_16385": file_of_size(16385),
-        "size_100000": P + bytes(100000 - len(P)),
+        "size_16384_found": largest(), "size_16384_and_more": largest() + b"\0", "size_100000": P + bytes(100000 - len(P)),
         # 2,048 entries of 16 bytes fill 32,768; one byte more does not fit, nor does a 2,049th.
         "list_fills": rules.exact_list(8) + go(depth=2, steps=40),
         "list_lacks_a_byte": rules.exact_list(8, True) + go(depth=2, steps=40),
@@ -84,6 +91,54 @@ def lacking(texts):
     return sorted(wanted - kinds) + [f"share {share}" for share in sorted({"0", "33", "66", "100"} - shares)]
 
 
+# The program's buffers: the bytes that it takes of its input, the words of its work slice, the bytes of its list.
+SIZES = {"input": 16385, "work": 16384, "list": 32768}
+
+# Sizes that must show in what is printed for some rule file. A longer input buffer prints the same, and tests/check_reachlist.py
+# sees it by what the program takes. Nor does a work slice show that has up to 63 words more: they are too few for another step.
+WRONG_SIZES = (("input", 43), ("input", 16383), ("input", 16384), ("work", 2304), ("work", 16383), ("work", 16448),
+               ("list", 9), ("list", 32767), ("list", 32769))
+
+
+def text_with(sizes, rule_file):
+    """What the program prints with buffers of these sizes."""
+    return printed(answer(rule_file[:sizes["input"]], sizes["work"], sizes["list"])).encode()
+
+
+def changed_by(sizes, made, names):
+    """The rule files for which the program prints something else with buffers of these sizes."""
+    return [name for name in names if text_with(sizes, made[name + ".rule"]) != made[name + ".out"]]
+
+
+def sizes_shown(made, names):
+    """Per wrong size the rule files that show it."""
+    return {(buffer, size): changed_by({**SIZES, buffer: size}, made, names) for buffer, size in WRONG_SIZES}
+
+
+def faults(made, names, shown):
+    """What the set lacks, and what is wrong with it."""
+    return ([f"none has {kind}" for kind in lacking([made[name + ".out"].decode() for name in names])]
+            + [f"none shows that {size} is a wrong size of the {buffer} buffer" for (buffer, size), by in shown.items() if not by]
+            + [f"with buffers of the right sizes {name} is printed otherwise" for name in changed_by(SIZES, made, names)])
+
+
+def differences(made):
+    """How the stored files differ from those made."""
+    stored = set(os.listdir(FOLDER))
+    found = [f"{name} is stored and not made" for name in sorted(stored - set(made))]
+    for name, data in made.items():
+        if name not in stored or open(os.path.join(FOLDER, name), "rb").read() != data:
+            found.append(f"the stored {name} differs from what is made")
+    return found
+
+
+def write(made):
+    os.makedirs(FOLDER, exist_ok=True)
+    for name, data in made.items():
+        with open(os.path.join(FOLDER, name), "wb") as file:
+            file.write(data)
+
+
 def store_vectors(made, names):
     """Stores the stdin and the stdout of the program report_vectors. The result is an exit status."""
     files = [made[name + ".rule"] for name in names]
@@ -93,27 +148,24 @@ def store_vectors(made, names):
 
 
 def main():
+    only_checking = checking(sys.argv[1:])
     files = {**examples(), **refused(), **lists()}
-    made = {}
+    made, names = {}, sorted(files)
     for name, rule_file in files.items():
         made[name + ".rule"] = rule_file
         made[name + ".out"] = reachlist(rule_file).encode()
-    wrong = [f"none has {kind}" for kind in lacking([made[name + ".out"].decode() for name in files])]
-    if sys.argv[1:] == ["--check"]:
-        stored = set(os.listdir(FOLDER))
-        wrong += [f"{name} is stored and not made" for name in sorted(stored - set(made))]
-        for name, data in made.items():
-            if name not in stored or open(os.path.join(FOLDER, name), "rb").read() != data:
-                wrong.append(f"the stored {name} differs from what is made")
+    shown = sizes_shown(made, names)
+    wrong = faults(made, names, shown)
+    if only_checking:
+        wrong += differences(made)
     else:
-        os.makedirs(FOLDER, exist_ok=True)
-        for name, data in made.items():
-            with open(os.path.join(FOLDER, name), "wb") as file:
-                file.write(data)
+        write(made)
         print(f"{len(files)} rule files, {sum(map(len, made.values()))} bytes")
+        for (buffer, size), by in shown.items():
+            print(f"{size} as the size of the {buffer} buffer: shown by {', '.join(by)}")
     for fault in wrong:
         print(f"reachlist: {fault}", file=sys.stderr)
-    differs = store_vectors(made, sorted(files))
+    differs = store_vectors(made, names)
     return 1 if wrong or differs else 0
 
 

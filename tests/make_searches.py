@@ -20,6 +20,7 @@ from functools import lru_cache
 
 import rules
 from blind.build import call, con, go, random_rule, target, two, ty
+from blind.compare import same
 from blind.enumerate import OPEN, Listing, all_entries, count_inputs, fill, inputs
 from blind.evaluate import REACHED, UNFINISHED, bench, evaluate
 from blind.narrow import ERRORS, differs
@@ -364,7 +365,8 @@ def make():
     damaged(rng, files)
     rooms(rng, files)
     benches(rng, files)
-    assert all(words <= MOST_WORDS and room <= MOST_BYTES for _, _, words, room in CASES)
+    same("slices longer than the program's",
+         [(words, room) for _, _, words, room in CASES if words > MOST_WORDS or room > MOST_BYTES], [])
     return [answer(rule_file, words, room) for _, rule_file, words, room in CASES]
 
 

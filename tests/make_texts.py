@@ -9,6 +9,7 @@ import random
 import sys
 
 from blind.build import random_program, two
+from blind.compare import same
 from blind.enumerate import MARKS, Entry, Listing, TooMany, printed, search, verdict
 from blind.evaluate import REACHED, UNFINISHED
 from vectors import store
@@ -75,7 +76,7 @@ def random_lists(rng, count):
 
 
 def main():
-    assert set(MARKS.values()) == {b"RE", b"UN"}
+    same("the marks of entries", set(MARKS.values()), {b"RE", b"UN"})
     examples()
     shapes()
     broken()

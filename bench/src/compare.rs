@@ -26,8 +26,8 @@ pub fn verdict_of(list: &[u8]) -> Verdict {
     }
 }
 
-/// Compares the lists of a problem; where all its inputs can be run, they must be what the list says.
-pub fn compare_problem(problem: &Problem, most_inputs: u64) -> Result<(), String> {
+/// Compares the lists of a problem; where all its inputs can be run, they must be what the list says. The result is whether they were run.
+pub fn compare_problem(problem: &Problem, most_inputs: u64) -> Result<bool, String> {
     let name = &problem.name;
     let (list, verdict) =
         library_list(&problem.file).map_err(|error| format!("{name}: {error}"))?;
@@ -39,14 +39,15 @@ pub fn compare_problem(problem: &Problem, most_inputs: u64) -> Result<(), String
     }
     let program = Program::read(&problem.file);
     let counts = Counts::of(&program);
-    if counts.inputs <= most_inputs
-        && enumerate(&program, &counts, most_inputs) != completions(&program, &counts, &list)
-    {
+    if most_inputs < counts.inputs {
+        return Ok(false);
+    }
+    if enumerate(&program, &counts, most_inputs) != completions(&program, &counts, &list) {
         return Err(format!(
             "{name}: the closed inputs say something else than the list"
         ));
     }
-    Ok(())
+    Ok(true)
 }
 
 /// Compares the lists of a stored case, also one that is cut short. The result is whether the case has a list.

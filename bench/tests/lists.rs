@@ -8,9 +8,11 @@ use bench::search::search_within;
 fn problems_against_an_independent_implementation() {
     let problems = problems().unwrap();
     assert!(8 <= problems.len());
-    for problem in &problems {
-        compare_problem(problem, 20_000).unwrap();
-    }
+    let enumerated = problems
+        .iter()
+        .filter(|problem| compare_problem(problem, 20_000).unwrap())
+        .count();
+    assert!(5 <= enumerated, "{enumerated} problems were enumerated");
 }
 
 #[test]

@@ -29,6 +29,7 @@ fn runs_of_stored_files_against_an_independent_implementation() {
 /// The longest run of a sample is compared too, and is the first with its steps; none takes more.
 #[test]
 fn longest_runs() {
+    let mut compared = 0;
     for problem in &problems().unwrap() {
         let Some(longest) = longest_run(problem, 500) else {
             continue;
@@ -43,5 +44,7 @@ fn longest_runs() {
         let most = inputs.iter().map(steps).max();
         let first = inputs.iter().find(|input| Some(steps(input)) == most);
         assert_eq!(first, Some(&longest.input), "{}", problem.name);
+        compared += 1;
     }
+    assert!(8 <= compared, "{compared} runs were compared");
 }

@@ -10,6 +10,7 @@ from functools import lru_cache
 from itertools import product
 from math import prod
 
+from blind.compare import same
 from blind.evaluate import ENDED, REACHED, UNFINISHED, Value, bench, evaluate
 from blind.rulefile import FULL, Refused, read
 
@@ -114,9 +115,8 @@ def all_entries(program, most_inputs=MOST_INPUTS):
             if wait.steps < program.steps:
                 bound.setdefault(wait.place, wait.constructor)
         entry = Entry(outcome.end, outcome.steps, prefix_form(program, bound))
-        # All inputs that met the same constructors belong to the same entry.
-        assert found.setdefault(tuple(bound.values()), entry) == entry
-    assert len(set(entry.parameters for entry in found.values())) == len(found)
+        same("the entry of another input that met the same constructors", found.setdefault(tuple(bound.values()), entry), entry)
+    same("partial inputs that the entries have", len(set(entry.parameters for entry in found.values())), len(found))
     return [found[met] for met in sorted(found) if found[met].end != ENDED]
 
 

@@ -37,6 +37,13 @@ ERRORS = (
 )
 
 
+def known(error):
+    """The error, where it is one of `ERRORS`: another would never be made, and so never be missed."""
+    if error not in ERRORS:
+        raise ValueError(f"no such error: {error}")
+    return error
+
+
 class Fork(Exception):
     """A case waits on an open part."""
 
@@ -55,14 +62,12 @@ class Part:
 
 class Narrowing:
     def __init__(self, program, error=None):
-        assert error is None or error in ERRORS, error
-        self.program, self.error = program, error
+        self.program, self.error = program, None if error is None else known(error)
         self.depths = least_depths(program.types)
 
     def made(self, error):
         """Whether this error is made."""
-        assert error in ERRORS, error
-        return self.error == error
+        return self.error == known(error)
 
     def run(self, bound):
         """How a path ends with these places bound, and its steps; raises `Fork` where it does not."""

@@ -1,4 +1,5 @@
-"""Checks the blind side by hand-worked examples: those of the scope paper, and some that it does not show."""
+"""Checks the blind side by hand-worked examples: those of the scope paper, and some that it does not show. The exit status is 1
+where it gives another answer than was worked out."""
 
 import os
 import sys
@@ -6,8 +7,9 @@ import sys
 sys.path.insert(0, os.path.dirname(os.path.dirname(os.path.abspath(__file__))))
 
 from blind.build import call, case, con, fn, go, let, target, ty, var
-from blind.enumerate import TooMany, count_inputs, reachlist, search
-from blind.evaluate import run
+from blind.compare import Different, same
+from blind.enumerate import Listing, TooMany, count_inputs, reachlist, search
+from blind.evaluate import Outcome, run
 from blind.rulefile import Program, check, least_depths, read
 
 P = bytes.fromhex("54 59 02 00 01 00 46 4E 01 00 00 17 00 03 00 00 00 01 02 00 00 01 "
@@ -22,20 +24,33 @@ def changed(label=7, depth=4, steps=20):
 
 
 def prints(rule_file, *lines):
-    assert reachlist(rule_file) == "".join(line + "\n" for line in lines), reachlist(rule_file)
+    same(f"what reachlist prints for {rule_file.hex()}", reachlist(rule_file), "".join(line + "\n" for line in lines))
+
+
+def runs(rule_file, data, words, *answer):
+    """The closed run ends so after so many steps, or is refused by this number."""
+    given = run(rule_file, bytes(data), words)
+    same(f"the run of {rule_file.hex()} on {bytes(data).hex()} in {words} words",
+         (given.end, given.steps) if isinstance(given, Outcome) else (given,), answer)
 
 
 def ends(rule_file, data, end, steps):
-    outcome = run(rule_file, bytes(data), WORK)
-    assert (outcome.end, outcome.steps) == (end, steps), outcome
+    runs(rule_file, data, WORK, end, steps)
+
+
+def searches(rule_file, words, room, *answer):
+    """The search gives a list of these bytes with a verdict, or with refusal 12 alone, or is refused by this number."""
+    given = search(rule_file, words, room)
+    same(f"the search of {rule_file.hex()} in {words} words and {room} bytes",
+         (given.record(), given.refusal or given.verdict) if isinstance(given, Listing) else (given,), answer)
 
 
 def scope_examples():
     """The examples of the scope paper."""
-    assert isinstance(check(P), Program)
-    assert changed() == P
-    for same in P, changed(depth=3), changed(steps=6):
-        prints(same, "reach 6 1 1 _", "total 1 0 0 found")
+    same("whether P is accepted", isinstance(check(P), Program), True)
+    same("P with its own label, D and S", changed(), P)
+    for found in P, changed(depth=3), changed(steps=6):
+        prints(found, "reach 6 1 1 _", "total 1 0 0 found")
     for none in changed(depth=2), changed(depth=1):
         prints(none, "total 0 0 0 none")
     prints(changed(steps=5), "unfinished 5 1 _", "total 0 1 100 undecided")
@@ -60,20 +75,18 @@ BOOL = ty((), ())
 def refusals_of_runs():
     """Refusals 10 to 12 and their order."""
     least = 64 * 20 + 1024
-    assert run(P, b"\0", least).end == "ended"
-    assert run(P, b"\0", least - 1) == 11
+    runs(P, b"\0", least, "ended", 3)
+    runs(P, b"\0", least - 1, 11)
     for bad in b"", b"\2", b"\1", b"\0\0", b"\1\1\1\1\0", b"\xff":
-        assert run(P, bad, 0) == 10, bad
-    assert run(P, b"\1\1\1\0", least).end == "reached"  # depth 4 fits
-    assert run(b"", b"", 0) == 1
-    assert search(P, least - 1, 0) == 11
+        runs(P, bad, 0, 10)
+    runs(P, b"\1\1\1\0", least, "reached", 6)  # depth 4 fits
+    runs(b"", b"", 0, 1)
+    searches(P, least - 1, 0, 11)
     # P's one entry has nine bytes.
-    listing = search(P, least, 9)
-    assert listing.record() == b"RE\6\0\3\0\1\1\xff" and listing.verdict == "found"
-    listing = search(P, least, 8)
-    assert listing.record() == b"" and listing.refusal == 12
+    searches(P, least, 9, b"RE\6\0\3\0\1\1\xff", "found")
+    searches(P, least, 8, b"", 12)
     # With no entry due, a list slice without room is no hindrance.
-    assert search(changed(depth=2), least, 0).verdict == "none"
+    searches(changed(depth=2), least, 0, b"", "none")
 
 
 def further_examples():
@@ -119,23 +132,21 @@ def further_examples():
     triples = [f"reach 14 {n // 256} {n // 16 % 16} {n % 16}" for n in range(3640)]
     prints(full, *triples, "refused 12")
     # Least depths: a chain of types, a hollow pair, a type saved by its second constructor.
-    assert least_depths(read(ty((1,)) + ty((2,), (0, 0)) + ty(()) + fn((), 2, con(2, 0)) + go()).types) == (3, 2, 1)
-    assert check(ty((1,)) + ty((0,)) + ty(()) + fn((), 2, con(2, 0)) + go()) == 8
+    same("least depths", least_depths(read(ty((1,)) + ty((2,), (0, 0)) + ty(()) + fn((), 2, con(2, 0)) + go()).types), (3, 2, 1))
+    same("the check of two hollow types", check(ty((1,)) + ty((0,)) + ty(()) + fn((), 2, con(2, 0)) + go()), 8)
     # Counting closed inputs: trees with two branches, to depth 4: 1, 2, 5, 26.
     trees = ty((), (0, 0)) + fn((0, 0), 0, var(0))
-    assert [count_inputs(read(trees + go(depth=depth))) for depth in (1, 2, 3, 4)] == [1, 4, 25, 676]
+    same("pairs of trees", [count_inputs(read(trees + go(depth=depth))) for depth in (1, 2, 3, 4)], [1, 4, 25, 676])
     try:
         search(trees + go(depth=64), WORK, 0)
     except TooMany:
         return
-    assert False
+    raise Different("pairs of trees to depth 64 are not too many to be run")
 
 
 def lists(rule_file, verdict, *entries, room=1000):
     """The search lists exactly these bytes; the verdict is None where the next entry does not fit the room."""
-    listing = search(rule_file, WORK, room)
-    assert (listing.record(), listing.verdict) == (b"".join(entries), verdict), listing
-    assert listing.refusal == (12 if verdict is None else None)
+    searches(rule_file, WORK, room, b"".join(entries), 12 if verdict is None else verdict)
 
 
 def re(steps, *parameters):

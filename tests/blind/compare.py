@@ -1,0 +1,22 @@
+"""The comparison that the tests fail by. An `assert` would not do: Python leaves it out where PYTHONOPTIMIZE is set."""
+
+from os.path import commonprefix
+
+BEFORE, SHOWN = 40, 300  # characters before the first one that differs, and in all
+
+
+class Different(Exception):
+    """What was got is not what was expected."""
+
+
+def same(what, got, wanted):
+    """Fails where the two differ; of what is long the place is shown where it begins to."""
+    if got == wanted:
+        return
+    got, wanted = repr(got), repr(wanted)
+    start = max(0, len(commonprefix((got, wanted))) - BEFORE)
+    raise Different(f"{what}: got {part(got, start)}, expected {part(wanted, start)}")
+
+
+def part(text, start):
+    return ("" if start == 0 else "..") + text[start:start + SHOWN] + ("" if len(text) <= start + SHOWN else "..")
