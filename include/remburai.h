@@ -76,7 +76,7 @@ uint64_t remburai_run(const uint8_t *file, size_t file_length,
  * the search answered as `list_length`, else bytes behind the list may be read as entries. */
 uint64_t remburai_entry(const uint8_t *list, size_t list_length, size_t number);
 
-/* The parts of an answer. */
+/* The parts of an answer. They are proved to be those of the definition's answer (crates/remburai/proofs/Demands.antt). */
 static inline unsigned remburai_refusal(uint64_t answer) { return (unsigned)(answer & 0xFF); }
 static inline unsigned remburai_verdict(uint64_t answer) { return (unsigned)(answer >> 8 & 0xFF); }
 static inline unsigned remburai_outcome(uint64_t answer) { return (unsigned)(answer >> 8 & 0xFF); }

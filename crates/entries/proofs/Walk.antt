@@ -7,12 +7,12 @@ use mathlib.Core.Option.{Option, none, some}
 use native.Mathlib.Omega.{arith}
 use lib.ListN.{length, take, drop, length-take}
 use Rattle.reach.specs.Lists.{entrySize, entrySpan, entryPart, roomOf}
-use Rattle.reach.proofs.ReadBack.{size-inside, span-missing, span-here, span-next, span-inside, part-counted}
+use Rattle.reach.proofs.ReadBack.{size-inside, span-missing, span-here, span-next, span-inside, span-counted, part-counted}
 use Rattle.entries.specs.declared.Size.{Size}
 use Rattle.entries.specs.declared.Size.the-variants.{Bytes, Missing}
 use Rattle.entries.specs.declared.Span.{Span}
 use Rattle.entries.specs.declared.Span.the-variants as span
-use Rattle.entries.specs.Spans.{sizeOf, spanOf}
+use Rattle.entries.specs.Spans.{sizeOf, spanOf, partPlace, bytesOn}
 
 -- what is left of the walk, so many entries on from a place inside the list, gives what the whole walk gives
 pub record Walked (l : List ℕ) (number at more : ℕ) : Type 0 where
@@ -63,3 +63,22 @@ module _ (l : List ℕ) (k end : ℕ) {r : Span} (room : end ≡ roomOf (length 
       let z : i + n - i ≡ n = omega arith in
       let there = sym searched ∙ ap spanOf e in
       rw (z, part-counted l k, ← room, there)
+
+  -- The place of that part.
+  pub place-none : r ≡ span.Missing → end ≡ partPlace l k
+  unfolding partPlace
+  place-none e =
+      let none-there = sym searched ∙ ap spanOf e in
+      rw (span-counted l k, ← room, none-there)
+
+  pub place-found : {i n : ℕ} → r ≡ span.At i n → i ≡ partPlace l k
+  unfolding partPlace
+  place-found {i} {n} e =
+      let there = sym searched ∙ ap spanOf e in
+      rw (span-counted l k, ← room, there)
+
+-- a part that begins so many bytes on in a slice points so many bytes behind the slice's own pointer
+pub points-on : (pointer : ℕ × ℕ) {i n : ℕ} → i ≡ n → _≡_ {A = ℕ × ℕ} (pointer .0, i + pointer .1) (bytesOn pointer n)
+points-on pointer {i} {n} e =
+    let z : i + pointer .1 ≡ pointer .1 + n = omega arith in
+    rw z

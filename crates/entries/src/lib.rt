@@ -4,7 +4,7 @@ ghost use Prim.Native.Nat.{_+_, _≤_, _<_};
 ghost use lib.ListN.{length};
 ghost use Rattle.reach.specs.Places.{wordAt};
 ghost use Rattle.reach.specs.Lists.{knownMark, entrySize, entrySpan, entryPart, roomOf};
-ghost use Rattle.entries.specs.Spans.{sizeOf, spanOf};
+ghost use Rattle.entries.specs.Spans.{sizeOf, spanOf, bytesOn, partPlace};
 use marks::is_mark;
 use marks::wide;
 
@@ -81,19 +81,16 @@ pub fn span_of(list: &[u8], number: usize) -> Span
 }
 
 // How many of so many bytes count.
-pub fn room(length: usize) -> usize
-    ensures { λ r. ⌜ r ≡ roomOf length ⌝ }
+pub fn room(size: usize) -> usize
+    ensures { λ r. ⌜ r ≡ roomOf size ⌝ }
 {
-    if LIST_LIMIT < length {
-        LIST_LIMIT
-    } else {
-        length
-    }
+    if LIST_LIMIT < size { LIST_LIMIT } else { size }
 }
 
-// The entry of a given number, counted from 0; else the empty part at the list's end.
+// The entry of a given number, counted from 0; else the empty part at the list's end. What is handed back points into the caller's list.
 pub fn entry(list: &[u8], number: usize) -> &[u8]
     ensures { λ r. ⌜ now r ≡ entryPart (now (list .entry)) number ⌝ }
+    ensures place { λ r. ⌜ r .ptr ≡ bytesOn (list .entry .ptr) (partPlace (now (list .entry)) number) ⌝ }
 {
     let end = room(list.len());
     let Span::At(at, n) = span_of(&list[..end], number) else {

@@ -98,7 +98,12 @@ counted n l = go (leb (length l) n) refl
 within-counted : (n : ℕ) (l : List ℕ) (k : ℕ) → partWithin n l k ≡ partWithin (min (length l) n) l k
 within-counted n l k = ap (λ (t : List ℕ). onSize [] (λ span. take (span .1) (drop (span .0) l)) (entrySpan t k 0)) (counted n l)
 
--- the part is found in the bytes that count
+-- the span of an entry is found in the bytes that count
+pub span-counted : (l : List ℕ) (k : ℕ) → entrySpan (take listLimit l) k 0 ≡ entrySpan (take (roomOf (length l)) l) k 0
+unfolding roomOf
+span-counted l k = ap (λ (t : List ℕ). entrySpan t k 0) (counted listLimit l)
+
+-- and so is its part
 pub part-counted : (l : List ℕ) (k : ℕ) → entryPart l k ≡ partWithin (roomOf (length l)) l k
 unfolding entryPart roomOf
 part-counted l k = within-counted listLimit l k

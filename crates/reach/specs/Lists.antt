@@ -45,7 +45,7 @@ cut room (e ∷ es) =
 
 -- of a list slice only the first 16,777,216 bytes count
 unfoldable pub roomOf : ℕ → ℕ
-roomOf length = min length listLimit
+roomOf size = min size listLimit
 
 -- a list slice with a list written to its front: the bytes after it are as before
 unfoldable pub written : List Entry → List ℕ → List ℕ

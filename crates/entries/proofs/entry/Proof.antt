@@ -4,7 +4,7 @@ use native.Mathlib.Omega.{arith}
 use lib.ListN.{length-take}
 use borrow.Author.Needs.{needs}
 use Rattle.reach.specs.Lists.{roomOf}
-use Rattle.entries.proofs.Walk.{part-none, part-inside, part-found}
+use Rattle.entries.proofs.Walk.{part-none, part-inside, part-found, place-none, place-found, points-on}
 use Rattle.entries.proofs.entry.Statement.{statement}
 use Rattle.entries.proofs.entry.Tie as tie
 
@@ -19,7 +19,9 @@ part-result-end c = search needs
 returns : tie.Need-returns
 returns c =
     let found = c .before .before .before in
-    part-none _ _ _ (found .before .before .room .ensures) (found .span-of .ensures) (c .before .enum-told .given .1)
+    let room = found .before .before .room .ensures in
+    let missing = c .before .enum-told .given .1 in
+    (part-none _ _ _ room (found .span-of .ensures) missing, points-on _ (place-none _ _ _ room (found .span-of .ensures) missing))
 
 add-stop : tie.Need-add-stop
 add-stop c =
@@ -34,7 +36,9 @@ part-result-end-2 c =
 returns-2 : tie.Need-returns-2
 returns-2 c =
     let found = c .before .before .before .before in
-    part-found _ _ _ (found .before .before .room .ensures) (found .span-of .ensures) (c .before .before .at .given .1)
+    let room = found .before .before .room .ensures in
+    let there = c .before .before .at .given .1 in
+    (part-found _ _ _ room (found .span-of .ensures) there, points-on _ (place-found _ _ _ room (found .span-of .ensures) there))
 
 pub entry-spec : {M : Type 1} → statement M
 entry-spec =

@@ -1,0 +1,132 @@
+-- What is read off the number of an answer is what the answer says: of every answer, whatever file and slices it comes from.
+-- Rests on specs/Packing and specs/Unpacking, and on entries' Demands (the part of an entry is as long as its span says).
+use Prim.Native.Nat.{ℕ, _+_, _*_, _≤_, _<_}
+use native.Mathlib.Omega.{arith}
+use mathlib.Core.Path.{_≡_, refl, sym, ap}
+use mathlib.Core.List.{List, [], flatMap}
+use mathlib.Core.Option.{Option, none, some, Option·none-ne-some, Option·some-injective}
+use lib.ListN.{length, take, drop}
+use Rattle.reach.specs.declared.Refusal.{Refusal}
+use Rattle.reach.specs.declared.Refusal.the-variants.{Truncated, UnexpectedMark, OutOfRange, UnknownNumber, UnknownCode, TypeMismatch, TrailingBytes, EmptyType, DepthTooSmall, BadInput, WorkTooShort, ListFull}
+use Rattle.reach.specs.declared.Outcome.{Outcome}
+use Rattle.reach.specs.declared.Outcome.the-variants.{Reached, Ended, Unfinished}
+use Rattle.reach.specs.declared.Verdict.{Verdict}
+use Rattle.reach.specs.declared.Verdict.the-variants.{Found, Undecided, None}
+use Rattle.reach.specs.Words.{numberOf, stepsOf}
+use Rattle.reach.specs.Limits.{listLimit}
+use Rattle.reach.specs.Search.{verdict}
+use Rattle.reach.specs.Lists.{listBytes, roomOf, onSize, entrySpan, entryPart}
+use Rattle.reach.specs.Answers.{Checked, accepted, turnedBack, SearchAnswer, noSearch, complete, cutShort, listed, refusalOf, verdictOf, RunAnswer, noRun, ran}
+use Rattle.entries.specs.Spans.{partPlace}
+use Rattle.entries.proofs.Demands.{found-within}
+use Rattle.remburai.specs.Packing.{verdictNumber, outcomeNumber, checkNumber, searchNumber, runNumber, partNumber}
+use Rattle.remburai.specs.Unpacking.{refusalBits, caseBits, countBits, placeBits, sizeBits, refusalNamed, verdictNamed, outcomeNamed, decodedCheck, checkRead, decodedSearch, searchRead, RunRead, decodedRun, runRead, decodedPart}
+
+-- The parts of a packed number are what was packed: each of the two lower ones fills a byte at most.
+pub record Parted (number low middle count : ℕ) : Type 0 where
+  pub low-is : refusalBits number ≡ low
+  pub middle-is : caseBits number ≡ middle
+  pub count-is : countBits number ≡ count
+
+parted : (number low middle count : ℕ) → low < 256 → middle < 256 → number ≡ low + 256 * middle + 65536 * count → Parted number low middle count
+parted number low middle count l m is = record { low-is = omega arith; middle-is = omega arith; count-is = omega arith }
+
+-- The number of a case fits a byte, and names that case.
+
+refusal-named : (why : Refusal) → (numberOf why < 256) × (refusalNamed (numberOf why) ≡ some why)
+unfolding refusalNamed
+refusal-named Truncated = (omega arith, refl)
+refusal-named UnexpectedMark = (omega arith, refl)
+refusal-named OutOfRange = (omega arith, refl)
+refusal-named UnknownNumber = (omega arith, refl)
+refusal-named UnknownCode = (omega arith, refl)
+refusal-named TypeMismatch = (omega arith, refl)
+refusal-named TrailingBytes = (omega arith, refl)
+refusal-named EmptyType = (omega arith, refl)
+refusal-named DepthTooSmall = (omega arith, refl)
+refusal-named BadInput = (omega arith, refl)
+refusal-named WorkTooShort = (omega arith, refl)
+refusal-named ListFull = (omega arith, refl)
+
+verdict-named : (v : Verdict) → (verdictNumber v < 256) × (verdictNamed (verdictNumber v) ≡ some v)
+unfolding verdictNamed
+verdict-named Found = (omega arith, refl)
+verdict-named Undecided = (omega arith, refl)
+verdict-named None = (omega arith, refl)
+
+outcome-named : (o : Outcome) → (outcomeNumber o < 256) × (outcomeNamed (outcomeNumber o) (stepsOf o) ≡ some o)
+unfolding outcomeNamed
+outcome-named (Reached n) = (omega arith, refl)
+outcome-named (Ended n) = (omega arith, refl)
+outcome-named (Unfinished n) = (omega arith, refl)
+
+-- 0 names none
+none-named : (refusalNamed 0 ≡ none) × (verdictNamed 0 ≡ none) × (outcomeNamed 0 0 ≡ none)
+unfolding refusalNamed verdictNamed outcomeNamed
+none-named = (refl, refl, refl)
+
+-- The number of each answer, taken apart.
+
+pub refused-parted : (why : Refusal) → Parted (numberOf why) (numberOf why) 0 0
+refused-parted why = parted (numberOf why) (numberOf why) 0 0 (refusal-named why .0) (omega arith) (omega arith)
+
+pub ran-parted : (o : Outcome) → Parted (runNumber (ran o)) 0 (outcomeNumber o) (stepsOf o)
+ran-parted o = parted (runNumber (ran o)) 0 (outcomeNumber o) (stepsOf o) (omega arith) (outcome-named o .0) (omega arith)
+
+pub check-reads : (a : Checked) → decodedCheck (checkNumber a) ≡ checkRead a
+check-reads (accepted p) = none-named .0
+check-reads (turnedBack why) = rw (refused-parted why .low-is) (refusal-named why .1)
+
+pub search-reads : (a : SearchAnswer) → decodedSearch (searchNumber a) ≡ searchRead a
+unfolding refusalOf verdictOf listed listBytes flatMap
+search-reads (noSearch why) =
+    let z = refused-parted why in
+    rw (z .low-is, z .middle-is, z .count-is, refusal-named why .1, none-named .1)
+search-reads (complete es) =
+    let v = verdict-named (verdict es) in
+    let z = parted (searchNumber (complete es)) 0 (verdictNumber (verdict es)) (length (listBytes es)) (omega arith) (v .0) (omega arith) in
+    rw (z .low-is, z .middle-is, z .count-is, none-named .0, v .1)
+search-reads (cutShort es) =
+    let z = parted (searchNumber (cutShort es)) (numberOf ListFull) 0 (length (listBytes es)) (omega arith) (omega arith) (omega arith) in
+    rw (z .low-is, z .middle-is, z .count-is, refusal-named ListFull .1, none-named .1)
+
+pub run-reads : (a : RunAnswer) → decodedRun (runNumber a) ≡ runRead a
+run-reads (noRun why) =
+    let z = refused-parted why in
+    rw (z .low-is, z .middle-is, z .count-is, refusal-named why .1, none-named .2)
+run-reads (ran o) =
+    let z = ran-parted o in
+    rw (z .low-is, z .middle-is, z .count-is, none-named .0, outcome-named o .1)
+
+-- what is read off a run's number is the whole answer
+pub read-one : (a b : RunAnswer) → runRead a ≡ runRead b → a ≡ b
+read-one (noRun x) (noRun y) is = ap noRun (Option·some-injective x y (ap (λ (t : RunRead). t .refusal) is))
+read-one (noRun x) (ran o) is = absurd (Option·none-ne-some x (sym (ap (λ (t : RunRead). t .refusal) is)))
+read-one (ran o) (noRun y) is = absurd (Option·none-ne-some y (ap (λ (t : RunRead). t .refusal) is))
+read-one (ran o) (ran u) is = ap ran (Option·some-injective o u (ap (λ (t : RunRead). t .outcome) is))
+
+module _ (l : List ℕ) (k : ℕ) where
+  -- of the number for a span, and of the part of the list that it is
+  abbrev Reads : Option (ℕ × ℕ) → Type 0
+  Reads span =
+      decodedPart (onSize (roomOf (length l)) (λ s. s .0 + 4294967296 * s .1) span)
+      ≡ (onSize (roomOf (length l)) (λ s. s .0) span, length (onSize [] (λ s. take (s .1) (drop (s .0) l)) span))
+
+  counted : roomOf (length l) ≤ listLimit
+  unfolding roomOf
+  counted = omega arith
+
+  reads : (span : Option (ℕ × ℕ)) → entrySpan (take listLimit l) k 0 ≡ span → Reads span
+  reads none there =
+      let place : placeBits (roomOf (length l)) ≡ roomOf (length l) = omega (arith, counted) in
+      let size : sizeBits (roomOf (length l)) ≡ 0 = omega (arith, counted) in
+      rw (place, size)
+  reads (some s) there =
+      let (within, long) = found-within l k (s .0) (s .1) there in
+      let place : placeBits (s .0 + 4294967296 * s .1) ≡ s .0 = omega (arith, within, counted) in
+      let size : sizeBits (s .0 + 4294967296 * s .1) ≡ s .1 = omega (arith, within, counted) in
+      rw (place, size, long)
+
+  pub part-reads : decodedPart (partNumber l k) ≡ (partPlace l k, length (entryPart l k))
+  unfolding partNumber partPlace entryPart
+  part-reads = reads (entrySpan (take listLimit l) k 0) refl

@@ -1,0 +1,90 @@
+-- What a caller in C reads off the number that a call answered with: the parts of an answer, as the functions at the end of include/remburai.h take
+-- them, and the cases that their numbers name there. And what the definition's answer says, for the theorems that the two are the same.
+-- Rests on reach's enums, Answers and Lists.
+use Prim.Native.Nat.{ℕ, _/_, _%_}
+use mathlib.Core.List.{List, [], _∷_}
+use mathlib.Core.Option.{Option, none, some}
+use lib.ListN.{length, getD}
+use Rattle.reach.specs.declared.Refusal.{Refusal}
+use Rattle.reach.specs.declared.Refusal.the-variants.{Truncated, UnexpectedMark, OutOfRange, UnknownNumber, UnknownCode, TypeMismatch, TrailingBytes, EmptyType, DepthTooSmall, BadInput, WorkTooShort, ListFull}
+use Rattle.reach.specs.declared.Outcome.{Outcome}
+use Rattle.reach.specs.declared.Outcome.the-variants.{Reached, Ended, Unfinished}
+use Rattle.reach.specs.declared.Verdict.{Verdict}
+use Rattle.reach.specs.declared.Verdict.the-variants.{Found, Undecided, None}
+use Rattle.reach.specs.Lists.{listBytes}
+use Rattle.reach.specs.Answers.{Checked, accepted, turnedBack, SearchAnswer, listed, refusalOf, verdictOf, RunAnswer, noRun, ran}
+
+-- The parts of a number.
+
+-- bits 0 to 7: remburai_refusal
+abbrev pub refusalBits : ℕ → ℕ
+refusalBits number = number % 256
+
+-- bits 8 to 15: remburai_verdict, remburai_outcome
+abbrev pub caseBits : ℕ → ℕ
+caseBits number = number / 256 % 256
+
+-- from bit 16 on: remburai_list_length, remburai_steps
+abbrev pub countBits : ℕ → ℕ
+countBits number = number / 65536
+
+-- bits 0 to 31: remburai_entry_place
+abbrev pub placeBits : ℕ → ℕ
+placeBits number = number % 4294967296
+
+-- from bit 32 on: remburai_entry_size
+abbrev pub sizeBits : ℕ → ℕ
+sizeBits number = number / 4294967296
+
+-- The cases that the numbers name. 0 is none, and so is a number that no case has.
+
+unfoldable pub refusalNamed : ℕ → Option Refusal
+refusalNamed n =
+    getD
+    (none ∷ some Truncated ∷ some UnexpectedMark ∷ some OutOfRange ∷ some UnknownNumber ∷ some UnknownCode ∷ some TypeMismatch ∷ some TrailingBytes ∷ some EmptyType ∷ some DepthTooSmall ∷ some BadInput ∷ some WorkTooShort ∷ some ListFull ∷ [])
+    n
+    none
+
+unfoldable pub verdictNamed : ℕ → Option Verdict
+verdictNamed n = getD (none ∷ some Found ∷ some Undecided ∷ some None ∷ []) n none
+
+-- an outcome has its steps
+unfoldable pub outcomeNamed : ℕ → ℕ → Option Outcome
+outcomeNamed n steps = getD (none ∷ some (Reached steps) ∷ some (Ended steps) ∷ some (Unfinished steps) ∷ []) n none
+
+-- The check: its refusal, if there is one.
+
+abbrev pub decodedCheck : ℕ → Option Refusal
+decodedCheck number = refusalNamed (refusalBits number)
+
+abbrev pub checkRead : Checked → Option Refusal
+checkRead (accepted p) = none
+checkRead (turnedBack why) = some why
+
+-- The search: its refusal and its verdict, if there is one, and the length of its list.
+pub record SearchRead : Type 0 where
+  pub refusal : Option Refusal
+  pub verdict : Option Verdict
+  pub bytes : ℕ
+
+abbrev pub decodedSearch : ℕ → SearchRead
+decodedSearch number = record { refusal = refusalNamed (refusalBits number); verdict = verdictNamed (caseBits number); bytes = countBits number }
+
+abbrev pub searchRead : SearchAnswer → SearchRead
+searchRead a = record { refusal = refusalOf a; verdict = verdictOf a; bytes = length (listBytes (listed a)) }
+
+-- The closed run: its refusal, or how it ended and its steps.
+pub record RunRead : Type 0 where
+  pub refusal : Option Refusal
+  pub outcome : Option Outcome
+
+abbrev pub decodedRun : ℕ → RunRead
+decodedRun number = record { refusal = refusalNamed (refusalBits number); outcome = outcomeNamed (caseBits number) (countBits number) }
+
+abbrev pub runRead : RunAnswer → RunRead
+runRead (noRun why) = record { refusal = some why; outcome = none }
+runRead (ran o) = record { refusal = none; outcome = some o }
+
+-- The part of an entry: its place and its size.
+abbrev pub decodedPart : ℕ → ℕ × ℕ
+decodedPart number = (placeBits number, sizeBits number)
