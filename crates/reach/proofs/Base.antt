@@ -47,6 +47,10 @@ pub each-member : {A : Type 0} (P : A → Type 0) {x : A} {xs : List A} → Each
 each-member P all (List·Memᴰ·head e) = subst P (sym e) (all .0)
 each-member P all (List·Memᴰ·tail m) = each-member P (all .1) m
 
+pub member-each : {A : Type 0} (P : A → Type 0) (xs : List A) → ((x : A) → x ∈ xs → P x) → Each P xs
+member-each P [] all = tt
+member-each P (x ∷ xs) all = (all x (List·Memᴰ·head refl), member-each P xs (λ y m. all y (List·Memᴰ·tail m)))
+
 -- and so of the one at a place, if it holds of what stands for none
 pub each-getD : {A : Type 0} (P : A → Type 0) (xs : List A) (i : ℕ) (d : A) → Each P xs → P d → P (getD xs i d)
 each-getD P [] i d all default = default

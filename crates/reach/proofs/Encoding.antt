@@ -459,7 +459,7 @@ module _ (o : Outline) (s : List ℕ) where
   function-of (k ∷ hs) (g ∷ gs) all zero h is = let z : k ≡ h = cc in (g, refl, subst (λ x. BodyAt o s x g) z (all .0))
   function-of (k ∷ hs) (g ∷ gs) all (suc f) h is = function-of hs gs (all .1) f h is
 
-  head-of : (hs : List Head) (gs : List Function) → Bodies hs gs → (f : ℕ) (g : Function) → getElem? gs f ≡ some g → (h : Head) × (getElem? hs f ≡ some h) × BodyAt o s h g
+  pub head-of : (hs : List Head) (gs : List Function) → Bodies hs gs → (f : ℕ) (g : Function) → getElem? gs f ≡ some g → (h : Head) × (getElem? hs f ≡ some h) × BodyAt o s h g
   head-of hs [] all f g is = absurd (clash (cc))
   head-of [] (k ∷ gs) all f g is = absurd all
   head-of (h ∷ hs) (k ∷ gs) all zero g is = let z : k ≡ g = cc in (h, refl, subst (λ x. BodyAt o s h x) z (all .0))

@@ -1,5 +1,6 @@
 -- What is proved of the definitions, each file behind those that it rests on. Demands is the one to read first.
 pub mod Base
+pub mod Tests
 pub mod Order
 pub mod Completing
 pub mod LeastDepths
@@ -9,16 +10,19 @@ pub mod Entries
 pub mod Cover
 pub mod Moves
 pub mod Limits
+pub mod Stages
 pub mod Refusals
 pub mod EntryLength
 pub mod Lists
 pub mod ClosedInputs
 pub mod Answers
 pub mod Places
+pub mod Numbers
 pub mod WellTyped
 pub mod NeverStuck
 pub mod Reached
 pub mod Encoding
+pub mod Conditions
 pub mod Accepted
 pub mod Demands
 pub mod ReadBack

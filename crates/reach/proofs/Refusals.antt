@@ -1,17 +1,17 @@
--- A file is turned back by 1 to 9 only: 01, "Turned back". Each reader says by which refusals it may end; what they say is joined along the reader's own
--- text.
+-- Which refusals each pass can give: 01, "Turned back". A file is turned back by 1 to 9 only. Each reader says by which refusals it may end; what they say
+-- is joined along the reader's own text.
 -- Rests on Reader, RuleFile, Words and Answers.
 use Prim.Native.Nat.{ℕ, zero, suc, pred, _+_, _≤_}
 use native.Mathlib.Omega.{arith}
-use mathlib.Core.Path.{_≡_, subst}
+use mathlib.Core.Path.{_≡_, refl, subst}
 use mathlib.Core.Bool.{Bool, true, false, _&&_}
-use mathlib.Core.List.{List, [], _∷_, _++_}
+use mathlib.Core.List.{List, [], _∷_, _++_, List·Memᴰ·head, List·Memᴰ·tail}
 use mathlib.Core.Option.{Option, none, some}
 use lib.ListN.{length, getD, getElem?, take}
 use lib.Dec.{ltb, leb, eqb}
 use Rattle.reach.specs.declared.Refusal.{Refusal}
-use Rattle.reach.specs.declared.Refusal.the-variants.{Truncated, OutOfRange, UnknownNumber, UnknownCode, TypeMismatch, TrailingBytes, EmptyType, DepthTooSmall}
-use Rattle.reach.specs.Base.{pick}
+use Rattle.reach.specs.declared.Refusal.the-variants.{Truncated, UnexpectedMark, OutOfRange, UnknownNumber, UnknownCode, TypeMismatch, TrailingBytes, EmptyType, DepthTooSmall}
+use Rattle.reach.specs.Base.{_∈_, pick, Each}
 use Rattle.reach.specs.Words.{numberOf}
 use Rattle.reach.specs.Limits.{fileLimit, typeLimit, constructorLimit, fieldLimit, functionLimit, parameterLimit, bodyLimit, depthLimit, stepLimit, viewLimit, nestingLimit}
 use Rattle.reach.specs.Syntax.{Program, fieldTypes}
@@ -21,244 +21,301 @@ use Rattle.reach.specs.RuleFile.{Mark, TY, FN, GO, other, onMark, mark, 
 use Rattle.reach.specs.RuleFile.{Below, operandsOf, alternatives, inLimits, variableExpr, callOf, callExpr, constructOf, constructExpr, caseOf, caseExpr, letExpr, targetExpr, expressionBy, expression}
 use Rattle.reach.specs.RuleFile.{bodyOf, functionsOf, numbersExist, programOf, noEmptyType, deepEnough, sizeInLimit, ruleFile}
 use Rattle.reach.specs.Answers.{accepted, turnedBack, check}
-use Rattle.reach.proofs.Base.{clash}
+use Rattle.reach.proofs.Base.{clash, picked, each-member}
 
--- a refusal, if it is one, is by 1 to 9
-abbrev IfRefused : {A : Type 0} → Got A → Type 0
-IfRefused (got a next) = Unit {0}
-IfRefused (refused why) = numberOf why ≤ 9
+-- a refusal, if it is one, is one of these
+abbrev IfRefused : {A : Type 0} → (Refusal → Type 0) → Got A → Type 0
+IfRefused P (got a next) = Unit {0}
+IfRefused P (refused why) = P why
 
--- whatever the reader looks at, it refuses by 1 to 9
-record Refuses {A : Type 0} (m : Reader A) : Type 0 where
-  met : (s : List ℕ) (i : ℕ) → IfRefused (m s i)
+-- whatever the reader looks at, it refuses by one of these only
+record Refuses {A : Type 0} (P : Refusal → Type 0) (m : Reader A) : Type 0 where
+  met : (s : List ℕ) (i : ℕ) → IfRefused P (m s i)
 
-giving : {A : Type 0} {a : A} → Refuses (give a)
-giving = record { met = λ s i. tt }
+module _ {P : Refusal → Type 0} where
+  giving : {A : Type 0} {a : A} → Refuses P (give a)
+  giving = record { met = λ s i. tt }
 
-refusing : {A : Type 0} {why : Refusal} → numberOf why ≤ 9 → Refuses {A = A} (refuse why)
-refusing low = record { met = λ s i. low }
+  refusing : {A : Type 0} {why : Refusal} → P why → Refuses {A = A} P (refuse why)
+  refusing one = record { met = λ s i. one }
 
--- a choice between two
-chosen : {A : Type 0} (test : Bool) (g k : Got A) → IfRefused g → IfRefused k → IfRefused (pick test g k)
-chosen true g k a b = a
-chosen false g k a b = b
+  -- a choice between two
+  choosing : {A : Type 0} (test : Bool) {m n : Reader A} → Refuses P m → Refuses P n → Refuses P (pick test m n)
+  choosing true a b = a
+  choosing false a b = b
 
-choosing : {A : Type 0} (test : Bool) {m n : Reader A} → Refuses m → Refuses n → Refuses (pick test m n)
-choosing true a b = a
-choosing false a b = b
+  demanding : (test : Bool) (why : Refusal) → P why → Refuses P (demand test why)
+  demanding test why one = record { met = λ s i. picked (IfRefused P) test (λ passes. tt) (λ fails. one) }
 
-demanding : (test : Bool) (why : Refusal) → numberOf why ≤ 9 → Refuses (demand test why)
-demanding test why low = record { met = λ s i. chosen test (got tt i) (refused why) tt low }
+  module _ {A B : Type 0} {m : Reader A} where
+    -- one reader and then another
+    then : {f : A → Reader B} → Refuses P m → ((a : A) → Refuses P (f a)) → Refuses P (m >>= f)
+    then {f} first second = record { met = λ s i. go s (m s i) (first .met s i) }
+      where
+        go : (s : List ℕ) (g : Got A) → IfRefused P g → IfRefused P (onGot {B = Got B} (λ a next. f a s next) (λ why. refused why) g)
+        go s (got a next) one = (second a) .met s next
+        go s (refused why) one = one
 
-module _ {A B : Type 0} {m : Reader A} where
-  -- one reader and then another
-  then : {f : A → Reader B} → Refuses m → ((a : A) → Refuses (f a)) → Refuses (m >>= f)
-  then {f} first second = record { met = λ s i. go s (m s i) (first .met s i) }
-    where
-      go : (s : List ℕ) (g : Got A) → IfRefused g → IfRefused (onGot {B = Got B} (λ a next. f a s next) (λ why. refused why) g)
-      go s (got a next) low = (second a) .met s next
-      go s (refused why) low = low
+    then-on : {f : Reader B} → Refuses P m → Refuses P f → Refuses P (m >> f)
+    then-on {f} first second = then {f = λ a. f} first (λ a. second)
 
-  then-on : {f : Reader B} → Refuses m → Refuses f → Refuses (m >> f)
-  then-on {f} first second = then {f = λ a. f} first (λ a. second)
+  -- The readers of bytes.
 
--- The readers of bytes.
+  byte-refuses : P Truncated → Refuses P byte
+  unfolding byte
+  byte-refuses one = record { met = λ s i. picked (IfRefused P) (ltb i (length s)) (λ more. tt) (λ none-left. one) }
 
-byte-refuses : Refuses byte
-unfolding byte
-byte-refuses = record { met = λ s i. chosen (ltb i (length s)) _ _ tt (omega arith) }
+  word-refuses : P Truncated → Refuses P word
+  unfolding word
+  word-refuses one = then (byte-refuses one) (λ low. then (byte-refuses one) (λ high. giving))
 
-word-refuses : Refuses word
-unfolding word
-word-refuses = then byte-refuses (λ low. then byte-refuses (λ high. giving))
+  times-refuses : {A : Type 0} {m : Reader A} (n : ℕ) → Refuses P m → Refuses P (times n m)
+  unfolding times
+  times-refuses zero each = giving
+  times-refuses (suc n) each = then each (λ a. then (times-refuses n each) (λ xs. giving))
 
-times-refuses : {A : Type 0} {m : Reader A} (n : ℕ) → Refuses m → Refuses (times n m)
-unfolding times
-times-refuses zero each = giving
-times-refuses (suc n) each = then each (λ a. then (times-refuses n each) (λ xs. giving))
+  passed-refuses : (n : ℕ) → P Truncated → Refuses P (passed n)
+  unfolding passed
+  passed-refuses n one = record { met = λ s i. picked (IfRefused P) (leb (i + n) (length s)) (λ enough. tt) (λ short. one) }
 
-passed-refuses : (n : ℕ) → Refuses (passed n)
-unfolding passed
-passed-refuses n = record { met = λ s i. chosen (leb (i + n) (length s)) (got i (i + n)) (refused Truncated) tt (omega arith) }
+  end-refuses : P TrailingBytes → Refuses P (atEnd TrailingBytes)
+  unfolding atEnd
+  end-refuses one = record { met = λ s i. picked (IfRefused P) (ltb i (length s)) (λ more. one) (λ none-left. tt) }
 
-end-refuses : Refuses (atEnd TrailingBytes)
-unfolding atEnd
-end-refuses = record { met = λ s i. chosen (ltb i (length s)) _ _ (omega arith) tt }
+-- what refuses by one of these refuses by one of those
+weakened : {A : Type 0} {P Q : Refusal → Type 0} {m : Reader A} → ((why : Refusal) → P why → Q why) → Refuses P m → Refuses Q m
+weakened {A} {P} {Q} {m} more whole = record { met = λ s i. go (m s i) (whole .met s i) }
+  where
+    go : (g : Got A) → IfRefused P g → IfRefused Q g
+    go (got a next) one = tt
+    go (refused why) one = more why one
 
--- The first pass.
+-- The first pass gives 1, 2, 3 and 7.
 
-mark-refuses : Refuses mark
+abbrev OfFirstPass : Refusal → Type 0
+OfFirstPass why = numberOf why ∈ (1 ∷ 2 ∷ 3 ∷ 7 ∷ [])
+
+first-short : OfFirstPass Truncated
+first-short = List·Memᴰ·head refl
+
+first-mark : OfFirstPass UnexpectedMark
+first-mark = List·Memᴰ·tail (List·Memᴰ·head refl)
+
+first-range : OfFirstPass OutOfRange
+first-range = List·Memᴰ·tail (List·Memᴰ·tail (List·Memᴰ·head refl))
+
+first-tail : OfFirstPass TrailingBytes
+first-tail = List·Memᴰ·tail (List·Memᴰ·tail (List·Memᴰ·tail (List·Memᴰ·head refl)))
+
+mark-refuses : Refuses OfFirstPass mark
 unfolding mark
-mark-refuses = then byte-refuses (λ a. then byte-refuses (λ b. giving))
+mark-refuses = then (byte-refuses first-short) (λ a. then (byte-refuses first-short) (λ b. giving))
 
-counted-refuses : (least most : ℕ) → Refuses (counted least most)
+counted-refuses : (least most : ℕ) → Refuses OfFirstPass (counted least most)
 unfolding counted
-counted-refuses least most = then byte-refuses (λ n. then-on (demanding (leb least n && leb n most) OutOfRange (omega arith)) giving)
+counted-refuses least most = then (byte-refuses first-short) (λ n. then-on (demanding (leb least n && leb n most) OutOfRange first-range) giving)
 
-type-refuses : Refuses typeRecord
+type-refuses : Refuses OfFirstPass typeRecord
 unfolding typeRecord constructorRecord
 type-refuses =
     then (counted-refuses 1 constructorLimit)
-    (λ n. times-refuses n (then (counted-refuses 0 fieldLimit) (λ k. times-refuses k byte-refuses)))
+    (λ n. times-refuses n (then (counted-refuses 0 fieldLimit) (λ k. times-refuses k (byte-refuses first-short))))
 
-head-refuses : Refuses functionRecord
+head-refuses : Refuses OfFirstPass functionRecord
 unfolding functionRecord
 head-refuses =
     then (counted-refuses 0 parameterLimit)
-    (λ n. then (times-refuses n byte-refuses)
-    (λ ps. then byte-refuses
-    (λ r. then word-refuses
-    (λ l. then-on (demanding (leb 1 l && leb l bodyLimit) OutOfRange (omega arith))
-    (then (passed-refuses l) (λ b. giving))))))
+    (λ n. then (times-refuses n (byte-refuses first-short))
+    (λ ps. then (byte-refuses first-short)
+    (λ r. then (word-refuses first-short)
+    (λ l. then-on (demanding (leb 1 l && leb l bodyLimit) OutOfRange first-range)
+    (then (passed-refuses l first-short) (λ b. giving))))))
 
-goal-refuses : Refuses goalRecord
+goal-refuses : Refuses OfFirstPass goalRecord
 unfolding goalRecord
 goal-refuses =
-    then byte-refuses
-    (λ f. then byte-refuses
+    then (byte-refuses first-short)
+    (λ f. then (byte-refuses first-short)
     (λ l. then (counted-refuses 1 depthLimit)
-    (λ d. then word-refuses
-    (λ s. then-on (demanding (leb s stepLimit) OutOfRange (omega arith)) giving))))
+    (λ d. then (word-refuses first-short)
+    (λ s. then-on (demanding (leb s stepLimit) OutOfRange first-range) giving))))
 
-marked : {A : Type 0} {ty fn go wrong : Reader A} → Refuses ty → Refuses fn → Refuses go → Refuses wrong → (m : Mark) → Refuses (onMark ty fn go wrong m)
+marked : {A : Type 0} {P : Refusal → Type 0} {ty fn go wrong : Reader A} → Refuses P ty → Refuses P fn → Refuses P go → Refuses P wrong
+    → (m : Mark) → Refuses P (onMark ty fn go wrong m)
 marked a b c d TY = a
 marked a b c d FN = b
 marked a b c d GO = c
 marked a b c d other = d
 
-types-refuse : (n : ℕ) → Refuses (moreTypes n)
+types-refuse : (n : ℕ) → Refuses OfFirstPass (moreTypes n)
 unfolding moreTypes
-types-refuse zero = then mark-refuses (λ m. marked (refusing (omega arith)) giving (refusing (omega arith)) (refusing (omega arith)) m)
+types-refuse zero = then mark-refuses (λ m. marked (refusing first-range) giving (refusing first-mark) (refusing first-mark) m)
 types-refuse (suc n) =
     then mark-refuses
-    (λ m. marked (then type-refuses (λ t. then (types-refuse n) (λ ts. giving))) giving (refusing (omega arith)) (refusing (omega arith)) m)
+    (λ m. marked (then type-refuses (λ t. then (types-refuse n) (λ ts. giving))) giving (refusing first-mark) (refusing first-mark) m)
 
-functions-refuse : (n : ℕ) → Refuses (moreFunctions n)
+functions-refuse : (n : ℕ) → Refuses OfFirstPass (moreFunctions n)
 unfolding moreFunctions
-functions-refuse zero = then mark-refuses (λ m. marked (refusing (omega arith)) (refusing (omega arith)) giving (refusing (omega arith)) m)
+functions-refuse zero = then mark-refuses (λ m. marked (refusing first-mark) (refusing first-range) giving (refusing first-mark) m)
 functions-refuse (suc n) =
     then mark-refuses
-    (λ m. marked (refusing (omega arith)) (then head-refuses (λ f. then (functions-refuse n) (λ fs. giving))) giving (refusing (omega arith)) m)
+    (λ m. marked (refusing first-mark) (then head-refuses (λ f. then (functions-refuse n) (λ fs. giving))) giving (refusing first-mark) m)
 
-outline-refuses : Refuses outline
+outline-refuses : Refuses OfFirstPass outline
 unfolding outline
 outline-refuses =
     then mark-refuses
-    (λ m. then (marked type-refuses (refusing (omega arith)) (refusing (omega arith)) (refusing (omega arith)) m)
+    (λ m. then (marked type-refuses (refusing first-mark) (refusing first-mark) (refusing first-mark) m)
     (λ t. then (types-refuse (pred typeLimit))
     (λ ts. then head-refuses
     (λ f. then (functions-refuse (pred functionLimit))
     (λ fs. then goal-refuses
-    (λ g. then-on end-refuses giving))))))
+    (λ g. then-on (end-refuses first-tail) giving))))))
 
--- The bodies.
+pub first-pass-gives : (file : List ℕ) (why : Refusal) → outline file 0 ≡ refused why → numberOf why ∈ (1 ∷ 2 ∷ 3 ∷ 7 ∷ [])
+first-pass-gives file why is = subst (IfRefused OfFirstPass) is (outline-refuses .met file 0)
+
+-- The bodies give 1 and 3 to 7.
+
+abbrev OfBody : Refusal → Type 0
+OfBody why = numberOf why ∈ (1 ∷ 3 ∷ 4 ∷ 5 ∷ 6 ∷ 7 ∷ [])
+
+body-short : OfBody Truncated
+body-short = List·Memᴰ·head refl
+
+body-range : OfBody OutOfRange
+body-range = List·Memᴰ·tail (List·Memᴰ·head refl)
+
+body-number : OfBody UnknownNumber
+body-number = List·Memᴰ·tail (List·Memᴰ·tail (List·Memᴰ·head refl))
+
+body-code : OfBody UnknownCode
+body-code = List·Memᴰ·tail (List·Memᴰ·tail (List·Memᴰ·tail (List·Memᴰ·head refl)))
+
+body-type : OfBody TypeMismatch
+body-type = List·Memᴰ·tail (List·Memᴰ·tail (List·Memᴰ·tail (List·Memᴰ·tail (List·Memᴰ·head refl))))
+
+body-tail : OfBody TrailingBytes
+body-tail = List·Memᴰ·tail (List·Memᴰ·tail (List·Memᴰ·tail (List·Memᴰ·tail (List·Memᴰ·tail (List·Memᴰ·head refl)))))
 
 -- a reader of expressions, for every view and type
 abbrev RefusesAll : Below → Type 0
-RefusesAll sub = (view : List ℕ) (t : ℕ) → Refuses (sub view t)
+RefusesAll sub = (view : List ℕ) (t : ℕ) → Refuses OfBody (sub view t)
 
-operands-refuse : (sub : Below) → RefusesAll sub → (view ts : List ℕ) → Refuses (operandsOf sub view ts)
+operands-refuse : (sub : Below) → RefusesAll sub → (view ts : List ℕ) → Refuses OfBody (operandsOf sub view ts)
 unfolding operandsOf
 operands-refuse sub below view [] = giving
 operands-refuse sub below view (t ∷ ts) = then (below view t) (λ e. then (operands-refuse sub below view ts) (λ es. giving))
 
-alternatives-refuse : (sub : Below) → RefusesAll sub → (view : List ℕ) (t : ℕ) (cs : List (List ℕ)) → Refuses (alternatives sub view t cs)
+alternatives-refuse : (sub : Below) → RefusesAll sub → (view : List ℕ) (t : ℕ) (cs : List (List ℕ)) → Refuses OfBody (alternatives sub view t cs)
 unfolding alternatives
 alternatives-refuse sub below view t [] = giving
 alternatives-refuse sub below view t (us ∷ cs) =
-    then byte-refuses
-    (λ b. then-on (demanding (leb b 1) UnknownCode (omega arith))
+    then (byte-refuses body-short)
+    (λ b. then-on (demanding (leb b 1) UnknownCode body-code)
     (choosing (eqb b 0) (then (alternatives-refuse sub below view t cs) (λ rest. giving))
     (then (below (view ++ us) t) (λ e. then (alternatives-refuse sub below view t cs) (λ rest. giving)))))
 
 module _ (o : Outline) (nested : Bool) (sub : Below) (below : RefusesAll sub) (view : List ℕ) (expected : ℕ) where
-  limits-refuse : Refuses (inLimits nested view)
-  limits-refuse = demanding (nested && leb (length view) viewLimit) OutOfRange (omega arith)
+  limits-refuse : Refuses OfBody (inLimits nested view)
+  limits-refuse = demanding (nested && leb (length view) viewLimit) OutOfRange body-range
 
-  variable-refuses : Refuses (variableExpr o nested sub view expected)
+  variable-refuses : Refuses OfBody (variableExpr o nested sub view expected)
   unfolding variableExpr
   variable-refuses =
-      then byte-refuses
-      (λ n. then-on (demanding (ltb n (length view)) UnknownNumber (omega arith))
+      then (byte-refuses body-short)
+      (λ n. then-on (demanding (ltb n (length view)) UnknownNumber body-number)
       (then-on limits-refuse
-      (then-on (demanding (eqb (getD view n 0) expected) TypeMismatch (omega arith)) giving)))
+      (then-on (demanding (eqb (getD view n 0) expected) TypeMismatch body-type) giving)))
 
-  call-refuses : (f : ℕ) (h : Option Head) → Refuses (callOf o nested sub view expected f h)
+  call-refuses : (f : ℕ) (h : Option Head) → Refuses OfBody (callOf o nested sub view expected f h)
   unfolding callOf
-  call-refuses f none = refusing (omega arith)
+  call-refuses f none = refusing body-number
   call-refuses f (some h) =
       then-on limits-refuse
-      (then-on (demanding (eqb (h .result) expected) TypeMismatch (omega arith))
+      (then-on (demanding (eqb (h .result) expected) TypeMismatch body-type)
       (then (operands-refuse sub below view (h .parameters)) (λ es. giving)))
 
-  construct-refuses : (t c : ℕ) (us : Option (List ℕ)) → Refuses (constructOf o nested sub view expected t c us)
+  construct-refuses : (t c : ℕ) (us : Option (List ℕ)) → Refuses OfBody (constructOf o nested sub view expected t c us)
   unfolding constructOf
-  construct-refuses t c none = refusing (omega arith)
+  construct-refuses t c none = refusing body-number
   construct-refuses t c (some us) =
       then-on limits-refuse
-      (then-on (demanding (eqb t expected) TypeMismatch (omega arith))
+      (then-on (demanding (eqb t expected) TypeMismatch body-type)
       (then (operands-refuse sub below view us) (λ es. giving)))
 
-  case-refuses : (t : ℕ) (cs : Option (List (List ℕ))) → Refuses (caseOf o nested sub view expected t cs)
+  case-refuses : (t : ℕ) (cs : Option (List (List ℕ))) → Refuses OfBody (caseOf o nested sub view expected t cs)
   unfolding caseOf
-  case-refuses t none = refusing (omega arith)
+  case-refuses t none = refusing body-number
   case-refuses t (some cs) =
       then-on limits-refuse
       (then (below view t)
       (λ e. then (alternatives-refuse sub below view expected cs) (λ alts. giving)))
 
-  let-refuses : Refuses (letExpr o nested sub view expected)
+  let-refuses : Refuses OfBody (letExpr o nested sub view expected)
   unfolding letExpr
   let-refuses =
-      then byte-refuses
-      (λ t. then-on (demanding (ltb t (length (o .types))) UnknownNumber (omega arith))
+      then (byte-refuses body-short)
+      (λ t. then-on (demanding (ltb t (length (o .types))) UnknownNumber body-number)
       (then-on limits-refuse
       (then (below view t) (λ e. then (below (view ++ (t ∷ [])) expected) (λ b. giving)))))
 
-  target-refuses : Refuses (targetExpr o nested sub view expected)
+  target-refuses : Refuses OfBody (targetExpr o nested sub view expected)
   unfolding targetExpr
-  target-refuses = then byte-refuses (λ l. then-on limits-refuse (then (below view expected) (λ e. giving)))
+  target-refuses = then (byte-refuses body-short) (λ l. then-on limits-refuse (then (below view expected) (λ e. giving)))
 
-  by-refuses : Refuses (expressionBy o nested sub view expected)
+  by-refuses : Refuses OfBody (expressionBy o nested sub view expected)
   unfolding expressionBy callExpr constructExpr caseExpr
   by-refuses =
-      then byte-refuses
-      (λ code. then-on (demanding (leb code 5) UnknownCode (omega arith))
+      then (byte-refuses body-short)
+      (λ code. then-on (demanding (leb code 5) UnknownCode body-code)
       (choosing (eqb code 0) variable-refuses
-      (choosing (eqb code 1) (then byte-refuses (λ f. call-refuses f (getElem? (o .heads) f)))
-      (choosing (eqb code 2) (then byte-refuses (λ t. then byte-refuses (λ c. construct-refuses t c (fieldTypes (o .types) t c))))
-      (choosing (eqb code 3) (then byte-refuses (λ t. case-refuses t (getElem? (o .types) t)))
+      (choosing (eqb code 1) (then (byte-refuses body-short) (λ f. call-refuses f (getElem? (o .heads) f)))
+      (choosing (eqb code 2)
+      (then (byte-refuses body-short) (λ t. then (byte-refuses body-short) (λ c. construct-refuses t c (fieldTypes (o .types) t c))))
+      (choosing (eqb code 3) (then (byte-refuses body-short) (λ t. case-refuses t (getElem? (o .types) t)))
       (choosing (eqb code 4) let-refuses target-refuses))))))
 
 expression-refuses : (o : Outline) (n : ℕ) → RefusesAll (expression o n)
 unfolding expression
-expression-refuses o zero view t = by-refuses o false (λ view t. refuse OutOfRange) (λ view t. refusing (omega arith)) view t
+expression-refuses o zero view t = by-refuses o false (λ view t. refuse OutOfRange) (λ view t. refusing body-range) view t
 expression-refuses o (suc n) view t = by-refuses o true (expression o n) (expression-refuses o n) view t
 
-body-refuses : (o : Outline) (h : Head) → Refuses (λ s here. bodyOf o h s)
+body-refuses : (o : Outline) (h : Head) → Refuses OfBody (λ s here. bodyOf o h s)
 unfolding bodyOf
 body-refuses o h =
-    let whole = then (expression-refuses o nestingLimit (h .parameters) (h .result)) (λ e. then-on end-refuses (giving {a = e})) in
+    let whole = then (expression-refuses o nestingLimit (h .parameters) (h .result)) (λ e. then-on (end-refuses body-tail) (giving {a = e})) in
     record { met = λ s i. whole .met (take (h .body + h .size) s) (h .body) }
 
-bodies-refuse : (o : Outline) (hs : List Head) → Refuses (functionsOf o hs)
+bodies-refuse : (o : Outline) (hs : List Head) → Refuses OfBody (functionsOf o hs)
 unfolding functionsOf
 bodies-refuse o [] = giving
 bodies-refuse o (h ∷ hs) = then (body-refuses o h) (λ e. then (bodies-refuse o hs) (λ fs. giving))
 
+pub body-gives : (o : Outline) (h : Head) (file : List ℕ) (why : Refusal) → bodyOf o h file ≡ refused why → numberOf why ∈ (1 ∷ 3 ∷ 4 ∷ 5 ∷ 6 ∷ 7 ∷ [])
+body-gives o h file why is = subst (IfRefused OfBody) is ((body-refuses o h) .met file 0)
+
 -- The file.
 
-size-refuses : Refuses sizeInLimit
-unfolding sizeInLimit
-size-refuses = record { met = λ s i. chosen (leb (length s) fileLimit) _ _ tt (omega arith) }
+-- a refusal of 1 to 9
+abbrev OfFile : Refusal → Type 0
+OfFile why = numberOf why ≤ 9
 
-file-refuses : Refuses ruleFile
+-- what a pass gives is of 1 to 9
+small : (ns : List ℕ) → Each (λ n. n ≤ 9) ns → (why : Refusal) → numberOf why ∈ ns → OfFile why
+small ns all why m = each-member (λ n. n ≤ 9) all m
+
+size-refuses : Refuses OfFile sizeInLimit
+unfolding sizeInLimit
+size-refuses = record { met = λ s i. picked (IfRefused OfFile) (leb (length s) fileLimit) (λ fits. tt) (λ long. omega arith) }
+
+file-refuses : Refuses OfFile ruleFile
 unfolding ruleFile
 file-refuses =
     then-on size-refuses
-    (then outline-refuses
+    (then (weakened (small _ (omega arith, (omega arith, (omega arith, (omega arith, tt))))) outline-refuses)
     (λ o. then-on (demanding (numbersExist o) UnknownNumber (omega arith))
-    (then (bodies-refuse o (o .heads))
+    (then (weakened (small _ (omega arith, (omega arith, (omega arith, (omega arith, (omega arith, (omega arith, tt))))))) (bodies-refuse o (o .heads)))
     (λ fs. then-on (demanding (noEmptyType (leastDepths (o .types))) EmptyType (omega arith))
     (then-on (demanding (deepEnough (programOf o fs)) DepthTooSmall (omega arith)) giving)))))
 
@@ -267,6 +324,6 @@ pub turned-back-by : (file : List ℕ) (why : Refusal) → check file ≡ turned
 unfolding check
 turned-back-by file why = go (ruleFile file 0) (file-refuses .met file 0)
   where
-    go : (g : Got Program) → IfRefused g → onGot (λ p next. accepted p) turnedBack g ≡ turnedBack why → numberOf why ≤ 9
+    go : (g : Got Program) → IfRefused OfFile g → onGot (λ p next. accepted p) turnedBack g ≡ turnedBack why → numberOf why ≤ 9
     go (got p next) low is = absurd (clash (cc))
-    go (refused by) low is = let z : by ≡ why = cc in subst (λ (w : Refusal). numberOf w ≤ 9) z low
+    go (refused by) low is = let z : by ≡ why = cc in subst OfFile z low

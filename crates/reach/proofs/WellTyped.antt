@@ -1,9 +1,9 @@
 -- Accepted files are well typed: in an accepted program every number names something, and every function's body has the result type, with
 -- the parameters in view.
--- Rests on specs/Typing, on Reader, RuleFile and Answers, and on IfFound of Limits.
+-- Rests on specs/Typing, on Reader, RuleFile and Answers, on IfFound of Limits, and on Numbers for the second pass.
 use Prim.Native.Nat.{ℕ, zero, suc, _+_, _<_, suc-le-suc, zero-le}
 use mathlib.Core.Path.{_≡_, refl, sym, _∙_, ap, subst}
-use mathlib.Core.Bool.{Bool, true, false, _&&_, and-eq-true-iff}
+use mathlib.Core.Bool.{Bool, true, false}
 use mathlib.Core.List.{List, [], _∷_, _++_, map}
 use mathlib.Core.Option.{Option, none, some}
 use lib.ListN.{length, getD, getElem?, take, length-map}
@@ -19,10 +19,12 @@ use Rattle.reach.specs.Limits.{nestingLimit}
 use Rattle.reach.specs.Syntax.{Expr, Types, Function, Program, fieldTypes, functionAt}
 use Rattle.reach.specs.Types.{leastDepths}
 use Rattle.reach.specs.Reader.{Got, got, refused, onGot, Reader, demand, byte, atEnd}
-use Rattle.reach.specs.RuleFile.{Head, Outline, outline, allBelow, constructorsExist, typesExist, headsExist, numbersExist, Below, operandsOf, alternatives, inLimits, variableExpr, callOf, callExpr, constructOf, constructExpr, caseOf, caseExpr, letExpr, targetExpr, expressionBy, expression, bodyOf, functionsOf, programOf, noEmptyType, deepEnough, sizeInLimit, ruleFile}
+use Rattle.reach.specs.RuleFile.{Head, Outline, outline, numbersExist, Below, operandsOf, alternatives, inLimits, variableExpr, callOf, callExpr, constructOf, constructExpr, caseOf, caseExpr, letExpr, targetExpr, expressionBy, expression, bodyOf, functionsOf, programOf, noEmptyType, deepEnough, sizeInLimit, ruleFile}
 use Rattle.reach.specs.Answers.{accepted, turnedBack, check}
-use Rattle.reach.proofs.Base.{clash}
+use Rattle.reach.specs.Conditions.{of-field, of-parameter, of-result}
+use Rattle.reach.proofs.Base.{clash, member-each}
 use Rattle.reach.proofs.Limits.{IfFound, if-found-then}
+use Rattle.reach.proofs.Numbers.{numbers-exist-exactly}
 
 -- What stands at a number of a list.
 
@@ -191,56 +193,20 @@ module _ (o : Outline) where
 
 -- The second pass.
 
--- where a test of a whole list tests each element, what the element's test says holds of each
-tested-each :
-    {A : Type 0} (P : A → Type 0) (test : A → Bool) (all : List A → Bool) → ((x : A) (xs : List A) → all (x ∷ xs) ≡ (test x && all xs))
-    → ((x : A) → test x ≡ true → P x) → (xs : List A) → all xs ≡ true → Each P xs
-tested-each P test all step fact [] h = tt
-tested-each P test all step fact (x ∷ xs) h =
-    let both = (and-eq-true-iff (test x) (all xs)) .0 (sym (step x xs) ∙ h) in
-    (fact x (both .0), tested-each P test all step fact xs (both .1))
-
 -- the types that a head names exist
 abbrev HeadExists : Types → Head → Type 0
 HeadExists types h = Each (Exists types) (h .parameters) × Exists types (h .result)
-
-module _ (types : Types) where
-  row-exists : (us : List ℕ) → allBelow (length types) us ≡ true → Each (Exists types) us
-  unfolding allBelow
-  row-exists = tested-each (Exists types) (λ t. ltb t (length types)) (allBelow (length types)) (λ t ts. refl) (λ t. ltb-true t (length types))
-
-  type-exists : (cs : List (List ℕ)) → constructorsExist (length types) cs ≡ true → Each (Each (Exists types)) cs
-  unfolding constructorsExist
-  type-exists = tested-each (Each (Exists types)) (allBelow (length types)) (constructorsExist (length types)) (λ us cs. refl) row-exists
-
-  types-exist : (ts : Types) → typesExist (length types) ts ≡ true → Each (Each (Each (Exists types))) ts
-  unfolding typesExist
-  types-exist = tested-each (Each (Each (Exists types))) (constructorsExist (length types)) (typesExist (length types)) (λ cs ts. refl) type-exists
-
-  heads-exist : (hs : List Head) → headsExist (length types) hs ≡ true → Each (HeadExists types) hs
-  unfolding headsExist
-  heads-exist = tested-each (HeadExists types) test (headsExist (length types)) (λ h hs. refl) one
-    where
-      test : Head → Bool
-      test h = allBelow (length types) (h .parameters) && ltb (h .result) (length types)
-
-      one : (h : Head) → test h ≡ true → HeadExists types h
-      one h t =
-          let both = (and-eq-true-iff (allBelow (length types) (h .parameters)) (ltb (h .result) (length types))) .0 t in
-          (row-exists (h .parameters) (both .0), ltb-true (h .result) (length types) (both .1))
 
 -- the types that TY and the heads name exist, and the source exists
 numbers-exist :
     (o : Outline) → numbersExist o ≡ true
     → Each (Each (Each (Exists (o .types)))) (o .types) × Each (HeadExists (o .types)) (o .heads) × (o .goal .source < length (o .heads))
-unfolding numbersExist
 numbers-exist o h =
-    let both = (and-eq-true-iff (typesExist n (o .types) && headsExist n (o .heads)) (ltb (o .goal .source) (length (o .heads)))) .0 h in
-    let types = (and-eq-true-iff (typesExist n (o .types)) (headsExist n (o .heads))) .0 (both .0) in
-    (types-exist (o .types) (o .types) (types .0), heads-exist (o .types) (o .heads) (types .1), ltb-true (o .goal .source) (length (o .heads)) (both .1))
-  where
-    n : ℕ
-    n = length (o .types)
+    let (exist, source) = (numbers-exist-exactly o) .0 h in (
+      member-each _ (o .types) (λ cs m. member-each _ cs (λ us k. member-each _ us (λ t l. exist t (of-field cs us m k l)))),
+      member-each _ (o .heads) (λ f m. (member-each _ (f .parameters) (λ t l. exist t (of-parameter f m l)), exist (f .result) (of-result f m refl))),
+      source,
+    )
 
 -- The whole file.
 

@@ -9,6 +9,7 @@ pub mod Moves
 pub mod Limits
 pub mod Reader
 pub mod RuleFile
+pub mod Conditions
 pub mod Input
 pub mod Lists
 pub mod Answers

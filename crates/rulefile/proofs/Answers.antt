@@ -1,5 +1,5 @@
 -- The answers of src/lib.rt, from what their calls ensure: each refusal is the check's, and an accepted file's tables are those of its program.
--- Rests on Stages for the order of the tests, and on Passes and Tabled for what the passes leave.
+-- Rests on reach's Stages for the order of the tests, and on Passes and Tabled for what the passes leave.
 use Prim.Native.Nat.{ℕ, _≤_}
 use mathlib.Core.Path.{_≡_, refl, sym, _∙_, ap}
 use mathlib.Core.Bool.{Bool, true, false, not}
@@ -25,8 +25,9 @@ use Rattle.depths.proofs.Rounds.{least-front}
 use Rattle.rulefile.specs.declared.Checked.{Checked}
 use Rattle.rulefile.specs.declared.Checked.the-variants as Checked
 use Rattle.rulefile.specs.declared.Loaded.{Loaded}
-use Rattle.rulefile.specs.Loading.{checkedOf, typesIn, functionsIn, Outlines, Reads, sourceShallow, LoadsAs}
-use Rattle.rulefile.proofs.Stages.{numbers-refused, bodies-refused, empty-refused, depth-refused, file-accepted}
+use Rattle.rulefile.specs.Answering.{checkedOf}
+use Rattle.rulefile.specs.Loading.{typesIn, functionsIn, Outlines, Reads, sourceShallow, LoadsAs}
+use Rattle.reach.proofs.Stages.{numbers-refused, bodies-refused, empty-refused, depth-refused, file-accepted}
 use Rattle.rulefile.proofs.Passes as Passes
 use Rattle.rulefile.proofs.Tabled.{depth-tested}
 

@@ -1,4 +1,4 @@
-pub mod Stages
 pub mod Passes
 pub mod Tabled
 pub mod Answers
+pub mod Demands

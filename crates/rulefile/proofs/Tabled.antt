@@ -1,20 +1,18 @@
 -- What the tables of places that passed say of the program: its types, its functions and their bodies, its goal, and the parameters of its
 -- source. For the test of depth, and for whoever goes on with a loaded file.
--- Rests on Loading of specs/, on reach's Encoding for the bodies, and on depths' Padded.
+-- Rests on Loading of specs/, on reach's Encoding for the bodies and Numbers for the source, and on depths' Padded.
 use Prim.Native.Nat.{ℕ, zero, suc, _+_, _<_, _≤_}
 use mathlib.Core.Path.{_≡_, refl, sym, _∙_, ap}
-use mathlib.Core.Bool.{true, _&&_, and-eq-true-iff}
 use mathlib.Core.List.{List, [], _∷_, map}
 use mathlib.Core.Option.{none, some}
 use lib.ListN.{length, getD, getElem?, length-map}
-use lib.Dec.{ltb}
-use borrow.Author.Tests.{ltb-true}
 use native.Mathlib.Omega.{arith}
 use Rattle.reach.specs.Syntax.{Function, Program, functionAt, sourceTypes}
 use Rattle.reach.specs.Types.{leastDepths}
-use Rattle.reach.specs.RuleFile.{Head, Outline, typesExist, headsExist, numbersExist, programOf, deepEnough}
+use Rattle.reach.specs.RuleFile.{Head, Outline, programOf, deepEnough}
 use Rattle.reach.specs.Places.{typeAt, headAt, goalAt, outlineAt}
 use Rattle.reach.proofs.Base.{clash}
+use Rattle.reach.proofs.Numbers.{numbers-exist-exactly}
 use Rattle.reach.proofs.Encoding.{BodyAt, Bodies, function-of, bodies-are}
 use Rattle.lookups.proofs.Tables.{found, missing}
 use Rattle.depths.specs.Table.{padded}
@@ -38,13 +36,8 @@ module _ {s types functions : List ℕ} {goal : ℕ} {fs : List Function} (passe
 
   -- the source is one of the functions
   pub source-there : (goalAt s goal) .source < length functions
-  unfolding outlineAt numbersExist
-  source-there =
-      let n = length (map (typeAt s) types) in
-      let m = length (map (headAt s) functions) in
-      let both = and-eq-true-iff (typesExist n (map (typeAt s) types) && headsExist n (map (headAt s) functions)) (ltb ((goalAt s goal) .source) m) in
-      let below = ltb-true ((goalAt s goal) .source) m ((both .0 (passed .exist)) .1) in
-      omega (arith, length-map functions (headAt s))
+  unfolding outlineAt
+  source-there = omega (arith, (numbers-exist-exactly whole .0 (passed .exist)) .1, length-map functions (headAt s))
 
   all-bodies : Bodies whole s (whole .heads) fs
   all-bodies = bodies-are s whole (passed .behind) (passed .read) (passed .behind) fs (passed .end) (passed .bodies)

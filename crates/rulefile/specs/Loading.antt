@@ -1,4 +1,4 @@
--- What the check answers and what a loaded file holds, in terms of reach's `check`.
+-- What a loaded file holds, in terms of reach's `check`.
 -- Rests on reach's Answers, RuleFile, Places, on depths' Table and on the types of src/lib.rt.
 use Prim.Native.Nat.{ℕ, _+_, _≤_}
 use mathlib.Core.Path.{_≡_}
@@ -17,11 +17,7 @@ use Rattle.depths.specs.Table.{padded}
 use Rattle.rulefile.specs.declared.Checked.{Checked}
 use Rattle.rulefile.specs.declared.Checked.the-variants.{Accepted, Refused}
 use Rattle.rulefile.specs.declared.Loaded.{Loaded}
-
--- the answer of the check, as the enum shows it
-abbrev pub checkedOf : Answers.Checked → Checked
-checkedOf (Answers.accepted p) = Accepted
-checkedOf (Answers.turnedBack why) = Refused why
+pub use Rattle.rulefile.specs.Answering.{checkedOf}
 
 -- Tables of places as the three passes leave them: each pass over the records that stand there found nothing.
 pub record Passed (s types functions : List ℕ) (goal : ℕ) (fs : List Function) : Type 0 where

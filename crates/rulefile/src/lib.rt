@@ -5,9 +5,9 @@ ghost use mathlib.Core.Path.{_≡_};
 ghost use Prim.Native.Nat.{_+_, _≤_};
 ghost use lib.ListN.{getD};
 ghost use Rattle.reach.specs.Places.{goalAt};
-ghost use Rattle.reach.specs.Answers;
 ghost use Rattle.reach.specs.Words.{numberOf};
-ghost use Rattle.rulefile.specs.Loading.{checkedOf, Outlines, Reads, Loads, sourceShallow};
+ghost use Rattle.rulefile.specs.Answering.{Promised};
+ghost use Rattle.rulefile.specs.Loading.{Outlines, Reads, Loads, sourceShallow};
 use bodies::bodies;
 use depths::Depths;
 use depths::all_shallow;
@@ -147,7 +147,7 @@ pub fn load(file: &[u8]) -> Loaded
 }
 
 pub fn check(file: &[u8]) -> Checked
-    ensures { λ r. ⌜ r ≡ checkedOf (Rattle.reach.specs.Answers.check (now (file .entry))) ⌝ }
+    ensures { λ r. ⌜ Promised (now (file .entry)) r ⌝ }
 {
     let loaded = load(file);
     loaded.answer

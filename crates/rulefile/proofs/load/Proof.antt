@@ -1,7 +1,7 @@
 -- `rulefile::load` meets its contract: the size of the file, then the first pass.
--- Rests on Stages and Answers.
+-- Rests on reach's Stages and on Answers.
 use borrow.Author.Needs.{needs}
-use Rattle.rulefile.proofs.Stages.{size-refused, outline-refused}
+use Rattle.reach.proofs.Stages.{size-refused, outline-refused}
 use Rattle.rulefile.proofs.Answers.{outlines}
 use Rattle.rulefile.proofs.load.Statement.{statement}
 use Rattle.rulefile.proofs.load.Tie as tie

@@ -1,20 +1,20 @@
 -- The check of a file by its stages, in their order: size, first pass, numbers, bodies, types without a closed value, depth. Each stage
 -- refuses the file, or leaves what the next one goes on with.
--- Rests on reach's RuleFile and Answers.
+-- Rests on RuleFile and Answers of specs/.
 use Prim.Native.Nat.{ℕ, _≤_, _<_}
 use mathlib.Core.Path.{_≡_}
 use mathlib.Core.Bool.{true, false}
 use mathlib.Core.List.{List}
 use lib.ListN.{length}
 use borrow.Author.Tests.{le-leb, lt-leb}
 use Rattle.reach.specs.declared.Refusal.{Refusal}
 use Rattle.reach.specs.declared.Refusal.the-variants.{OutOfRange, UnknownNumber, EmptyType, DepthTooSmall}
 use Rattle.reach.specs.Limits.{fileLimit}
 use Rattle.reach.specs.Syntax.{Function}
 use Rattle.reach.specs.Types.{leastDepths}
 use Rattle.reach.specs.Reader.{got, refused}
 use Rattle.reach.specs.RuleFile.{Outline, outline, numbersExist, functionsOf, programOf, noEmptyType, deepEnough, sizeInLimit, ruleFile}
 use Rattle.reach.specs.Answers.{accepted, turnedBack, check}
 
 module _ (s : List ℕ) where
   pub size-refused : fileLimit < length s → check s ≡ turnedBack OutOfRange

@@ -1,0 +1,107 @@
+-- The condition of each answer of the check, test by test, in the order of 01, "Turned back". `ruleFile` computes the answer; here each condition says for
+-- itself which tests were passed before and which one was not, in terms of members, closed values and least depths, where `ruleFile` walks lists and fills a
+-- table. That the answers are given under exactly these conditions is proved in proofs/Conditions.
+-- Rests on RuleFile for the readers of the first pass and of a body, and on Types for closed values.
+use Prim.Native.Nat.{ℕ, _≤_, _<_}
+use mathlib.Core.Path.{_≡_}
+use mathlib.Core.Logic.{_⊎_}
+use mathlib.Core.List.{List, _∷_, _++_}
+use mathlib.Core.Option.{some}
+use lib.ListN.{length, getElem?}
+use Rattle.reach.specs.declared.Refusal.{Refusal}
+use Rattle.reach.specs.declared.Refusal.the-variants.{OutOfRange, UnknownNumber, EmptyType, DepthTooSmall}
+use Rattle.reach.specs.Base.{_∈_}
+use Rattle.reach.specs.Limits.{fileLimit}
+use Rattle.reach.specs.Syntax.{Expr}
+use Rattle.reach.specs.Parts.{Parts}
+use Rattle.reach.specs.Types.{ValueOf, LeastDepth}
+use Rattle.reach.specs.Reader.{got, refused}
+use Rattle.reach.specs.RuleFile.{Head, Outline, outline, bodyOf}
+
+-- 01: "File size is tested first." Refusal 3: "file size [..] is beyond its limit".
+abbrev pub FileTooLong : List ℕ → Type 0
+FileTooLong file = fileLimit < length file
+
+-- 01: "A first pass takes marks, counts, lengths, D and S through the whole file, skipping bodies, then the tail." It leaves an outline of the file, or it
+-- refuses.
+abbrev pub FirstPassFinds : List ℕ → Outline → Type 0
+FirstPassFinds file o = (length file ≤ fileLimit) × ((behind : ℕ) × (outline file 0 ≡ got o behind))
+
+abbrev pub FirstPassRefuses : List ℕ → Refusal → Type 0
+FirstPassRefuses file why = (length file ≤ fileLimit) × (outline file 0 ≡ refused why)
+
+-- 01: "A second takes type and function numbers in TY, FN heads and GO." A type number that stands in a TY record or in the head of an FN record: the type
+-- of a field, of a parameter or of a result.
+pub data TypeNumber (o : Outline) (t : ℕ) : Type 0 where
+  of-field : (constructors : List (List ℕ)) (fields : List ℕ) → constructors ∈ o .types → fields ∈ constructors → t ∈ fields → TypeNumber o t
+  of-parameter : (h : Head) → h ∈ o .heads → t ∈ h .parameters → TypeNumber o t
+  of-result : (h : Head) → h ∈ o .heads → t ≡ h .result → TypeNumber o t
+
+-- the types are numbered from 0 on, and so are the functions, of which the goal names one
+abbrev pub AllNumbersExist : Outline → Type 0
+AllNumbersExist o = ((t : ℕ) → TypeNumber o t → t < length (o .types)) × (o .goal .source < length (o .heads))
+
+-- Refusal 4: "a type, constructor, function or variable number does not exist".
+abbrev pub SomeNumberMissing : Outline → Type 0
+SomeNumberMissing o = ((t : ℕ) × TypeNumber o t × (length (o .types) ≤ t)) ⊎ (length (o .heads) ≤ o .goal .source)
+
+abbrev pub SecondPassRefuses : List ℕ → Type 0
+SecondPassRefuses file = (o : Outline) × FirstPassFinds file o × SomeNumberMissing o
+
+-- 01: "A third takes bodies in file order, each followed by its tail". The body of this head is read, with nothing behind its expression.
+abbrev pub BodyReads : List ℕ → Outline → Head → Type 0
+BodyReads file o h = (e : Expr) × (behind : ℕ) × (bodyOf o h file ≡ got e behind)
+
+abbrev pub AllBodiesRead : List ℕ → Outline → Type 0
+AllBodiesRead file o = (h : Head) → h ∈ o .heads → BodyReads file o h
+
+-- some body is refused, and all before it in the file are read
+abbrev pub SomeBodyRefused : List ℕ → Outline → Refusal → Type 0
+SomeBodyRefused file o why =
+    (before : List Head) × (h : Head) × (after : List Head) × (o .heads ≡ before ++ (h ∷ after)) × ((k : Head) → k ∈ before → BodyReads file o k)
+    × (bodyOf o h file ≡ refused why)
+
+abbrev pub ThirdPassRefuses : List ℕ → Refusal → Type 0
+ThirdPassRefuses file why = (o : Outline) × FirstPassFinds file o × AllNumbersExist o × SomeBodyRefused file o why
+
+-- All three passes found nothing.
+pub record Passes (file : List ℕ) (o : Outline) : Type 0 where
+  pub outlined : FirstPassFinds file o
+  pub numbers : AllNumbersExist o
+  pub bodies : AllBodiesRead file o
+
+-- 01: "After them 8, 9". Refusal 8: "a type has no closed value".
+abbrev pub AllTypesInhabited : Outline → Type 0
+AllTypesInhabited o = (t : ℕ) → t < length (o .types) → (v : Parts) × ValueOf (o .types) t v
+
+abbrev pub SomeTypeEmpty : Outline → Type 0
+SomeTypeEmpty o = (t : ℕ) × (t < length (o .types)) × ((v : Parts) → ¬ ValueOf (o .types) t v)
+
+abbrev pub Hollow : List ℕ → Type 0
+Hollow file = (o : Outline) × Passes file o × SomeTypeEmpty o
+
+-- Refusal 9: "a source parameter's least depth exceeds D". The type of a parameter of the source.
+abbrev pub SourceParameter : Outline → ℕ → Type 0
+SourceParameter o t = (h : Head) × (getElem? (o .heads) (o .goal .source) ≡ some h) × (t ∈ h .parameters)
+
+abbrev pub AllParametersFit : Outline → Type 0
+AllParametersFit o = (t : ℕ) → SourceParameter o t → (d : ℕ) × LeastDepth (o .types) t d × (d ≤ o .goal .depth)
+
+abbrev pub SomeParameterTooDeep : Outline → Type 0
+SomeParameterTooDeep o = (t : ℕ) × SourceParameter o t × ((d : ℕ) × LeastDepth (o .types) t d × (o .goal .depth < d))
+
+abbrev pub Shallow : List ℕ → Type 0
+Shallow file = (o : Outline) × Passes file o × AllTypesInhabited o × SomeParameterTooDeep o
+
+-- A file that passes every test.
+abbrev pub Acceptable : List ℕ → Type 0
+Acceptable file = (o : Outline) × Passes file o × AllTypesInhabited o × AllParametersFit o
+
+-- The test that turns a file back, with the refusal that it gives.
+pub data RefusedBy (file : List ℕ) (why : Refusal) : Type 0 where
+  by-size : why ≡ OutOfRange → FileTooLong file → RefusedBy file why
+  by-first-pass : FirstPassRefuses file why → RefusedBy file why
+  by-second-pass : why ≡ UnknownNumber → SecondPassRefuses file → RefusedBy file why
+  by-third-pass : ThirdPassRefuses file why → RefusedBy file why
+  by-empty-type : why ≡ EmptyType → Hollow file → RefusedBy file why
+  by-depth : why ≡ DepthTooSmall → Shallow file → RefusedBy file why

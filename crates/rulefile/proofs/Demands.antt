@@ -1,0 +1,111 @@
+-- The demands of the request, said of the call `check`. A reviewer reads this file with the contract in src/lib.rt: the sentence that a theorem answers stands
+-- above it, and its statement uses definitions of specs/ only: `Passes`, `FirstPassRefuses`, `RefusedBy` and the like are those of reach's Conditions.
+-- `Promised file r` is the contract: the call answered r. Nothing is asked of the file.
+-- That each call stops and touches nothing outside its buffers is what the check proves of every function. The same of the calls `search` and `run` stands in
+-- the Demands of crates search and closed.
+-- Rests on reach's Conditions and Refusals.
+use Prim.Native.Nat.{ℕ, _≤_, _<_}
+use native.Mathlib.Omega.{arith}
+use mathlib.Core.Path.{_≡_, refl, ap}
+use mathlib.Core.Logic.{_⊎_, _↔_, Iff·trans}
+use mathlib.Core.List.{List, [], _∷_}
+use lib.ListN.{length}
+use Rattle.reach.specs.declared.Refusal.{Refusal}
+use Rattle.reach.specs.declared.Refusal.the-variants.{Truncated, UnexpectedMark, OutOfRange, UnknownNumber, UnknownCode, TypeMismatch, TrailingBytes, EmptyType, DepthTooSmall}
+use Rattle.reach.specs.Base.{_∈_}
+use Rattle.reach.specs.Words.{numberOf}
+use Rattle.reach.specs.Limits.{fileLimit}
+use Rattle.reach.specs.Syntax.{Program}
+use Rattle.reach.specs.Parts.{Parts}
+use Rattle.reach.specs.Types.{ValueOf, LeastDepth}
+use Rattle.reach.specs.RuleFile.{Outline}
+use Rattle.reach.specs.Answers as Answers
+use Rattle.reach.specs.Conditions.{FirstPassRefuses, SecondPassRefuses, ThirdPassRefuses, Passes, SourceParameter, RefusedBy}
+use Rattle.reach.proofs.Base.{clash}
+use Rattle.reach.proofs.Refusals.{turned-back-by}
+use Rattle.reach.proofs.Conditions as Conditions
+use Rattle.rulefile.specs.declared.Checked.{Checked}
+use Rattle.rulefile.specs.declared.Checked.the-variants as Checked
+use Rattle.rulefile.specs.Answering.{checkedOf, Promised}
+
+-- what the enum shows of the definition's answer
+accepted-shows : (c : Answers.Checked) → (checkedOf c ≡ Checked.Accepted) ↔ ((p : Program) × (c ≡ Answers.accepted p))
+accepted-shows (Answers.accepted p) = (λ is. (p, refl), λ h. refl)
+accepted-shows (Answers.turnedBack why) = (λ is. absurd (clash (cc)), λ h. absurd (clash (cc (h .1))))
+
+refused-shows : (c : Answers.Checked) (why : Refusal) → (checkedOf c ≡ Checked.Refused why) ↔ (c ≡ Answers.turnedBack why)
+refused-shows (Answers.accepted p) why = (λ is. absurd (clash (cc)), λ is. absurd (clash (cc)))
+refused-shows (Answers.turnedBack by) why = (λ is. let same : by ≡ why = cc in ap Answers.turnedBack same, λ is. ap checkedOf is)
+
+-- 01, "Turned back": which numbers a pass can give at all. The first gives 1, 2, 3 and 7 only, the third 1 and 3 to 7 only, and the second, by its case of
+-- `RefusedBy`, 4 only.
+pub first-pass-gives : (file : List ℕ) (why : Refusal) → FirstPassRefuses file why → numberOf why ∈ (1 ∷ 2 ∷ 3 ∷ 7 ∷ [])
+first-pass-gives file why h = Conditions.first-gives file why h
+
+pub third-pass-gives : (file : List ℕ) (why : Refusal) → ThirdPassRefuses file why → numberOf why ∈ (1 ∷ 3 ∷ 4 ∷ 5 ∷ 6 ∷ 7 ∷ [])
+third-pass-gives file why h = Conditions.third-gives file why h
+
+module _ (file : List ℕ) (r : Checked) (call : Promised file r) where
+  -- Demand 1: "returns a result or one of the numbered refusals, each under its own condition only".
+
+  -- A file is accepted exactly where its size is in the limit, the first pass reads an outline of it, all numbers in that outline exist, every body is read
+  -- (these are `Passes`), every type has a closed value, and every parameter of the source has a least depth of at most D.
+  pub accepted-exactly :
+      (r ≡ Checked.Accepted)
+      ↔ ((o : Outline) × Passes file o × ((t : ℕ) → t < length (o .types) → (v : Parts) × ValueOf (o .types) t v)
+      × ((t : ℕ) → SourceParameter o t → (d : ℕ) × LeastDepth (o .types) t d × (d ≤ o .goal .depth)))
+  accepted-exactly = rw (call .answer-is) (Iff·trans (accepted-shows (Answers.check file)) (Conditions.accepted-exactly file))
+
+  -- A file is refused exactly by the test that it fails first, in the order of 01, "Turned back": the cases of `RefusedBy`.
+  pub refused-exactly : (why : Refusal) → (r ≡ Checked.Refused why) ↔ RefusedBy file why
+  refused-exactly why = rw (call .answer-is) (Iff·trans (refused-shows (Answers.check file) why) (Conditions.turned-back-exactly file why))
+
+  -- The conditions one by one, in the order of the numbers; the sentences are those of the table of "Turned back". With each stands which passes can give it.
+
+  -- 1: "bytes run out in a record, in a body, or before GO is read".
+  pub short-exactly : (r ≡ Checked.Refused Truncated) ↔ (FirstPassRefuses file Truncated ⊎ ThirdPassRefuses file Truncated)
+  short-exactly = Iff·trans (refused-exactly Truncated) (Conditions.short-by file)
+
+  -- 2: "a mark is unknown or out of its turn".
+  pub mark-exactly : (r ≡ Checked.Refused UnexpectedMark) ↔ FirstPassRefuses file UnexpectedMark
+  mark-exactly = Iff·trans (refused-exactly UnexpectedMark) (Conditions.mark-by file)
+
+  -- 3: "a count, length, D, S, file size, nesting or view is beyond its limit".
+  pub range-exactly :
+      (r ≡ Checked.Refused OutOfRange) ↔ ((fileLimit < length file) ⊎ (FirstPassRefuses file OutOfRange ⊎ ThirdPassRefuses file OutOfRange))
+  range-exactly = Iff·trans (refused-exactly OutOfRange) (Conditions.range-by file)
+
+  -- 4: "a type, constructor, function or variable number does not exist".
+  pub stranger-exactly : (r ≡ Checked.Refused UnknownNumber) ↔ (SecondPassRefuses file ⊎ ThirdPassRefuses file UnknownNumber)
+  stranger-exactly = Iff·trans (refused-exactly UnknownNumber) (Conditions.stranger-by file)
+
+  -- 5: "an expression byte above 5, or an alternative byte above 1".
+  pub code-exactly : (r ≡ Checked.Refused UnknownCode) ↔ ThirdPassRefuses file UnknownCode
+  code-exactly = Iff·trans (refused-exactly UnknownCode) (Conditions.code-by file)
+
+  -- 6: "an expression's type is not the one expected".
+  pub misfit-exactly : (r ≡ Checked.Refused TypeMismatch) ↔ ThirdPassRefuses file TypeMismatch
+  misfit-exactly = Iff·trans (refused-exactly TypeMismatch) (Conditions.misfit-by file)
+
+  -- 7: "bytes follow a body's expression, or GO".
+  pub tail-exactly : (r ≡ Checked.Refused TrailingBytes) ↔ (FirstPassRefuses file TrailingBytes ⊎ ThirdPassRefuses file TrailingBytes)
+  tail-exactly = Iff·trans (refused-exactly TrailingBytes) (Conditions.tail-by file)
+
+  -- 8: "a type has no closed value". The passes found nothing.
+  pub hollow-exactly :
+      (r ≡ Checked.Refused EmptyType)
+      ↔ ((o : Outline) × Passes file o × ((t : ℕ) × (t < length (o .types)) × ((v : Parts) → ¬ ValueOf (o .types) t v)))
+  hollow-exactly = Iff·trans (refused-exactly EmptyType) (Conditions.hollow-by file)
+
+  -- 9: "a source parameter's least depth exceeds D". The passes found nothing, and every type has a closed value.
+  pub shallow-exactly :
+      (r ≡ Checked.Refused DepthTooSmall)
+      ↔ ((o : Outline) × Passes file o × ((t : ℕ) → t < length (o .types) → (v : Parts) × ValueOf (o .types) t v)
+      × ((t : ℕ) × SourceParameter o t × ((d : ℕ) × LeastDepth (o .types) t d × (o .goal .depth < d))))
+  shallow-exactly = Iff·trans (refused-exactly DepthTooSmall) (Conditions.shallow-by file)
+
+  -- 10, 11 and 12 are never given.
+  pub others-never : (why : Refusal) → 9 < numberOf why → ¬ (r ≡ Checked.Refused why)
+  others-never why high is =
+      let turned = (Conditions.turned-back-exactly file why) .1 ((refused-exactly why) .0 is) in
+      omega (arith, high, turned-back-by file why turned)
