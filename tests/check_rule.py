@@ -271,10 +271,12 @@ def main():
     cases = check_vectors()
     check_faults()
     check_commands()
+    if not (examples and files and cases):
+        wrong.append("there are no examples, no stored rule files, or no cases of check_vectors")
     for fault in wrong:
         print(f"rule: {fault}", file=sys.stderr)
     print(f"rule: {len(examples)} examples, {len(files) + cases} other rule files, {len(FAULTS)} faults, {len(wrong)} wrong")
-    return 0 if examples and files and cases and not wrong else 1
+    return 1 if wrong else 0
 
 
 if __name__ == "__main__":
