@@ -97,11 +97,18 @@ Shallow file = (o : Outline) × Passes file o × AllTypesInhabited o × SomePara
 abbrev pub Acceptable : List ℕ → Type 0
 Acceptable file = (o : Outline) × Passes file o × AllTypesInhabited o × AllParametersFit o
 
--- The test that turns a file back, with the refusal that it gives.
+-- The test that turns a file back, with the refusal that it gives: 01, "Turned back", sentence by sentence.
 pub data RefusedBy (file : List ℕ) (why : Refusal) : Type 0 where
+  -- "File size is tested first." 3
   by-size : why ≡ OutOfRange → FileTooLong file → RefusedBy file why
+  -- "A first pass takes marks, counts, lengths, D and S through the whole file, skipping bodies, then the tail; a record too many, in its turn, is 3 at its
+  -- mark." 1, 2, 3 or 7
   by-first-pass : FirstPassRefuses file why → RefusedBy file why
+  -- "A second takes type and function numbers in TY, FN heads and GO." 4
   by-second-pass : why ≡ UnknownNumber → SecondPassRefuses file → RefusedBy file why
+  -- "A third takes bodies in file order, each followed by its tail; at each expression: short, code, numbers, its own nesting and view, type." 1 or 3 to 7
   by-third-pass : ThirdPassRefuses file why → RefusedBy file why
+  -- "After them 8, 9": "a type has no closed value"
   by-empty-type : why ≡ EmptyType → Hollow file → RefusedBy file why
+  -- and "a source parameter's least depth exceeds D"
   by-depth : why ≡ DepthTooSmall → Shallow file → RefusedBy file why
