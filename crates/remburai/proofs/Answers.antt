@@ -15,9 +15,9 @@ use Rattle.reach.specs.Limits.{listLimit}
 use Rattle.reach.specs.Lists.{roomOf, onSize, entrySpan, entryPart}
 use Rattle.reach.specs.Answers as Answers
 use Rattle.reach.proofs.Base.{clash}
-use Rattle.reach.proofs.ReadBack.{counted, part-counted, span-inside}
+use Rattle.reach.proofs.ReadBack.{span-counted, part-counted, span-inside}
 use Rattle.rulefile.specs.declared.Checked.the-variants as Checked
-use Rattle.rulefile.specs.Loading.{checkedOf}
+use Rattle.rulefile.specs.Answering.{checkedOf}
 use Rattle.search.specs.declared.Answer.{Answer}
 use Rattle.search.specs.declared.Answer.the-variants as Answer
 use Rattle.search.specs.Answering.{answerOf, lengthIn}
@@ -95,8 +95,7 @@ end-small l end room = (omega (arith, room), omega (arith, room))
 
 -- the definition's span is that of the bytes that count
 span-is : (l : List ℕ) (k end : ℕ) → end ≡ roomOf (length l) → entrySpan (take listLimit l) k 0 ≡ entrySpan (take end l) k 0
-unfolding roomOf
-span-is l k end room = ap (λ (t : List ℕ). entrySpan t k 0) (counted listLimit l ∙ ap (λ (n : ℕ). take n l) (sym room))
+span-is l k end room = span-counted l k ∙ ap (λ (n : ℕ). entrySpan (take n l) k 0) (sym room)
 
 module _ (l : List ℕ) (k end : ℕ) {r : Span} (room : end ≡ roomOf (length l)) (searched : spanOf r ≡ entrySpan (take end l) k 0) where
   -- where no entry was found

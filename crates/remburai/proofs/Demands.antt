@@ -15,7 +15,7 @@ use Rattle.reach.specs.Answers.{Checked, accepted, turnedBack, check, SearchAns
 use Rattle.reach.proofs.Base.{clash}
 use Rattle.reach.proofs.Limits.{accepted-keeps}
 use Rattle.search.proofs.Called.{listed-room}
-use Rattle.closed.specs.Running.{answerOf}
+use Rattle.closed.specs.Answering.{answerOf, HasRun}
 use Rattle.closed.proofs.Demands.{refused-file, steps-spent}
 use Rattle.entries.specs.Spans.{partPlace}
 use Rattle.remburai.specs.Packing.{checkNumber, searchNumber, runNumber, partNumber}
@@ -57,16 +57,17 @@ pub run-one : (a b : RunAnswer) → runNumber a ≡ runNumber b → a ≡ b
 run-one a b same = read-one a b (sym (run-reads a) ∙ ap decodedRun same ∙ run-reads b)
 
 -- the steps are at most the largest step limit, 4,096
-pub run-fits : (file input work : List ℕ) (r : ℕ) → r ≡ runNumber (runAnswer file input (length work)) → countBits r ≤ stepLimit
-run-fits file input work r call = rw call (answered (runAnswer file input (length work)) refl (check file) refl)
+pub run-fits : (file input work work′ : List ℕ) (r : ℕ) → r ≡ runNumber (runAnswer file input (length work)) → HasRun file input work work′
+    → countBits r ≤ stepLimit
+run-fits file input work work′ r call slices = rw call (answered (runAnswer file input (length work)) refl (check file) refl)
   where
     answered : (a : RunAnswer) → runAnswer file input (length work) ≡ a → (c : Checked) → check file ≡ c → countBits (runNumber a) ≤ stepLimit
     answered (noRun why) is c checked = omega (arith, refused-parted why .count-is)
     answered (ran o) is (accepted p) checked =
-        let spent = steps-spent file input work (answerOf (runAnswer file input (length work))) refl p checked o (ap answerOf is) in
+        let spent = steps-spent file input work work′ (answerOf (runAnswer file input (length work))) slices p checked o (ap answerOf is) in
         omega (arith, spent, accepted-keeps file p checked .steps-limit, ran-parted o .count-is)
     answered (ran o) is (turnedBack why) checked =
-        let refused = refused-file file input work (answerOf (runAnswer file input (length work))) refl why checked in
+        let refused = refused-file file input work work′ (answerOf (runAnswer file input (length work))) slices why checked in
         let ended = ap answerOf is in
         absurd (clash (cc))
 

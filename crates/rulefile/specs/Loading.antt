@@ -17,7 +17,6 @@ use Rattle.depths.specs.Table.{padded}
 use Rattle.rulefile.specs.declared.Checked.{Checked}
 use Rattle.rulefile.specs.declared.Checked.the-variants.{Accepted, Refused}
 use Rattle.rulefile.specs.declared.Loaded.{Loaded}
-pub use Rattle.rulefile.specs.Answering.{checkedOf}
 
 -- Tables of places as the three passes leave them: each pass over the records that stand there found nothing.
 pub record Passed (s types functions : List ℕ) (goal : ℕ) (fs : List Function) : Type 0 where
