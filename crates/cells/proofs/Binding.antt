@@ -1,6 +1,6 @@
 -- What the functions of this crate write keeps the words standing for the input: cells opened for the parameters stand for the input with
 -- every part open, a bind for the input with that part bound, and a part opened again for the input before.
--- Rests on Writing and on machine's laws of cells.
+-- Rests on specs/Writes and on machine's laws of cells.
 use Prim.Native.Nat.{ℕ, suc, _+_, _*_, _-_, _≤_, _<_}
 use mathlib.Core.Path.{_≡_, sym, _∙_, ap, subst}
 use mathlib.Core.List.{List}

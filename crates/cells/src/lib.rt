@@ -6,7 +6,7 @@ ghost use lib.ListN.{length, getD, set};
 ghost use Rattle.reach.specs.Places.{bytesAt};
 ghost use Rattle.machine.specs.Cells.{Binds, cellWord};
 ghost use Rattle.cells.specs.Writes.{openCell, Opens, Starts};
-use machine::word_or_zero;
+use machine::cell_word;
 use marks::byte_or_zero;
 
 // Makes k open cells from cell `first` on: their types stand from a place of the file on, and each may be so deep.
@@ -57,7 +57,7 @@ pub fn bind_cell(
     requires { ⌜ (x < top) × (5 * (top + k) ≤ length (now work)) × (c ≤ 255) × (k ≤ 255) × (fields ≤ 1000000) × (top ≤ 1000000) × (cellWord (now work) x 3 ≤ 255) ⌝ }
     ensures { λ _. ⌜ Binds (now (work .entry)) (now (work .exit)) x c top k (bytesAt (now (file .entry)) fields k) (cellWord (now (work .entry)) x 3 - 1) ⌝ }
 {
-    let room = word_or_zero(work, 5 * x + 3);
+    let room = cell_word(work, x, 3);
     let below = one_less(room);
     work[5 * x] = (c + 1) as u32;
     work[5 * x + 1] = top as u32;

@@ -22,14 +22,14 @@ use Rattle.machine.specs.Records.{Control, partIn, StateAt, inspecting-at}
 use Rattle.forks.specs.Untried.{untried}
 use Rattle.forks.proofs.Untried.{untried-all}
 use Rattle.steps.specs.declared.Registers.{Registers}
-use Rattle.steps.specs.Stepping.{outlineOf, controlIn}
+use Rattle.steps.specs.Stepping.{outlineOf, controlIn, partKind}
 use Rattle.steps.proofs.Waiting.{inspects}
 use Rattle.choices.specs.Choices.{Setting, Given, choiceWord, reopened, Path, ChoiceAt, ChoicesAt, one-choice, Pushes}
 use Rattle.choices.proofs.Keeping.{Kept, path-kept, reopened-length, reopened-other, reopened-head, reopened-first, choices-kept}
 
 -- the registers that look at cell x, with the frames of others
 abbrev lookingAt : ℕ → Registers → Registers
-lookingAt x r = record { kind = 1; place = x; env = 0; frame = r .frame; records = r .records }
+lookingAt x r = record { kind = partKind; place = x; env = 0; frame = r .frame; records = r .records }
 
 -- the path on which a case waits is that of the registers that look at the cell of the part
 module _ {g : Setting} {w : List ℕ} {cells done binds : ℕ} {r : Registers} {e : Parts} {s : State} (path : Path g w cells done binds r e s) where

@@ -6,6 +6,7 @@ use mathlib.Core.List.{List, [], _∷_, map}
 use mathlib.Core.Option.{some}
 use native.Mathlib.Omega.{arith}
 use lib.ListN.{length, getD}
+use Rattle.reach.specs.Limits.{workWords}
 use Rattle.reach.specs.Syntax.{Program, fieldTypes}
 use Rattle.reach.specs.Types.{Fork, leastDepths}
 use Rattle.reach.specs.Places.{bytesAt, typeAt}
@@ -55,7 +56,7 @@ module _ {g : Setting} (given : Given g) where
     pub height-small : h ≤ 4096
     height-small = omega (arith, at-h .no-higher, at-h .in-time, limit-few)
 
-    pub long : length w ≡ 64 * g .limit + 1024
+    pub long : length w ≡ workWords (g .limit)
     long = sym (reopened-length g w h) ∙ at-h .path .long
 
     pub cells-small : choiceWord (g .stack) w h 4 ≤ 1000000

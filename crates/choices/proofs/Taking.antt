@@ -8,6 +8,7 @@ use mathlib.Core.Logic.{_≢_}
 use mathlib.Core.Option.{some}
 use native.Mathlib.Omega.{arith}
 use lib.ListN.{length, getD}
+use Rattle.reach.specs.Limits.{workWords}
 use Rattle.reach.specs.Syntax.{Types, Program, fieldTypes, sourceTypes}
 use Rattle.reach.specs.Parts.{Parts, Place, width, at, free, bindAt, There}
 use Rattle.reach.specs.Types.{Typed, Slot, slotAt, sourceSlots, Fork, leastDepths}
@@ -23,9 +24,10 @@ use Rattle.machine.specs.Cells.{cellWord, cellOf, Cells, Binds, Unmoved}
 use Rattle.machine.proofs.Cells.{bind-walks, bind-cells}
 use Rattle.forks.specs.Untried.{untried}
 use Rattle.steps.specs.declared.Registers.{Registers}
-use Rattle.steps.specs.Stepping.{OnlyTop, Follows}
+use Rattle.machine.specs.Records.{OnlyTop}
+use Rattle.steps.specs.Stepping.{Follows}
 use Rattle.steps.proofs.Standing.{stands-after, stands-below}
-use Rattle.steps.proofs.Words.{records-same}
+use Rattle.machine.proofs.Words.{records-same}
 use Rattle.choices.specs.Choices.{Setting, Given, choiceWord, reopened, waitingAt, Path, ChoiceAt, ChoicesAt, one-choice}
 use Rattle.choices.proofs.Keeping.{Kept, path-kept, reopened-length, reopened-other, reopened-same, reopened-lengths, unbound, there, cell-below, cells-fit, choice-same, choices-kept}
 
@@ -100,7 +102,7 @@ module _
     fits : 5 * (choiceWord (g .stack) w h 4 + k) ≤ g .base
     fits = omega (arith, cells-bound, given .base-is, at-h .in-time)
 
-    long : length w₀ ≡ 64 * g .limit + 1024
+    long : length w₀ ≡ workWords (g .limit)
     unfolding w₀
     long = at-h .path .long
 

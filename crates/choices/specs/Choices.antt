@@ -2,11 +2,12 @@
 -- binds, that cell's word 1 before, the frame that waits, how many records and cells there were, and the steps done. Which constructor comes
 -- next is the head of its cell. What a choice point stands for is said of the words in which its cell is open again: those are the words
 -- to which a return leads.
--- Rests on machine's Cells, steps' Stepping, forks' Untried and reach's Moves and NeverStuck.
+-- Rests on machine's Layout and Cells, steps' Stepping, forks' Untried and reach's Moves and States.
 use Prim.Native.Nat.{ℕ, suc, _+_, _*_, _-_, _≤_, _<_}
 use mathlib.Core.Path.{_≡_}
 use mathlib.Core.List.{List, [], _∷_}
 use lib.ListN.{length, getD, set}
+use Rattle.reach.specs.Limits.{workWords}
 use Rattle.reach.specs.Syntax.{Program, sourceTypes}
 use Rattle.reach.specs.Parts.{Parts}
 use Rattle.reach.specs.Types.{Typed, sourceSlots, leastDepths}
@@ -15,11 +16,12 @@ use Rattle.reach.specs.Search.{openInput}
 use Rattle.reach.specs.Moves.{Choice}
 use Rattle.reach.specs.Answers.{check, accepted}
 use Rattle.reach.specs.States.{Steps}
+use Rattle.machine.specs.Layout.{recordsAt, choicesAt}
 use Rattle.machine.specs.Cells.{cellWord, cellOf, Cells}
 use Rattle.depths.specs.Table.{padded}
 use Rattle.forks.specs.Untried.{untried}
 use Rattle.steps.specs.declared.Registers.{Registers}
-use Rattle.steps.specs.Stepping.{FileOf, StandsFor}
+use Rattle.steps.specs.Stepping.{FileOf, StandsFor, partKind}
 
 -- What stays throughout a search: the file with the places of its types and functions and the least depths, its program, the step limit, and
 -- where the records and the choice points begin in the words.
@@ -33,14 +35,14 @@ pub record Setting : Type 0 where
   pub base : ℕ
   pub stack : ℕ
 
--- The file is checked, and the words, 64 S + 1,024 of them, have room for the cells, the records and the choice points of S steps.
+-- The file is checked, and the words, as many as S steps need, have room for the cells, the records and the choice points of S steps.
 pub record Given (g : Setting) : Type 0 where
   pub checked : check (g .file) ≡ accepted (g .program)
   pub file-of : FileOf (g .file) (g .types) (g .functions) (g .program)
   pub least-are : g .least ≡ padded (leastDepths (g .program .types))
   pub limit-is : g .limit ≡ g .program .steps
-  pub base-is : g .base ≡ 30 * g .limit + 80
-  pub stack-is : g .stack ≡ 34 * g .limit + 96
+  pub base-is : g .base ≡ recordsAt (g .limit)
+  pub stack-is : g .stack ≡ choicesAt (g .limit)
 
 -- word k of choice point h: 0 the cell, 1 its word 1 before it was bound, 2 the frame that waits, 3 the number of records, 4 that of cells,
 -- 5 the steps done
@@ -53,7 +55,7 @@ reopened stack w h = set (set w (5 * choiceWord stack w h 0) 0) (5 * choiceWord 
 
 -- the registers with which the case of choice point h waits
 abbrev pub waitingAt : ℕ → List ℕ → ℕ → Registers
-waitingAt stack w h = record { kind = 1; place = choiceWord stack w h 0; env = 0; frame = choiceWord stack w h 2; records = choiceWord stack w h 3 }
+waitingAt stack w h = record { kind = partKind; place = choiceWord stack w h 0; env = 0; frame = choiceWord stack w h 2; records = choiceWord stack w h 3 }
 
 -- A path: the words and registers stand for the state to which so many steps lead on the input, with cells for at most so many binds and records for
 -- the steps.
@@ -63,7 +65,7 @@ pub record Path (g : Setting) (w : List ℕ) (cells done binds : ℕ) (r : Regis
   pub steps : Steps (g .program) e done s
   pub few-cells : cells ≤ 8 + 6 * binds
   pub few-records : r .records ≤ done + 2
-  pub long : length w ≡ 64 * g .limit + 1024
+  pub long : length w ≡ workWords (g .limit)
 
 -- Choice point h is this one: before its cell is bound its case waits on the open part in the cell, and the constructors not taken yet are those
 -- from the cell's head on.

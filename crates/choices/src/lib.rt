@@ -11,9 +11,9 @@ use cells::open_again;
 use depths::Depths;
 use forks::Candidate;
 use forks::next_fork;
+use machine::cell_word;
+use machine::narrow;
 use machine::word_or_zero;
-use steps::cell_word;
-use steps::narrow;
 
 // Where a return leads: to a choice point, whose next constructor has this number, this place of its fields' types and this many
 // of them; or nowhere, no choice point having a constructor left.

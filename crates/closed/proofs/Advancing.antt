@@ -19,28 +19,28 @@ use Rattle.reach.proofs.Limits.{accepted-keeps}
 use Rattle.reach.specs.States.{one-more}
 use Rattle.reach.proofs.Reached.{steps-more}
 use Rattle.reach.proofs.Places.{bytes-length}
-use Rattle.lookups.specs.Fields.{fieldsIn}
+use Rattle.lookups.specs.Fields.{fieldsIn, FieldCount}
 use Rattle.machine.specs.Cells.{cellWord, cellOf, Cells, Unmoved}
 use Rattle.machine.proofs.Cells.{kept-cells}
 use Rattle.cells.proofs.Rooms.{cell-room}
-use Rattle.values.specs.Notes as Values
+use Rattle.values.specs.Notes.{FollowsInput}
 use Rattle.values.proofs.Binding.{OpenStands, open-stands, bound-follows}
 use Rattle.steps.specs.declared.Registers.{Registers}
 use Rattle.steps.specs.declared.Next.{Next}
 use Rattle.steps.specs.declared.Next.the-variants as Next
-use Rattle.machine.specs.Records.{partIn}
-use Rattle.steps.specs.Stepping.{controlIn, Standing, OnlyTop, Follows, StepMeans, Stepped, FieldCount}
-use Rattle.steps.specs.Running.{BoundPart}
+use Rattle.machine.specs.Records.{partIn, OnlyTop}
+use Rattle.steps.specs.Stepping.{controlIn, Standing, Follows, StepMeans, Stepped}
+use Rattle.steps.specs.Running.{AtBoundPart}
 use Rattle.steps.proofs.Waiting.{waits-control}
-use Rattle.steps.proofs.Words.{records-same}
+use Rattle.machine.proofs.Words.{records-same}
 use Rattle.steps.proofs.Standing.{stands-after, stands-below}
-use Rattle.closed.specs.Running.{Given, Running, Underway, notedNumber, Bindable, BoundAs, Advances, AdvancesAll, ComesTo, BoundSoFar}
+use Rattle.closed.specs.Running.{GivenInput, Running, Underway, notedNumber, Bindable, BoundAs, Advances, AdvancesAll, ComesTo, BoundSoFar}
 use Rattle.closed.proofs.Bound.{head-now, first-now, no-fewer, fields-now}
 use Rattle.closed.proofs.Reached.{below-width, reached-in, reached-sound, run-goes, run-demands, run-stops, run-spent}
 
 -- what is noted in the cells stays while the record at the top is written
 module _
-    {types : Types} {w w′ : List ℕ} {ss : List Slot} {base cells top : ℕ} {e j : Parts} (follows : Values.Follows types ss w cells e j)
+    {types : Types} {w w′ : List ℕ} {ss : List Slot} {base cells top : ℕ} {e j : Parts} (follows : FollowsInput types ss w cells e j)
     (apart : 5 * cells ≤ base) (only : OnlyTop w w′ base top)
   where
     kept : (i : ℕ) → i < 5 * cells → getD w′ i 0 ≡ getD w i 0
@@ -49,7 +49,7 @@ module _
     all-kept : Unmoved w w′ e × Cells types ss w′ cells e
     all-kept = kept-cells w′ (follows .cells) (rw (only .same-length) (follows .cells .fits)) kept
 
-    pub follows-kept : Values.Follows types ss w′ cells e j
+    pub follows-kept : FollowsInput types ss w′ cells e j
     follows-kept = record {
       cells = all-kept .1;
       below = follows .below;
@@ -77,7 +77,7 @@ with-binds no-fewer now = record {
   long = now .long;
 }
 
-module _ {file types functions input : List ℕ} {goal : ℕ} {p : Program} {j : Parts} (given : Given file types functions input goal p j) where
+module _ {file types functions input : List ℕ} {goal : ℕ} {p : Program} {j : Parts} (given : GivenInput file types functions input goal p j) where
   pub within : WithinDepth p j
   within = input-exactly p input j .0 (given .reads) .0
 
@@ -89,7 +89,7 @@ module _ {file types functions input : List ℕ} {goal : ℕ} {p : Program} {j :
     step-running in-time only follows on = record {
       input = now .input;
       stands =
-          stands-after (now .stands) only follows on (reached-sound file p (given .checked) j within (now .follows .below) (one-more (now .steps) on))
+          stands-after (now .stands) only follows on (reached-sound file p (given .of-file .checked) j within (now .follows .below) (one-more (now .steps) on))
           (omega (arith, now .long, now .few-records));
       follows = follows-kept (now .follows) (now .stands .apart) only;
       steps = one-more (now .steps) on;
@@ -139,7 +139,7 @@ module _ {file types functions input : List ℕ} {goal : ℕ} {p : Program} {j :
 
       -- no constructor has more than 6 fields
       few-fields : (t c : ℕ) (us : List ℕ) → fieldsIn file types t c ≡ some us → length us ≤ 6
-      few-fields t c us h = accepted-keeps file p (given .checked) .fields-limit t c us (rw (given .file-of .types-there) h)
+      few-fields t c us h = accepted-keeps file p (given .of-file .checked) .fields-limit t c us (rw (given .of-file .file-of .types-there) h)
 
       pub bindable : Bindable file types input w cells (cellOf w (q .place))
       unfolding sourceSlots
@@ -151,7 +151,7 @@ module _ {file types functions input : List ℕ} {goal : ℕ} {p : Program} {j :
         shallow =
             omega (
               arith,
-              accepted-keeps file p (given .checked) .depth-limit .1,
+              accepted-keeps file p (given .of-file .checked) .depth-limit .1,
               cell-room (sourceTypes p) (p .depth) (q .place) (now .follows .cells) there (value .slot-there),
             );
         small-place = value .stands .in-bytes;
@@ -176,17 +176,17 @@ module _ {file types functions input : List ℕ} {goal : ℕ} {p : Program} {j :
           let fits : 5 * (cells + k) ≤ base = omega (arith, now .few-cells, now .base-is) in
           let (unmoved, follows) =
           bound-follows fields (q .place) (now .follows) unbound value (value .stands .number) (sym same) (omega (arith, now .long)) (bound .binds) refl refl (bound .noted) in
-          let steps = steps-more p (bind-refines (q .place) c k e) (below-width file p (given .checked) j within (now .follows .below)) (now .steps) in
+          let steps = steps-more p (bind-refines (q .place) c k e) (below-width file p (given .of-file .checked) j within (now .follows .below)) (now .steps) in
           let same-length = bound .noted .same-length ∙ bound .binds .same-length in
           rw more-is (
             record {
               input = bindAt (q .place) c k e;
               stands =
-                  stands-below (now .stands) (rw (← given .file-of .types-there) at (follows .cells)) unmoved fits same-length
+                  stands-below (now .stands) (rw (← given .of-file .file-of .types-there) at (follows .cells)) unmoved fits same-length
                   (λ i from below.
                   bound .noted .elsewhere i (λ m l. (omega (arith, bytes-length file fields k), omega (arith, bytes-length file fields k)))
                   ∙ bound .binds .elsewhere i (omega (arith, now .follows .cells .in-use (q .place) there)) (omega (arith, now .follows .cells .in-use (q .place) there)) (λ h. omega arith))
-                  (reached-in file p (given .checked) j within (follows .below) steps) (reached-sound file p (given .checked) j within (follows .below) steps);
+                  (reached-in file p (given .of-file .checked) j within (follows .below) steps) (reached-sound file p (given .of-file .checked) j within (follows .below) steps);
               follows = follows;
               steps = steps;
               few-cells = omega (arith, now .few-cells);
@@ -201,7 +201,7 @@ module _ {file types functions input : List ℕ} {goal : ℕ} {p : Program} {j :
     -- What a step tells of the run on the closed input, if it does not wait.
     module _ {label : ℕ} (sought : label ≡ p .label) (in-time : done ≤ limit) where
       means : {w′ : List ℕ} {n : Next} → Stepped file types functions w w′ base label r n → StepMeans file types functions w w′ base r p (now .input) s n
-      means stepped = stepped .steps p sought cells (now .input) s (given .file-of) (now .stands)
+      means stepped = stepped .steps p sought cells (now .input) s (given .of-file .file-of) (now .stands)
 
       -- a step that was to go on does not wait
       pub no-wait :
@@ -222,15 +222,15 @@ module _ {file types functions input : List ℕ} {goal : ℕ} {p : Program} {j :
           {w′ : List ℕ} (n : Next) → binds ≤ done + 1 → Stepped file types functions w w′ base label r n → ((x : ℕ) → n ≡ Next.Waits x → ⊥)
           → Advances file types functions input label limit w′ base done p j s cells n
       advances Next.Demands few stepped no-wait =
-          λ left. run-demands file p (given .checked) j within (now .follows .below) (now .steps) left done (means stepped)
+          λ left. run-demands file p (given .of-file .checked) j within (now .follows .below) (now .steps) left done (means stepped)
       advances Next.Stops few stepped no-wait =
           let (why, on) = means stepped in
-          (why, λ left. run-stops file p (given .checked) j within (now .follows .below) (now .steps) left done why on)
+          (why, λ left. run-stops file p (given .of-file .checked) j within (now .follows .below) (now .steps) left done why on)
       advances (Next.Goes r′) few stepped no-wait =
           let (s′, on, follows) = means stepped in (
             s′,
-            run-spent file p (given .checked) j within (now .follows .below) (now .steps) done s′ on,
-            λ left. run-goes file p (given .checked) j within (now .follows .below) (now .steps) left done s′ on,
+            run-spent file p (given .of-file .checked) j within (now .follows .below) (now .steps) done s′ on,
+            λ left. run-goes file p (given .of-file .checked) j within (now .follows .below) (now .steps) left done s′ on,
             λ before. record {
               goal = goal;
               given = given;
@@ -288,7 +288,7 @@ module _
           (subst (λ y. BoundAs file types input w₁ w₂ cells y more) (sym cell-is) bound)
 
       standing : Standing file types functions w₂ base r
-      standing = record { program = p; cells = more; input = now₂ .0 .input; state = s; file-of = h .given .file-of; stands = now₂ .0 .stands }
+      standing = record { program = p; cells = more; input = now₂ .0 .input; state = s; file-of = h .given .of-file .file-of; stands = now₂ .0 .stands }
 
       looks : (controlIn r ≡ partIn x) × (r .frame ≡ 0 → ⊥)
       looks =
@@ -306,7 +306,7 @@ module _
         some-head = omega (arith, head-suc)
 
         -- the case goes on with the part that is bound
-        pub entering : head < 4294967296 → BoundPart file types functions w₂ base x r (head - 1) (more - cells) cells
+        pub entering : head < 4294967296 → AtBoundPart file types functions w₂ base x r (head - 1) (more - cells) cells
         entering small =
             let number : notedNumber input w₁ x ≡ head - 1 = omega (arith, head-suc) in
             record {

@@ -1,6 +1,6 @@
 -- The answer of the whole run, by what the check, the reading of the input and the evaluation found.
 -- Rests on specs/Answering and specs/Running, on loaded's Files and Loaded, on rulefile's Tabled and inputs' Closed.
-use Prim.Native.Nat.{ℕ, _+_, _*_, _≤_, _<_}
+use Prim.Native.Nat.{ℕ, _+_, _≤_, _<_}
 use mathlib.Core.Path.{_≡_, sym, _∙_, subst}
 use mathlib.Core.Bool.{Bool, true, false, not}
 use mathlib.Core.List.{List, _++_}
@@ -11,6 +11,7 @@ use borrow.Author.Tests.{le-leb, lt-leb, not-true, not-false}
 use Rattle.reach.specs.declared.Refusal.{Refusal}
 use Rattle.reach.specs.declared.Refusal.the-variants.{BadInput, WorkTooShort}
 use Rattle.reach.specs.declared.Outcome.{Outcome}
+use Rattle.reach.specs.Limits.{workWords}
 use Rattle.reach.specs.Syntax.{Program}
 use Rattle.reach.specs.Parts.{Parts}
 use Rattle.reach.specs.Eval as Eval
@@ -24,12 +25,12 @@ use Rattle.rulefile.specs.declared.Checked.{Checked}
 use Rattle.rulefile.specs.declared.Checked.the-variants as Checked
 use Rattle.rulefile.specs.declared.Loaded.{Loaded}
 use Rattle.rulefile.specs.Loading.{typePlaces, functionPlaces, Tabled, Loads}
-use Rattle.rulefile.proofs.Tabled.{program-types, program-source, program-label, program-depth, program-steps, program-source-there, program-source-types}
+use Rattle.rulefile.proofs.Tabled.{program-types, program-source, program-depth, program-steps, program-source-types}
 use Rattle.machine.proofs.Cells.{kept-cells}
-use Rattle.loaded.proofs.Files.{file-of}
-use Rattle.loaded.proofs.Loaded.{goal-of, loaded-accepted, goal-small}
+use Rattle.loaded.proofs.Files.{given-file}
+use Rattle.loaded.proofs.Loaded.{loaded-accepted, goal-small}
 use Rattle.closed.specs.Answering.{LookedAt, Leaves, answerOf, Promised, HasRun}
-use Rattle.closed.specs.Running.{Given, Runnable, RunsAs}
+use Rattle.closed.specs.Running.{GivenInput, Runnable, RunsAs}
 use Rattle.closed.specs.declared.Answer.{Answer}
 use Rattle.closed.specs.declared.Answer.the-variants as Answer
 
@@ -64,30 +65,23 @@ module _ {file : List ℕ} {r : Loaded} {p : Program} (checked : check file ≡ 
     unfolding whole
     read = fits-exactly placed-of input .0 fits .1
 
-    pub given-of : Given file (typePlaces r) (functionPlaces r) input (r .«goal_at») p whole
-    given-of = record {
-      checked = checked;
-      file-of = file-of t;
-      placed = placed-of;
-      goal-is = goal-of _ (program-source t) (program-label t) (program-depth t) (program-steps t);
-      source-there = omega (arith, program-source-there t, t .functions-count);
-      reads = read;
-    }
+    pub given-of : GivenInput file (typePlaces r) (functionPlaces r) input (r .«goal_at») p whole
+    given-of = record { of-file = given-file checked t; placed = placed-of; reads = read }
 
     -- too few words
-    pub answer-short : (work limit : ℕ) → limit ≡ (goalAt file (r .«goal_at»)) .steps → work < 64 * limit + 1024 → Answer.Refused WorkTooShort ≡ answerOf (runAnswer file input work)
+    pub answer-short : (work limit : ℕ) → limit ≡ (goalAt file (r .«goal_at»)) .steps → work < workWords limit → Answer.Refused WorkTooShort ≡ answerOf (runAnswer file input work)
     unfolding runAnswer runChecked runInput
     answer-short work limit same short =
-        let z : work < 64 * p .steps + 1024 = omega (arith, program-steps t) in
+        let z : work < workWords (p .steps) = omega (arith, program-steps t) in
         rw (checked, read, lt-leb _ _ z)
 
     -- the run
     pub answer-ran :
-        (work limit : ℕ) (o : Outcome) → limit ≡ (goalAt file (r .«goal_at»)) .steps → 64 * limit + 1024 ≤ work → o ≡ outcomeOf (Eval.run p whole)
+        (work limit : ℕ) (o : Outcome) → limit ≡ (goalAt file (r .«goal_at»)) .steps → workWords limit ≤ work → o ≡ outcomeOf (Eval.run p whole)
         → Answer.Ran o ≡ answerOf (runAnswer file input work)
     unfolding runAnswer runChecked runInput
     answer-ran work limit o same enough is =
-        let z : 64 * p .steps + 1024 ≤ work = omega (arith, program-steps t) in
+        let z : workWords (p .steps) ≤ work = omega (arith, program-steps t) in
         rw (checked, read, le-leb _ _ z, is)
 
 -- The same for a file that was loaded and accepted, by the functions that `run` calls.
@@ -99,26 +93,26 @@ module _ (file : List ℕ) (r : Loaded) (loads : Loads file r) (is : r .answer �
     pub run-bad : (work : ℕ) → not b ≡ true → Answer.Refused BadInput ≡ answerOf (runAnswer file input work)
     run-bad work e = answer-bad (here .1) (here .2) input work (sym told ∙ not-true b e)
 
-    module _ (passed : not b ≡ false) {limit : ℕ} (read-limit : limit ≡ (goalAt file (r .«goal_at»)) .steps) where
+    module _ (passed : not b ≡ false) {limit words : ℕ} (read-limit : limit ≡ (goalAt file (r .«goal_at»)) .steps) (words-are : words ≡ workWords limit) where
       fits : fitsAt file (typePlaces r) (functionPlaces r) (r .«goal_at») input ≡ true
       fits = sym told ∙ not-false b passed
 
-      pub run-short : (work : ℕ) → work < 64 * limit + 1024 → Answer.Refused WorkTooShort ≡ answerOf (runAnswer file input work)
-      run-short work short = answer-short (here .1) (here .2) input fits work limit read-limit short
+      pub run-short : (work : ℕ) → work < words → Answer.Refused WorkTooShort ≡ answerOf (runAnswer file input work)
+      run-short work short = answer-short (here .1) (here .2) input fits work limit read-limit (omega arith)
 
-      pub run-able : (w : List ℕ) → 64 * limit + 1024 ≤ length w → Runnable file (typePlaces r) (functionPlaces r) input (r .«goal_at») (take (64 * limit + 1024) w)
+      pub run-able : (w : List ℕ) → words ≤ length w → Runnable file (typePlaces r) (functionPlaces r) input (r .«goal_at») (take words w)
       run-able w enough = (
         here .0,
         whole (here .1) (here .2) input fits,
         given-of (here .1) (here .2) input fits,
-        omega (arith, length-take (64 * limit + 1024) w, program-steps (here .2)),
+        omega (arith, length-take words w, program-steps (here .2)),
         goal-small file r loads is,
       )
 
       module _ {v : List ℕ} {o : Outcome} (runs : RunsAs file (typePlaces r) (functionPlaces r) input (r .«goal_at») v o) where
-        pub run-ran : (work : ℕ) → 64 * limit + 1024 ≤ work → Answer.Ran o ≡ answerOf (runAnswer file input work)
+        pub run-ran : (work : ℕ) → words ≤ work → Answer.Ran o ≡ answerOf (runAnswer file input work)
         run-ran work enough =
-            answer-ran (here .1) (here .2) input fits work limit o read-limit enough
+            answer-ran (here .1) (here .2) input fits work limit o read-limit (omega arith)
             (runs (here .0) (whole (here .1) (here .2) input fits) (given-of (here .1) (here .2) input fits) .0)
 
         -- what the words that were lent on stand for, they stand for with those behind them

@@ -1,5 +1,5 @@
 -- A cell bound as `bind_asked` does it, from what its callees ensure, and what its words are then.
--- Rests on specs/Running, lookups' Fields, steps' Stepping and cells' Writing.
+-- Rests on specs/Running, lookups' Fields, machine's Cells and values' Notes.
 use Prim.Native.Nat.{ℕ, suc, _+_, _*_, _-_, _≤_, _<_}
 use mathlib.Core.Path.{_≡_, refl, sym, _∙_, ap}
 use mathlib.Core.List.{List}
@@ -9,12 +9,11 @@ use lib.ListN.{length, getD}
 use Rattle.reach.specs.Places.{bytesAt}
 use Rattle.reach.proofs.Base.{clash}
 use Rattle.reach.proofs.Places.{bytes-length}
-use Rattle.lookups.specs.Fields.{fieldsOf, fieldsIn}
+use Rattle.lookups.specs.Fields.{fieldsOf, fieldsIn, FieldCount}
 use Rattle.lookups.specs.declared.Fields.{Fields}
 use Rattle.lookups.specs.declared.Fields.the-variants as Fields
 use Rattle.machine.specs.Cells.{cellWord, Binds}
 use Rattle.values.specs.Notes.{notedPlace, Noted}
-use Rattle.steps.specs.Stepping.{FieldCount}
 use Rattle.closed.specs.Running.{notedNumber, Bindable, BoundAs, BoundCell}
 
 module _

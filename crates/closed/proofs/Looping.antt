@@ -24,7 +24,7 @@ use Rattle.skipping.specs.Ends.{Ends}
 use Rattle.closed.proofs.Reached.{same-demands, same-stops, same-spent}
 use Rattle.closed.proofs.Advancing.{within, went}
 use Rattle.closed.specs.Answering.{LookedAt}
-use Rattle.closed.specs.Running.{Given, Underway, Advances, ComesTo, AdvancesAll, SomeWaiting, Enters, EndsAs, Begins, CameTo}
+use Rattle.closed.specs.Running.{GivenInput, Underway, Advances, ComesTo, AdvancesAll, SomeWaiting, Enters, EndsAs, RunBegins, CameTo}
 
 -- it is the end: nothing comes next, or no step is left
 abbrev Last : Next → Type 0 → Type 0
@@ -36,14 +36,14 @@ Last (Next.Waits x) spent = ⊥
 -- there the evaluation on the input that is bound so far is at the same end
 same-end :
     {file types functions input : List ℕ} {goal : ℕ} {p : Program} {j e : Parts} {limit done : ℕ} {s : State} (n : Next) → Last n (limit ≤ done)
-    → Given file types functions input goal p j → done ≤ limit → e ⊑ j → Steps p e done s → ComesTo p e s n
+    → GivenInput file types functions input goal p j → done ≤ limit → e ⊑ j → Steps p e done s → ComesTo p e s n
     → eval p e limit 0 (start p) ≡ eval p j limit 0 (start p)
 same-end {file} {p = p} {j} {limit = limit} Next.Demands over given in-time below steps on =
-    same-demands file p (given .checked) j (within given) below steps limit in-time on
+    same-demands file p (given .of-file .checked) j (within given) below steps limit in-time on
 same-end {file} {p = p} {j} {limit = limit} Next.Stops over given in-time below steps (why, on) =
-    same-stops file p (given .checked) j (within given) below steps limit in-time why on
+    same-stops file p (given .of-file .checked) j (within given) below steps limit in-time why on
 same-end {file} {p = p} {j} {limit = limit} (Next.Goes r) over given in-time below steps (s′, on) =
-    same-spent file p (given .checked) j (within given) below steps limit in-time over s′ on
+    same-spent file p (given .of-file .checked) j (within given) below steps limit in-time over s′ on
 same-end (Next.Waits x) over given in-time below steps on = absurd on
 
 -- the words stand for a state of the program where the run is under way
@@ -51,7 +51,7 @@ stands-there :
     {file types functions input : List ℕ} {label limit : ℕ} {w : List ℕ} {base cells done : ℕ} {r : Registers} {p : Program} {j : Parts} {s : State}
     → Underway file types functions input label limit w base cells done r p j s → Standing file types functions w base r
 stands-there {cells = cells} {p = p} {s = s} h =
-    record { program = p; cells = cells; input = h .running .input; state = s; file-of = h .given .file-of; stands = h .running .stands }
+    record { program = p; cells = cells; input = h .running .input; state = s; file-of = h .given .of-file .file-of; stands = h .running .stands }
 
 module _ (file types functions input : List ℕ) (label limit : ℕ) (w₀ : List ℕ) (base first : ℕ) (from : Registers) where
   pub came-first : CameTo file types functions input label limit w₀ base first from w₀ first 0 from
@@ -142,7 +142,7 @@ module _ (file types functions input : List ℕ) (label limit : ℕ) (w₀ : Lis
 
   module _ (w : List ℕ) (cells done : ℕ) (r : Registers) (came : CameTo file types functions input label limit w₀ base first from w cells done r) (in-time : done ≤ limit) where
     -- wherever the steps that are left lead, the words stand for a state
-    pub came-onward : Begins file types functions input label limit w₀ base first from → Onward file types functions label w base r (limit - done)
+    pub came-onward : RunBegins file types functions input label limit w₀ base first from → Onward file types functions label w base r (limit - done)
     came-onward (p, j, s, h) n w₁ r₁ few led = stands-there (came-far came led (omega arith) p j s h .1)
 
     -- the steps of `run_on` led to where it halted
@@ -168,7 +168,7 @@ module _ (file types functions input : List ℕ) (label limit : ℕ) (w₀ : Lis
 
       -- where a case waits on the part in a cell
       module _ {y : ℕ} (is : x .halt ≡ Halt.Waits y) where
-        pub halt-waits : Begins file types functions input label limit w₀ base first from → SomeWaiting file types input w′ base cells y (x .registers)
+        pub halt-waits : RunBegins file types functions input label limit w₀ base first from → SomeWaiting file types input w′ base cells y (x .registers)
         halt-waits (p, j, s, h) =
             (functions, ran .between, label, limit, done + x .steps, p, j, came-there p j s h .0, came-there p j s h .1, halts (Halt.Waits y) is)
 

@@ -1,40 +1,38 @@
 -- What the closed run knows between two steps, and what its functions promise.
--- Rests on reach's Eval and Answers, on steps' Stepping, on values' Notes and Binding and on the types of src/lib.rt.
+-- Rests on reach's Eval and Answers, on machine's Layout, on steps' Stepping, on loaded's Beginning, on values' Notes and on the types of src/lib.rt.
 use Prim.Native.Nat.{ℕ, zero, suc, _+_, _*_, _-_, _≤_, _<_}
 use mathlib.Core.Path.{_≡_}
 use mathlib.Core.List.{List, map}
 use mathlib.Core.Option.{some}
-use lib.ListN.{length, getD, drop}
+use lib.ListN.{length, getD}
 use Rattle.reach.specs.declared.Outcome.{Outcome}
+use Rattle.reach.specs.Limits.{workWords}
 use Rattle.reach.specs.Syntax.{Program}
 use Rattle.reach.specs.Parts.{Parts, _⊑_}
 use Rattle.reach.specs.Types.{sourceSlots}
 use Rattle.reach.specs.Eval as Eval
-use Rattle.reach.specs.Eval.{State, start, eval, reached, ended, unfinished, run}
+use Rattle.reach.specs.Eval.{State, eval, reached, ended, unfinished, run}
 use Rattle.reach.specs.Input.{inputOf}
-use Rattle.reach.specs.Places.{bytesAt, typeAt, goalAt}
-use Rattle.reach.specs.Answers.{check, accepted, outcomeOf}
+use Rattle.reach.specs.Places.{bytesAt, typeAt}
+use Rattle.reach.specs.Answers.{outcomeOf}
 use Rattle.reach.specs.States.{Steps}
 use Rattle.lookups.specs.Fields.{fieldsIn}
+use Rattle.machine.specs.Layout.{recordsAt}
 use Rattle.machine.specs.Cells.{cellWord, Binds, Cells}
-use Rattle.cells.specs.Writes.{Starts}
 use Rattle.inputs.specs.Positions.{Placed}
-use Rattle.values.specs.Notes.{notedPlace, Noted}
-use Rattle.values.specs.Notes as Values
+use Rattle.values.specs.Notes.{notedPlace, Noted, FollowsInput}
 use Rattle.steps.specs.declared.Registers.{Registers}
 use Rattle.steps.specs.declared.Next.{Next}
 use Rattle.steps.specs.declared.Next.the-variants as Next
-use Rattle.steps.specs.Stepping.{FileOf, StandsFor, Wrote, Stepped}
+use Rattle.steps.specs.Stepping.{StandsFor, Stepped}
+use Rattle.loaded.specs.Beginning.{GivenFile}
 use Rattle.skipping.specs.Ends.{Ends}
 use Rattle.closed.specs.Answering.{LookedAt}
 
--- A checked file with its tables, its program, and a closed input of the program.
-pub record Given (file types functions input : List ℕ) (goal : ℕ) (p : Program) (j : Parts) : Type 0 where
-  pub checked : check file ≡ accepted p
-  pub file-of : FileOf file types functions p
+-- A checked file with its tables and its program, and a closed input of the program.
+pub record GivenInput (file types functions input : List ℕ) (goal : ℕ) (p : Program) (j : Parts) : Type 0 where
+  pub of-file : GivenFile file types functions goal p
   pub placed : Placed p file types functions goal
-  pub goal-is : goalAt file goal ≡ record { source = p .source; label = p .label; depth = p .depth; steps = p .steps }
-  pub source-there : p .source < length functions
   pub reads : inputOf p input ≡ some j
 
 -- The run after so many steps and at most so many binds, in words for `limit` steps: a part of the closed input is bound, the words stand for
@@ -42,17 +40,17 @@ pub record Given (file types functions input : List ℕ) (goal : ℕ) (p : Progr
 pub record Running (file types functions : List ℕ) (p : Program) (j : Parts) (limit : ℕ) (w : List ℕ) (base cells done binds : ℕ) (r : Registers) (s : State) : Type 0 where
   pub input : Parts
   pub stands : StandsFor file types functions p w base cells r input s
-  pub follows : Values.Follows (map (typeAt file) types) (sourceSlots p) w cells input j
+  pub follows : FollowsInput (map (typeAt file) types) (sourceSlots p) w cells input j
   pub steps : Steps p input done s
   pub few-cells : cells ≤ 8 + 6 * binds
   pub few-records : r .records ≤ done + 2
-  pub base-is : base ≡ 30 * limit + 80
+  pub base-is : base ≡ recordsAt limit
   pub long : base + 4 * (limit + 4) ≤ length w
 
 -- The run between two steps, not all of them taken or just so many.
 pub record Underway (file types functions input : List ℕ) (label limit : ℕ) (w : List ℕ) (base cells done : ℕ) (r : Registers) (p : Program) (j : Parts) (s : State) : Type 0 where
   pub goal : ℕ
-  pub given : Given file types functions input goal p j
+  pub given : GivenInput file types functions input goal p j
   pub sought : label ≡ p .label
   pub in-time : done ≤ limit
   pub running : Running file types functions p j limit w base cells done done r s
@@ -139,8 +137,8 @@ EndsAs file types functions input label limit w w′ base cells r o =
     → (o ≡ outcomeOf (eval p j limit 0 s)) × LookedAt p j limit w′
 
 -- some run begins here
-abbrev pub Begins : List ℕ → List ℕ → List ℕ → List ℕ → ℕ → ℕ → List ℕ → ℕ → ℕ → Registers → Type 0
-Begins file types functions input label limit w base cells r =
+abbrev pub RunBegins : List ℕ → List ℕ → List ℕ → List ℕ → ℕ → ℕ → List ℕ → ℕ → ℕ → Registers → Type 0
+RunBegins file types functions input label limit w base cells r =
     (p : Program) × (j : Parts) × (s : State) × Underway file types functions input label limit w base cells 0 r p j s
 
 -- the run came from the beginning to here
@@ -149,22 +147,11 @@ CameTo file types functions input label limit w₀ base first from w cells done 
     (p : Program) (j : Parts) (s : State) → Underway file types functions input label limit w₀ base first 0 from p j s
     → (s′ : State) × Underway file types functions input label limit w base cells done r p j s′ × (eval p j limit 0 s ≡ eval p j (limit - done) done s′)
 
--- The words at the beginning: the source's n parameters, whose types stand from place `first` of the file on, have open cells with their values'
--- places noted, and records 0 and 1 are the empty environment and the parameters' group.
-pub record Begun (file types input w w′ : List ℕ) (base first n depth : ℕ) : Type 0 where
-  pub w₁ : List ℕ
-  pub w₂ : List ℕ
-  pub w₃ : List ℕ
-  pub starts : Starts w w₁ n (bytesAt file first n) depth
-  pub noted : Noted file types input w₁ w₂ 0 (bytesAt file first n) 0 depth
-  pub zeros : Wrote w₂ w₃ base 0 0 0 0 0
-  pub group : Wrote w₃ w′ base 1 0 n 0 0
-
 -- the closed run of a program on an input, which ends in words w′
 abbrev pub RunsAs : List ℕ → List ℕ → List ℕ → List ℕ → ℕ → List ℕ → Outcome → Type 0
 RunsAs file types functions input goal w′ o =
-    (p : Program) (j : Parts) → Given file types functions input goal p j → (o ≡ outcomeOf (run p j)) × LookedAt p j (p .steps) w′
+    (p : Program) (j : Parts) → GivenInput file types functions input goal p j → (o ≡ outcomeOf (run p j)) × LookedAt p j (p .steps) w′
 
 -- there is such a program and input, the tables' places are small, and the words are as many as the run needs
 abbrev pub Runnable : List ℕ → List ℕ → List ℕ → List ℕ → ℕ → List ℕ → Type 0
-Runnable file types functions input goal w = (p : Program) × (j : Parts) × Given file types functions input goal p j × (length w ≡ 64 * p .steps + 1024) × (goal ≤ 16384)
+Runnable file types functions input goal w = (p : Program) × (j : Parts) × GivenInput file types functions input goal p j × (length w ≡ workWords (p .steps)) × (goal ≤ 16384)

@@ -1,17 +1,20 @@
 // The closed run: the evaluation of a rule on one closed input, in the lent words. Parts of the input are bound when a case looks at
-// them. Rests on crates rulefile, inputs, cells, values and steps.
+// them. Rests on crates rulefile, loaded, inputs, cells, values and steps.
 ghost use mathlib.Core.Path.{_≡_};
 ghost use Prim.Native.Nat.{ℕ, _+_, _*_, _≤_, _<_};
 ghost use lib.ListN.{length, getD};
 ghost use Rattle.skipping.specs.Ends.{Ends};
 ghost use Rattle.closed.specs.Answering.{Promised};
-ghost use Rattle.closed.specs.Running.{Bindable, BoundAs, SomeWaiting, Enters, Begins, EndsAs, Begun, Runnable, RunsAs};
+ghost use Rattle.closed.specs.Running.{Bindable, BoundAs, SomeWaiting, Enters, RunBegins, EndsAs, Runnable, RunsAs};
 use cells::bind_cell;
-use cells::start_cells;
 use inputs::input_fits;
+use loaded::open_input;
 use lookups::Fields;
 use lookups::fields_of;
 use lookups::head_of;
+use machine::cell_word;
+use machine::records_at;
+use machine::work_words;
 use marks::byte_or_zero;
 use reach::Outcome;
 use reach::Refusal;
@@ -24,9 +27,7 @@ use rulefile::steps;
 use skipping::fill_ends;
 use steps::Halt;
 use steps::Registers;
-use steps::cell_word;
 use steps::enter_part;
-use steps::put_record;
 use steps::run_on;
 use values::note_values;
 use values::noted;
@@ -117,7 +118,7 @@ fn go_on<'a>(
     from: Registers,
     limit: usize,
 ) -> Outcome
-    requires { ⌜ (limit ≤ 4096) × Begins (now file) (now types) (now functions) (now input) label limit (now work) base first from ⌝ }
+    requires { ⌜ (limit ≤ 4096) × RunBegins (now file) (now types) (now functions) (now input) label limit (now work) base first from ⌝ }
     requires { ⌜ Ends (now file) (now types) (now functions) (now ends) ⌝ }
     ensures { λ o. ⌜ EndsAs (now (file .entry)) (now (types .entry)) (now (functions .entry)) (now (input .entry)) label limit (now (work .entry)) (now (work .exit)) base first from o ⌝ }
 {
@@ -157,27 +158,6 @@ fn go_on<'a>(
     }
 }
 
-// The words at the beginning: open cells for the n parameters of the source, whose types stand from place `first` of the file on, with
-// their values' places noted, and the records of the empty environment and of the parameters' group.
-fn begin<'a>(
-    file: &'a [u8],
-    types: &'a [u16],
-    input: &'a [u8],
-    work: &mut [u32],
-    base: usize,
-    first: usize,
-    n: usize,
-    deep: usize,
-)
-    requires { ⌜ (5 * n ≤ base) × (base + 12 ≤ length (now work)) × (n ≤ 255) × (first ≤ 65536) × (deep ≤ 255) ⌝ }
-    ensures { λ _. ⌜ Begun (now (file .entry)) (now (types .entry)) (now (input .entry)) (now (work .entry)) (now (work .exit)) base first n deep ⌝ }
-{
-    start_cells(file, work, first, n, deep);
-    note_values(file, types, input, work, 0, first, n, 0, deep);
-    put_record(work, base, 0, 0, 0, 0, 0);
-    put_record(work, base, 1, 0, n, 0, 0);
-}
-
 // The run of a checked file's rule on a closed input that fits.
 fn evaluate<'a>(
     file: &'a [u8],
@@ -193,18 +173,13 @@ fn evaluate<'a>(
     let mut ends = [0u16; 16384];
     fill_ends(file, types, functions, &mut ends);
     let limit = steps(file, goal);
-    let base = 30 * limit + 80;
+    let base = records_at(limit);
     let head = head_of(file, functions, source(file, goal));
     let first = head.parameters;
     let n = head.count;
-    begin(file, types, input, work, base, first, n, depth(file, goal));
-    let from = Registers {
-        kind: 2,
-        place: head.body,
-        env: 1,
-        frame: 0,
-        records: 2,
-    };
+    let deep = depth(file, goal);
+    let from = open_input(file, work, base, head, deep);
+    note_values(file, types, input, work, 0, first, n, 0, deep);
     go_on(
         file,
         types,
@@ -243,7 +218,7 @@ pub fn run<'a>(file: &'a [u8], input: &'a [u8], work: &mut [u32]) -> Answer
     ) {
         return Answer::Refused(Refusal::BadInput);
     }
-    let words = 64 * steps(file, goal) + 1024;
+    let words = work_words(steps(file, goal));
     if work.len() < words {
         return Answer::Refused(Refusal::WorkTooShort);
     }

@@ -1,5 +1,5 @@
 -- The walk over a row of cells: what an open part and a bound part leave to write, and that what was written of the parts is the whole row.
--- Rests on Bytes, specs/Rows and steps' Stepping.
+-- Rests on Bytes, specs/Rows and lookups' Fields.
 use Prim.Native.Nat.{ℕ, _+_, _-_, _≤_, _<_}
 use mathlib.Core.Path.{_≡_, refl, sym, _∙_, ap}
 use mathlib.Core.List.{List, [], _∷_, _++_}
@@ -9,7 +9,7 @@ use lib.ListN.{length, set, length-append}
 use lib.Seq.{sets}
 use Rattle.reach.specs.Parts.{Parts, end, opened, bound, prefix}
 use Rattle.machine.specs.Cells.{cellWord}
-use Rattle.steps.specs.Stepping.{FieldCount}
+use Rattle.lookups.specs.Fields.{FieldCount}
 use Rattle.listing.specs.Rows.{RowAt, RowFits, WroteRow}
 use Rattle.listing.proofs.Bytes.{stored-behind, stored-one}
 

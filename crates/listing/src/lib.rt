@@ -1,5 +1,5 @@
 // One entry of the search's list, written from the input's cells in the lent words, only where it fits whole. Rests on crates
-// reach, lookups, machine and steps.
+// reach, lookups and machine.
 ghost use mathlib.Core.Path.{_≡_};
 ghost use mathlib.Core.List.{[], _∷_, _++_};
 ghost use Prim.Native.Nat.{_+_, _≤_, _<_};
@@ -8,8 +8,8 @@ ghost use lib.Seq.{sets};
 ghost use Rattle.reach.specs.Lists.{wordBytes, kindBytes};
 ghost use Rattle.listing.specs.Rows.{RowFits, WroteRow};
 ghost use Rattle.listing.specs.Entry.{kindOf, Listable, WroteEntry};
-use steps::cell_word;
-use steps::field_count;
+use lookups::field_count;
+use machine::cell_word;
 
 // An open part, in prefix form.
 const OPEN: u8 = 0xFF;

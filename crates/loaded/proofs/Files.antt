@@ -1,19 +1,23 @@
 -- The tables of a loaded file are those that a step asks for: the types stand at their places, and so does every function's body.
--- Rests on rulefile's Tabled, machine's Codes and steps' Stepping.
+-- Rests on rulefile's Tabled, machine's Codes, steps' Stepping and specs/Beginning.
 use Prim.Native.Nat.{ℕ}
+use mathlib.Core.Path.{_≡_}
 use mathlib.Core.List.{List}
 use native.Mathlib.Omega.{arith}
 use lib.ListN.{getD}
 use Rattle.reach.specs.Syntax.{Expr, variable, call, construct, case, bind, target, Exprs, []ₑ, _∷ₑ_, Alternatives, no-more, absent, present, Program}
 use Rattle.reach.specs.RuleFile.{Outline, Goal}
 use Rattle.reach.specs.Places.{headAt, goalAt, outlineAt}
+use Rattle.reach.specs.Answers.{check, accepted}
 use Rattle.reach.specs.Encoding.{Arity, ArityAll, ArityAlternatives}
 use Rattle.machine.specs.Records.{Code}
 use Rattle.machine.proofs.Codes.{code-body}
 use Rattle.rulefile.specs.declared.Loaded.{Loaded}
 use Rattle.rulefile.specs.Loading.{typePlaces, functionPlaces, Tabled}
-use Rattle.rulefile.proofs.Tabled.{program-types, program-function}
+use Rattle.rulefile.proofs.Tabled.{program-types, program-function, program-source, program-label, program-depth, program-steps, program-source-there, program-source-types}
 use Rattle.steps.specs.Stepping.{outlineOf, FileOf}
+use Rattle.loaded.specs.Beginning.{GivenFile}
+use Rattle.loaded.proofs.Loaded.{goal-of}
 
 -- the same outline with another goal
 abbrev withGoal : Outline → Goal → Outline
@@ -46,7 +50,7 @@ unfolding outlineAt
 code-goal file types functions goal i e code = (code .0, goal-free (outlineAt file types functions goal) (goalAt file 0) e (code .1), code .2)
 
 -- a loaded file is the file of its program
-pub file-of : {file : List ℕ} {r : Loaded} {p : Program} → Tabled file r p → FileOf file (typePlaces r) (functionPlaces r) p
+file-of : {file : List ℕ} {r : Loaded} {p : Program} → Tabled file r p → FileOf file (typePlaces r) (functionPlaces r) p
 file-of {file} {r} t = record {
   types-there = program-types t;
   function-there = λ f below.
@@ -58,4 +62,15 @@ file-of {file} {r} t = record {
             (code-body file (outlineAt file (typePlaces r) (functionPlaces r) (r .«goal_at»)) head (found .0) (found .2)),
       );
   small = t .size;
+}
+
+-- and with its goal it is what both runs are given
+pub given-file :
+    {file : List ℕ} {r : Loaded} {p : Program} → check file ≡ accepted p → Tabled file r p → GivenFile file (typePlaces r) (functionPlaces r) (r .«goal_at») p
+given-file checked t = record {
+  checked = checked;
+  file-of = file-of t;
+  goal-is = goal-of _ (program-source t) (program-label t) (program-depth t) (program-steps t);
+  source-there = omega (arith, program-source-there t, t .functions-count);
+  parameters-there = program-source-types t;
 }

@@ -1,12 +1,13 @@
 -- What a file that was loaded says of its tables, its goal and the words that a run asks for, by the answer of the check.
 -- Rests on reach's Limits and on rulefile's Tabled.
-use Prim.Native.Nat.{ℕ, _+_, _*_, _≤_}
+use Prim.Native.Nat.{ℕ, _≤_}
 use mathlib.Core.Path.{_≡_, sym, ap, subst}
 use mathlib.Core.List.{List, _++_}
 use native.Mathlib.Omega.{arith}
 use lib.ListN.{length, take, drop, length-take}
 use lib.Seq.{drop-at}
 use Rattle.reach.specs.declared.Refusal.{Refusal}
+use Rattle.reach.specs.Limits.{workWords}
 use Rattle.reach.specs.Syntax.{Program}
 use Rattle.reach.specs.RuleFile.{Goal}
 use Rattle.reach.specs.Places.{goalAt}
@@ -57,9 +58,9 @@ module _ (file : List ℕ) (r : Loaded) (loads : Loads file r) (is : r .answer �
 
   -- the words behind those that were lent on are as before
   pub behind-kept :
-      (v w : List ℕ) {limit : ℕ} → limit ≡ (goalAt file (r .«goal_at»)) .steps → length v ≡ 64 * limit + 1024 → (p : Program) → check file ≡ accepted p
-      → drop (64 * p .steps + 1024) (v ++ drop (64 * limit + 1024) w) ≡ drop (64 * p .steps + 1024) w
-  behind-kept v w {limit} read-limit same p checked =
+      (v w : List ℕ) {limit words : ℕ} → limit ≡ (goalAt file (r .«goal_at»)) .steps → words ≡ workWords limit → length v ≡ words
+      → (p : Program) → check file ≡ accepted p → drop (workWords (p .steps)) (v ++ drop words w) ≡ drop (workWords (p .steps)) w
+  behind-kept v w {limit} {words} read-limit enough same p checked =
       let one : here .0 ≡ p = cc (here .1) in
-      let z : 64 * p .steps + 1024 ≡ 64 * limit + 1024 = omega (arith, program-steps (here .2), ap (λ (x : Program). x .steps) one) in
-      rw z (drop-at v (drop (64 * limit + 1024) w) (64 * limit + 1024) same)
+      let z : workWords (p .steps) ≡ words = omega (arith, program-steps (here .2), ap (λ (x : Program). x .steps) one) in
+      rw z (drop-at v (drop words w) words same)

@@ -1,1 +1,31 @@
-// What a loaded rule file gives both runs: its tables, its goal and the bounds of its numbers. (Laws alone.)
+// What a loaded rule file gives both runs: its tables, its goal and the bounds of its numbers, which are laws alone, and the beginning of a
+// run. Rests on crates rulefile, lookups, machine, cells and steps.
+ghost use mathlib.Core.Path.{_≡_};
+ghost use Prim.Native.Nat.{_+_, _*_, _≤_};
+ghost use lib.ListN.{length};
+ghost use Rattle.loaded.specs.Beginning.{Opened, startRegisters};
+use cells::start_cells;
+use lookups::Head;
+use machine::put_record;
+use steps::EXPRESSION;
+use steps::Registers;
+
+// The beginning of a run: open cells for the parameters of the source, each as deep as this, the records of the empty environment and of
+// the parameters' group, and the registers with which the source's body is evaluated.
+pub fn open_input(file: &[u8], work: &mut [u32], base: usize, head: Head, deep: usize) -> Registers
+    requires { ⌜ (5 * head .count ≤ base) × (base + 12 ≤ length (now work)) × (head .count ≤ 255) × (head .parameters ≤ 1000000) × (deep ≤ 255) ⌝ }
+    ensures { λ r. ⌜ r ≡ startRegisters (head .body) ⌝ }
+    ensures words { λ _. ⌜ Opened (now (file .entry)) (now (work .entry)) (now (work .exit)) base (head .parameters) (head .count) deep ⌝ }
+{
+    let n = head.count;
+    start_cells(file, work, head.parameters, n, deep);
+    put_record(work, base, 0, 0, 0, 0, 0);
+    put_record(work, base, 1, 0, n, 0, 0);
+    Registers {
+        kind: EXPRESSION,
+        place: head.body,
+        env: 1,
+        frame: 0,
+        records: 2,
+    }
+}

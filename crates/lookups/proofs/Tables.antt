@@ -4,7 +4,7 @@
 use Prim.Native.Nat.{ℕ, zero, suc, _+_, _-_, _≤_, _<_}
 use mathlib.Core.Path.{_≡_, refl, sym, _∙_, ap}
 use mathlib.Core.List.{List, [], _∷_, map}
-use mathlib.Core.Option.{none, some}
+use mathlib.Core.Option.{none, some, Option·some-injective, Option·none-ne-some}
 use lib.ListN.{length, getD, getElem?, drop, drop-of-length-le}
 use lib.Seq.{drop-cons}
 use native.Mathlib.Numerals.{add-one}
@@ -17,7 +17,7 @@ use Rattle.lookups.specs.declared.Fields.{Fields}
 use Rattle.lookups.specs.declared.Fields.the-variants as Fields
 use Rattle.lookups.specs.declared.Head.{Head}
 use Rattle.lookups.specs.declared.Constructors.{Constructors}
-use Rattle.lookups.specs.Fields.{Near, fieldsIn}
+use Rattle.lookups.specs.Fields.{Near, fieldsOf, fieldsIn, FieldCount}
 use Rattle.lookups.specs.Heads.{headOf}
 
 module _ {A B : Type 0} (f : A → B) where
@@ -111,6 +111,17 @@ module _ (s : List ℕ) where
 -- fields that were found, at their place
 pub near-at : {i n : ℕ} (r : Fields) → Near r → r ≡ Fields.At i n → (i ≤ 1000000) × (n ≤ 255)
 near-at r near e = rw e at near
+
+-- how many fields a constructor has, by the answer to where they stand
+pub count-known :
+    (s types : List ℕ) (t c : ℕ) {i n : ℕ} (r : Fields) → fieldsOf s r ≡ fieldsIn s types t c → Near r → r ≡ Fields.At i n → FieldCount s types t c n
+count-known s types t c {i} {n} r told near is = (
+  λ us are. sym (bytes-length s i n) ∙ ap length (Option·some-injective _ _ (ap (fieldsOf s) (sym is) ∙ (told ∙ are))),
+  near-at r near is .1,
+)
+
+pub count-unknown : (s types : List ℕ) (t c : ℕ) {r : Fields} → fieldsOf s r ≡ fieldsIn s types t c → r ≡ Fields.Unknown → FieldCount s types t c 0
+count-unknown s types t c told is = (λ us are. absurd (Option·none-ne-some us (ap (fieldsOf s) (sym is) ∙ (told ∙ are))), omega arith)
 
 -- what stands at the places from number t on
 module _ {A : Type 0} (f : ℕ → A) (places : List ℕ) (t : ℕ) where

@@ -1,10 +1,10 @@
 // Lookups in a rule file whose records stand at known places: the entry of a table of places, what the record of a function says,
-// where the constructors of a type stand, and where the fields of a constructor do. Rests on crate marks.
+// where the constructors of a type stand, where the fields of a constructor do and how many there are. Rests on crate marks.
 ghost use mathlib.Core.Path.{_≡_};
 ghost use Prim.Native.Nat.{ℕ, _≤_};
 ghost use lib.ListN.{getD, getElem?};
 ghost use Rattle.reach.specs.Places.{constructorsAt, typeAt, headAt};
-ghost use Rattle.lookups.specs.Fields.{fieldsOf, fieldsIn, Near};
+ghost use Rattle.lookups.specs.Fields.{fieldsOf, fieldsIn, Near, FieldCount};
 ghost use Rattle.lookups.specs.Heads.{headOf, NearHead, NearType};
 use marks::byte_or_zero;
 
@@ -99,4 +99,14 @@ pub fn fields_of<'a>(s: &'a [u8], types: &'a [u16], t: usize, c: usize) -> Field
     }
     let all = constructors_of(s, types, t);
     fields_at(s, all.at, all.count, c)
+}
+
+// How many fields a constructor has.
+pub fn field_count<'a>(s: &'a [u8], types: &'a [u16], t: usize, c: usize) -> usize
+    ensures { λ r. ⌜ FieldCount (now (s .entry)) (now (types .entry)) t c r ⌝ }
+{
+    let Fields::At(_, n) = fields_of(s, types, t, c) else {
+        return 0;
+    };
+    n
 }

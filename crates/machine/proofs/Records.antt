@@ -1,6 +1,6 @@
 -- Records of environments and waiting cases: they are kept while the words and cells that they speak of are, a new record adds to them, the
 -- count word is the number of variables in view, and a variable is found by walking outward.
--- Rests on specs/Records, on Codes and on reach's Evaluation.
+-- Rests on specs/Records, on Codes and on reach's States.
 use Prim.Native.Nat.{ℕ, zero, suc, _+_, _-_, _*_, _≤_, _<_}
 use mathlib.Core.Path.{_≡_, refl, _∙_, subst}
 use mathlib.Core.Bool.{Bool, true, false}
@@ -13,7 +13,6 @@ use borrow.Author.Tests.{ltb-true, ltb-false, lt-ltb, le-ltb}
 use Rattle.reach.specs.Base.{pick}
 use Rattle.reach.specs.Syntax.{Expr, Exprs, []ₑ, _∷ₑ_, count, nthExpr, Alternatives}
 use Rattle.reach.specs.Parts.{Parts, Place, at, There}
-use Rattle.reach.specs.Encoding.{countAlternatives}
 use Rattle.reach.specs.RuleFile.{Outline}
 use Rattle.reach.specs.Eval.{Row, partOf, Env, empty, operands, inputParts, size, Closure, suspended, inputPart, suspend, lookup, Frame, waiting, State}
 use Rattle.reach.proofs.Base.{clash}
@@ -49,8 +48,8 @@ module _
 
     pub frames-kept : {f : ℕ} {fs : List Frame} → f < t → FramesAt file o w base cell f fs → FramesIn e fs → FramesAt file o w′ base cell′ f fs
     frames-kept below none-at there = none-at
-    frames-kept below (waiting-at holds a<r f<r n code env rest) there =
-        waiting-at (holds-kept w w′ base t same below holds) a<r f<r n code (env-kept (omega arith) env (there .0)) (frames-kept (omega arith) rest (there .1))
+    frames-kept below (waiting-at holds a<r f<r code env rest) there =
+        waiting-at (holds-kept w w′ base t same below holds) a<r f<r code (env-kept (omega arith) env (there .0)) (frames-kept (omega arith) rest (there .1))
 
     -- the record that the control names is one of those, or it names none
     pub state-kept :
@@ -75,11 +74,11 @@ module _
     parts-added holds a<t n outer outer-in parts = parts-at holds a<t n (env-kept a<t outer outer-in) parts
 
     pub waiting-added :
-        {i n a f : ℕ} {alts : Alternatives} {env : Env} {fs : List Frame} → Holds w′ base t i n a f → a < t → f < t → n ≡ countAlternatives alts
+        {i a f : ℕ} {alts : Alternatives} {env : Env} {fs : List Frame} → Holds w′ base t i 0 a f → a < t → f < t
         → CodeAlternatives file o i alts → EnvAt file o w base cell a env → EnvIn e env → FramesAt file o w base cell f fs → FramesIn e fs
         → FramesAt file o w′ base cell′ t (waiting alts env ∷ fs)
-    waiting-added holds a<t f<t n code env env-in frames frames-in =
-        waiting-at holds a<t f<t n code (env-kept a<t env env-in) (frames-kept f<t frames frames-in)
+    waiting-added holds a<t f<t code env env-in frames frames-in =
+        waiting-at holds a<t f<t code (env-kept a<t env env-in) (frames-kept f<t frames frames-in)
 
 -- Variables.
 

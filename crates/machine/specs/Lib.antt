@@ -1,3 +1,4 @@
+pub mod Layout
 pub mod Cells
 pub mod Records
 pub mod Walks

@@ -1,13 +1,13 @@
 -- Environments, waiting cases and the state of the evaluation in the lent words: records of four words from a base on, only ever added.
--- Rests on reach's Eval, Encoding and RuleFile, and on Cells.
+-- Rests on reach's Eval, Encoding and RuleFile.
 use Prim.Native.Nat.{ℕ, suc, _+_, _*_, _≤_, _<_}
 use mathlib.Core.Path.{_≡_}
 use mathlib.Core.List.{List, [], _∷_}
-use lib.ListN.{getD}
+use lib.ListN.{length, getD}
 use Rattle.reach.specs.Limits.{nestingLimit}
 use Rattle.reach.specs.Syntax.{Expr, Exprs, count, Alternatives}
 use Rattle.reach.specs.Parts.{Place}
-use Rattle.reach.specs.Encoding.{Stands, StandsAll, StandsAlternatives, Arity, ArityAll, ArityAlternatives, nesting, nestingAll, nestingAlternatives, countAlternatives}
+use Rattle.reach.specs.Encoding.{Stands, StandsAll, StandsAlternatives, Arity, ArityAll, ArityAlternatives, nesting, nestingAll, nestingAlternatives}
 use Rattle.reach.specs.RuleFile.{Outline}
 use Rattle.reach.specs.Eval.{Row, partOf, Env, empty, operands, inputParts, size, Frame, waiting, State, evaluating, inspecting, missing}
 
@@ -21,6 +21,16 @@ pub record Holds (w : List ℕ) (base r a b c d : ℕ) : Type 0 where
   pub word-1 : recordWord w base r 1 ≡ b
   pub word-2 : recordWord w base r 2 ≡ c
   pub word-3 : recordWord w base r 3 ≡ d
+
+-- no word changed but those of the record at the top
+pub record OnlyTop (w w′ : List ℕ) (base records : ℕ) : Type 0 where
+  pub same-length : length w′ ≡ length w
+  pub elsewhere : (i : ℕ) → (base + 4 * records ≤ i → base + 4 * (records + 1) ≤ i) → getD w′ i 0 ≡ getD w i 0
+
+-- the record at the top was written
+pub record Wrote (w w′ : List ℕ) (base top a b c d : ℕ) : Type 0 where
+  pub only-top : OnlyTop w w′ base top
+  pub holds : Holds w′ base top a b c d
 
 -- An expression of the file, at the place where its bytes stand; operands; alternatives.
 abbrev pub Code : List ℕ → Outline → ℕ → Expr → Type 0
@@ -56,10 +66,10 @@ module _ (file : List ℕ) (o : Outline) (w : List ℕ) (base : ℕ) (cell : Pla
     parts-at : {r a x n k : ℕ} {outer : Env} {row : Row} → Holds w base r a n x 0 → a < r → n ≡ size outer + k
         → EnvAt a outer → ((j : ℕ) → j < k → cell (partOf row j) ≡ x + j) → EnvAt r (inputParts outer row k)
 
-  -- A waiting case is a record: where its alternatives stand, how many there are, its environment, and the record of the next frame. 0 is no frame.
+  -- A waiting case is a record: where its alternatives stand, 0, its environment, and the record of the next frame. Record 0 is no frame.
   pub data FramesAt : ℕ → List Frame → Type 0 where
     none-at : FramesAt 0 []
-    waiting-at : {r i n a f : ℕ} {alts : Alternatives} {env : Env} {fs : List Frame} → Holds w base r i n a f → a < r → f < r → n ≡ countAlternatives alts
+    waiting-at : {r i a f : ℕ} {alts : Alternatives} {env : Env} {fs : List Frame} → Holds w base r i 0 a f → a < r → f < r
         → CodeAlternatives file o i alts → EnvAt a env → FramesAt f fs → FramesAt r (waiting alts env ∷ fs)
 
   -- A state is what is being evaluated and the record of the innermost frame. No numbers stand for `stuck`.

@@ -19,13 +19,13 @@ use Rattle.reach.proofs.Limits.{accepted-keeps}
 use Rattle.reach.proofs.NeverStuck.{never-stuck}
 use Rattle.reach.proofs.Places.{bytes-length}
 use Rattle.machine.specs.Cells.{cellWord, cellOf, Binds}
-use Rattle.lookups.specs.Fields.{fieldsIn}
+use Rattle.lookups.specs.Fields.{fieldsIn, FieldCount}
 use Rattle.cells.proofs.Rooms.{cell-room}
 use Rattle.steps.specs.declared.Registers.{Registers}
 use Rattle.steps.specs.declared.Next.{Next}
 use Rattle.steps.specs.declared.Next.the-variants as Next
-use Rattle.steps.specs.Stepping.{StepMeans, Stepped, FieldCount}
-use Rattle.steps.specs.Running.{BoundPart}
+use Rattle.steps.specs.Stepping.{StepMeans, Stepped}
+use Rattle.steps.specs.Running.{AtBoundPart}
 use Rattle.steps.proofs.Waiting.{waits-control}
 use Rattle.choices.specs.Choices.{Setting, Given, choiceWord, reopened, waitingAt, Path, ChoicesAt}
 use Rattle.choices.specs.Weights.{power, weight}
@@ -130,7 +130,7 @@ module _ {g : Setting} (given : Given g) {w : List ℕ} {h n i k : ℕ} (f : For
         (λ us are. many ∙ ap length (Option·some-injective _ _ (sym known ∙ are)), omega (arith, few))
 
     -- its case goes on with it
-    pub take-bound : BoundPart (g .file) (g .types) (g .functions) w₁ (g .base) x (waitingAt (g .stack) w h) n k (choiceWord (g .stack) w h 4)
+    pub take-bound : AtBoundPart (g .file) (g .types) (g .functions) w₁ (g .base) x (waitingAt (g .stack) w h) n k (choiceWord (g .stack) w h 4)
     take-bound = record {
       standing = step-standing given path₁;
       is-part = refl;
@@ -201,15 +201,15 @@ module _
 
     pub fork-bound :
         (least : List ℕ) (p : Program) (limit : ℕ) → Given (setting file types functions least p limit base stack)
-        → Forking (setting file types functions least p limit base stack) w h n i k → BoundPart file types functions w₁ base x from n k cells
+        → Forking (setting file types functions least p limit base stack) w h n i k → AtBoundPart file types functions w₁ base x from n k cells
     fork-bound least p limit given f = rw (x-is, frame-is, records-is, cells-is) (take-bound given f bound-there)
 
     module _
         {w₂ : List ℕ} {to : Registers}
-        (stepped : (label : ℕ) → BoundPart file types functions w₁ base x from n k cells → Stepped file types functions w₁ w₂ base label from (Next.Goes to))
+        (stepped : (label : ℕ) → AtBoundPart file types functions w₁ base x from n k cells → Stepped file types functions w₁ w₂ base label from (Next.Goes to))
       where
         stepped-there :
-            (label : ℕ) → BoundPart file types functions w₁ base x from n k cells → Stepped file types functions w₁ w₂ base label (waitingAt stack w h) (Next.Goes to)
+            (label : ℕ) → AtBoundPart file types functions w₁ base x from n k cells → Stepped file types functions w₁ w₂ base label (waitingAt stack w h) (Next.Goes to)
         stepped-there label bound = rw (x-is, frame-is, records-is) at (stepped label bound)
 
         pub fork-takes :

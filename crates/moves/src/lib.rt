@@ -11,6 +11,8 @@ use choices::find_return;
 use choices::push_choice;
 use depths::Depths;
 use steps::Halt;
+use steps::MISSING;
+use steps::PART;
 use steps::Registers;
 use steps::enter_part;
 use steps::run_on;
@@ -61,7 +63,7 @@ fn ended(cells: usize, done: usize, height: usize) -> Walk
     Walk {
         paths: 0,
         registers: Registers {
-            kind: 0,
+            kind: MISSING,
             place: 0,
             env: 0,
             frame: 0,
@@ -157,7 +159,7 @@ fn take_fork<'a>(
     let steps = choice_word(work, stack, h, 5);
     bind_cell(file, work, x, c, fields, k, cells);
     let from = Registers {
-        kind: 1,
+        kind: PART,
         place: x,
         env: 0,
         frame,

@@ -1,6 +1,6 @@
 -- The answer of the whole search, by what the check and the exploration found; the list slice, of which only its room was lent on; and the words.
--- Rests on specs/Answering and specs/Exploring, on Cutting and Beginning, and on the laws of loaded files.
-use Prim.Native.Nat.{ℕ, _+_, _*_, _≤_, _<_, min}
+-- Rests on specs/Answering and specs/Exploring, on Cutting, and on the laws of loaded files.
+use Prim.Native.Nat.{ℕ, _+_, _≤_, _<_, min}
 use mathlib.Core.Path.{_≡_, refl, sym, _∙_, ap, subst}
 use mathlib.Core.List.{List, [], _∷_, _++_}
 use native.Mathlib.Omega.{arith}
@@ -20,9 +20,9 @@ use Rattle.machine.proofs.Cells.{kept-cells}
 use Rattle.rulefile.specs.declared.Checked.the-variants as Checked
 use Rattle.rulefile.specs.declared.Loaded.{Loaded}
 use Rattle.rulefile.specs.Loading.{typePlaces, functionPlaces, Tabled, Loads}
-use Rattle.rulefile.proofs.Tabled.{program-source, program-label, program-depth, program-steps, program-source-there, program-source-types}
-use Rattle.loaded.proofs.Files.{file-of}
-use Rattle.loaded.proofs.Loaded.{goal-of, loaded-accepted, loaded-refused, behind-kept}
+use Rattle.rulefile.proofs.Tabled.{program-steps}
+use Rattle.loaded.proofs.Files.{given-file}
+use Rattle.loaded.proofs.Loaded.{loaded-accepted, loaded-refused, behind-kept}
 use Rattle.search.specs.declared.Answer.{Answer}
 use Rattle.search.specs.declared.Answer.the-variants as Answer
 use Rattle.search.specs.Answering.{Promised}
@@ -63,7 +63,7 @@ module _ (file : List ℕ) (r : Loaded) (loads : Loads file r) where
   pub search-refused : (work list : List ℕ) {why : Refusal} → r .answer ≡ Checked.Refused why → Promised file work work list list (Answer.Refused why)
   search-refused work list {why} is = keeps-refused file work list why (answer-refused file (length work) (length list) why (loaded-refused file r loads is))
 
-  module _ (is : r .answer ≡ Checked.Accepted) {limit : ℕ} (read-limit : limit ≡ (goalAt file (r .«goal_at»)) .steps) where
+  module _ (is : r .answer ≡ Checked.Accepted) {limit words : ℕ} (read-limit : limit ≡ (goalAt file (r .«goal_at»)) .steps) (words-are : words ≡ workWords limit) where
     abbrev here : (p : Program) × (check file ≡ accepted p) × Tabled file r p
     here = loaded-accepted file r loads is
 
@@ -71,32 +71,24 @@ module _ (file : List ℕ) (r : Loaded) (loads : Loads file r) where
     limit-is = read-limit ∙ program-steps (here .2)
 
     -- too few words
-    pub search-short : (work list : List ℕ) → length work < 64 * limit + 1024 → Promised file work work list list (Answer.Refused WorkTooShort)
+    pub search-short : (work list : List ℕ) → length work < words → Promised file work work list list (Answer.Refused WorkTooShort)
     search-short work list short = keeps-refused file work list WorkTooShort (answer-short file (length work) (length list) (here .0) (here .1) (omega (arith, limit-is)))
 
     -- enough of them
     pub search-able :
-        (work : List ℕ) → 64 * limit + 1024 ≤ length work
-        → (p : Program) × Searchable file (typePlaces r) (functionPlaces r) (r .least) (r .«goal_at») (take (64 * limit + 1024) work) p
+        (work : List ℕ) → words ≤ length work
+        → (p : Program) × Searchable file (typePlaces r) (functionPlaces r) (r .least) (r .«goal_at») (take words work) p
     search-able work enough = (
       here .0,
-      record {
-        checked = here .1;
-        file-of = file-of (here .2);
-        least-are = here .2 .depths;
-        goal-is = goal-of _ (program-source (here .2)) (program-label (here .2)) (program-depth (here .2)) (program-steps (here .2));
-        source-there = omega (arith, program-source-there (here .2), here .2 .functions-count);
-        parameters-there = program-source-types (here .2);
-        long = omega (arith, length-take (64 * limit + 1024) work, limit-is);
-      },
+      record { of-file = given-file (here .1) (here .2); least-are = here .2 .depths; long = omega (arith, length-take words work, limit-is) },
     )
 
     module _
-        (work list v after : List ℕ) (enough : 64 * limit + 1024 ≤ length work) {room : ℕ} (room-is : room ≡ roomOf (length list))
-        (long : length v ≡ 64 * limit + 1024)
+        (work list v after : List ℕ) (enough : words ≤ length work) {room : ℕ} (room-is : room ≡ roomOf (length list))
+        (long : length v ≡ words)
       where
         abbrev work-then : List ℕ
-        work-then = v ++ drop (64 * limit + 1024) work
+        work-then = v ++ drop words work
 
         abbrev list-then : List ℕ
         list-then = after ++ drop room list
@@ -110,7 +102,7 @@ module _ (file : List ℕ) (r : Loaded) (loads : Loads file r) where
             → Cells (p .types) (sourceSlots p) work-then top (e p)
         stands-then {p} checked {top} e stands =
             let one : here .0 ≡ p = cc (here .1, checked) in
-            subst (λ (x : Program). Cells (x .types) (sourceSlots x) work-then top (e x)) one (cells-longer (drop (64 * limit + 1024) work) stands)
+            subst (λ (x : Program). Cells (x .types) (sourceSlots x) work-then top (e x)) one (cells-longer (drop words work) stands)
 
         keeps-whole : (n : ℕ) (d : Rattle.reach.specs.declared.Verdict.Verdict) → WholeList (settingOf file (typePlaces r) (functionPlaces r) (r .least) (here .0)) (take room list) after v n d
             → Promised file work work-then list list-then (Answer.Complete n d)
@@ -121,7 +113,7 @@ module _ (file : List ℕ) (r : Loaded) (loads : Loads file r) where
             record {
               answer-is = rw (answered, whole .length-is, whole .verdict-is) refl;
               list-is = rw (answered, listed-complete es, whole .list-is) (written-front es list room (room-inside list room-is) fits);
-              words-are = λ p checked. (behind-kept file r loads is v work read-limit long p checked, whole-open p checked (whole .all-open .1));
+              words-are = λ p checked. (behind-kept file r loads is v work read-limit words-are long p checked, whole-open p checked (whole .all-open .1));
             }
           where
             whole-open :
@@ -129,7 +121,7 @@ module _ (file : List ℕ) (r : Loaded) (loads : Loads file r) where
                 → Cells (p .types) (sourceSlots p) work-then (length (sourceTypes p)) (openInput p)
             whole-open p checked stands =
                 let one : here .0 ≡ p = cc (here .1, checked) in
-                subst (λ (x : Program). Cells (x .types) (sourceSlots x) work-then (length (sourceTypes x)) (openInput x)) one (cells-longer (drop (64 * limit + 1024) work) stands)
+                subst (λ (x : Program). Cells (x .types) (sourceSlots x) work-then (length (sourceTypes x)) (openInput x)) one (cells-longer (drop words work) stands)
 
         keeps-first : (n : ℕ) → FirstEntries (settingOf file (typePlaces r) (functionPlaces r) (r .least) (here .0)) (take room list) after v n
             → Promised file work work-then list list-then (Answer.Full n)
@@ -144,7 +136,7 @@ module _ (file : List ℕ) (r : Loaded) (loads : Loads file r) where
               list-is = rw (answered, listed-short es, first .list-is) (written-front es list room (room-inside list room-is) fits);
               words-are = λ p checked.
                   let one : here .0 ≡ p = cc (here .1, checked) in (
-                    behind-kept file r loads is v work read-limit long p checked,
+                    behind-kept file r loads is v work read-limit words-are long p checked,
                     (
                       es,
                       first .next,
@@ -159,7 +151,7 @@ module _ (file : List ℕ) (r : Loaded) (loads : Loads file r) where
 
         pub search-done :
             (a : Answer)
-            → ((p : Program) → Searchable file (typePlaces r) (functionPlaces r) (r .least) (r .«goal_at») (take (64 * limit + 1024) work) p
+            → ((p : Program) → Searchable file (typePlaces r) (functionPlaces r) (r .least) (r .«goal_at») (take words work) p
             → Explored (settingOf file (typePlaces r) (functionPlaces r) (r .least) p) (take room list) after v a)
             → Promised file work work-then list list-then a
         unfolding search-able

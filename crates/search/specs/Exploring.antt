@@ -1,23 +1,22 @@
--- What the search's functions promise: the words at the beginning, an entry listed at the end of a path, and the whole list of a checked file.
--- Rests on reach's Search, Lists and Moves, on cells' Writes, choices' Choices, moves' Moving, listing's Entry and on the enum of src/lib.rt.
-use Prim.Native.Nat.{ℕ, _+_, _*_, _≤_, _<_}
+-- What the search's functions promise: an entry listed at the end of a path, and the whole list of a checked file.
+-- Rests on reach's Search and Lists, on machine's Layout, loaded's Beginning, choices' Choices, moves' Moving, listing's Entry and on the enum of src/lib.rt.
+use Prim.Native.Nat.{ℕ, _+_, _≤_, _<_}
 use mathlib.Core.Path.{_≡_}
 use mathlib.Core.Bool.{Bool, true, false}
 use mathlib.Core.List.{List, [], _∷_, _++_}
-use lib.ListN.{length, getD, drop}
+use lib.ListN.{length}
 use Rattle.reach.specs.declared.Verdict.{Verdict}
 use Rattle.reach.specs.declared.Verdict.the-variants.{Found, Undecided, None}
+use Rattle.reach.specs.Limits.{workWords}
 use Rattle.reach.specs.Syntax.{Program, sourceTypes}
 use Rattle.reach.specs.Types.{sourceSlots, leastDepths}
 use Rattle.reach.specs.Eval.{start}
-use Rattle.reach.specs.Places.{bytesAt, headAt, goalAt}
 use Rattle.reach.specs.Search.{Kind, RE, UN, Entry, openInput, entries, verdict}
 use Rattle.reach.specs.Lists.{entryBytes, listBytes, written}
-use Rattle.reach.specs.Answers.{check, accepted}
+use Rattle.machine.specs.Layout.{recordsAt, choicesAt}
 use Rattle.machine.specs.Cells.{Cells}
-use Rattle.cells.specs.Writes.{Starts}
 use Rattle.steps.specs.declared.Registers.{Registers}
-use Rattle.steps.specs.Stepping.{Wrote, FileOf}
+use Rattle.loaded.specs.Beginning.{GivenFile}
 use Rattle.depths.specs.Table.{padded}
 use Rattle.choices.specs.Choices.{Setting, Given, AllOpen}
 use Rattle.choices.specs.Returning.{setting}
@@ -31,15 +30,6 @@ use Rattle.listing.specs.declared.Written.the-variants as Written
 use Rattle.listing.specs.Entry.{Listable, WroteEntry}
 use Rattle.search.specs.declared.Answer.{Answer}
 use Rattle.search.specs.declared.Answer.the-variants as Answer
-
--- The words at the beginning: the source's n parameters, whose types stand from place `first` of the file on, have open cells, and records 0 and 1 are
--- the empty environment and the parameters' group.
-pub record Opened (file w w′ : List ℕ) (base first n depth : ℕ) : Type 0 where
-  pub w₁ : List ℕ
-  pub w₂ : List ℕ
-  pub starts : Starts w w₁ n (bytesAt file first n) depth
-  pub zeros : Wrote w₁ w₂ base 0 0 0 0 0
-  pub group : Wrote w₂ w′ base 1 0 n 0 0
 
 -- the walk at the beginning
 abbrev pub firstWalk : ℕ → Registers → Walk
@@ -118,16 +108,12 @@ Explores file types functions least label w w′ limit base stack parameters r b
     (p : Program) → Begins (setting file types functions least p limit base stack) label w parameters r
     → Explored (setting file types functions least p limit base stack) before after w′ a
 
--- A checked file with its tables, and as many words as its search needs.
+-- A checked file with its tables and its least depths, and as many words as its search needs.
 pub record Searchable (file types functions least : List ℕ) (goal : ℕ) (w : List ℕ) (p : Program) : Type 0 where
-  pub checked : check file ≡ accepted p
-  pub file-of : FileOf file types functions p
+  pub of-file : GivenFile file types functions goal p
   pub least-are : least ≡ padded (leastDepths (p .types))
-  pub goal-is : goalAt file goal ≡ record { source = p .source; label = p .label; depth = p .depth; steps = p .steps }
-  pub source-there : p .source < length functions
-  pub parameters-there : sourceTypes p ≡ (headAt file (getD functions (p .source) 0)) .parameters
-  pub long : length w ≡ 64 * p .steps + 1024
+  pub long : length w ≡ workWords (p .steps)
 
 -- the setting of its search
 abbrev pub settingOf : List ℕ → List ℕ → List ℕ → List ℕ → Program → Setting
-settingOf file types functions least p = setting file types functions least p (p .steps) (30 * p .steps + 80) (34 * p .steps + 96)
+settingOf file types functions least p = setting file types functions least p (p .steps) (recordsAt (p .steps)) (choicesAt (p .steps))

@@ -1,20 +1,23 @@
 // The search of a rule file for the partial inputs that reach the target, by lazy narrowing: depth first, in moves, over one path
 // with a stack of choice points, all of it in the lent words; entries are written to the lent list. Rests on crates rulefile,
-// lookups, cells, steps, moves and listing.
+// loaded, lookups, machine, steps, moves and listing.
 ghost use mathlib.Core.Path.{_≡_};
-ghost use Prim.Native.Nat.{ℕ, _+_, _*_, _≤_};
+ghost use Prim.Native.Nat.{_≤_};
 ghost use lib.ListN.{length};
 ghost use Rattle.reach.specs.Syntax.{Program};
 ghost use Rattle.skipping.specs.Ends.{Ends};
 ghost use Rattle.search.specs.Answering.{Promised};
-ghost use Rattle.search.specs.Exploring.{Opened, firstWalk, GoesOn, verdictAfter, ListableAs, WroteAs, SomeBegins, Explores, Searchable, settingOf, Explored};
-use cells::start_cells;
+ghost use Rattle.search.specs.Exploring.{firstWalk, GoesOn, verdictAfter, ListableAs, WroteAs, SomeBegins, Explores, Searchable, settingOf, Explored};
 use depths::Depths;
 use entries::room;
 use listing::Mark;
 use listing::Written;
 use listing::write_entry;
+use loaded::open_input;
 use lookups::head_of;
+use machine::choices_at;
+use machine::records_at;
+use machine::work_words;
 use moves::Listing;
 use moves::Walk;
 use moves::make_moves;
@@ -28,7 +31,6 @@ use rulefile::source;
 use rulefile::steps;
 use skipping::fill_ends;
 use steps::Registers;
-use steps::put_record;
 
 // The answer: a refusal of 1 to 9 or 11; the length of a complete list with its verdict; or, with refusal 12, the length of the list
 // that was cut short.
@@ -189,17 +191,6 @@ fn explore<'a>(
     Answer::Complete(at, verdict)
 }
 
-// The words at the beginning: open cells for the n parameters of the source, whose types stand from a place of the file on, and the
-// records of the empty environment and of the parameters' group.
-fn open_input(file: &[u8], work: &mut [u32], base: usize, first: usize, n: usize, deep: usize)
-    requires { ⌜ (5 * n ≤ base) × (base + 12 ≤ length (now work)) × (n ≤ 255) × (first ≤ 1000000) × (deep ≤ 255) ⌝ }
-    ensures { λ _. ⌜ Opened (now (file .entry)) (now (work .entry)) (now (work .exit)) base first n deep ⌝ }
-{
-    start_cells(file, work, first, n, deep);
-    put_record(work, base, 0, 0, 0, 0, 0);
-    put_record(work, base, 1, 0, n, 0, 0);
-}
-
 // The search of a checked file, in as many words as it needs.
 fn search_checked<'a>(
     file: &'a [u8],
@@ -216,19 +207,11 @@ fn search_checked<'a>(
     let mut ends = [0u16; 16384];
     fill_ends(file, types, functions, &mut ends);
     let limit = steps(file, goal);
-    let base = 30 * limit + 80;
-    let stack = 34 * limit + 96;
+    let base = records_at(limit);
+    let stack = choices_at(limit);
     let head = head_of(file, functions, source(file, goal));
-    let first = head.parameters;
     let n = head.count;
-    open_input(file, work, base, first, n, depth(file, goal));
-    let from = Registers {
-        kind: 2,
-        place: head.body,
-        env: 1,
-        frame: 0,
-        records: 2,
-    };
+    let from = open_input(file, work, base, head, depth(file, goal));
     explore(
         file,
         types,
@@ -261,7 +244,7 @@ pub fn search<'a>(file: &'a [u8], work: &mut [u32], list: &mut [u8]) -> Answer
     let type_at = loaded.type_at;
     let function_at = loaded.function_at;
     let least = loaded.least;
-    let words = 64 * steps(file, goal) + 1024;
+    let words = work_words(steps(file, goal));
     if work.len() < words {
         return Answer::Refused(Refusal::WorkTooShort);
     }

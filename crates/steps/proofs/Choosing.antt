@@ -1,5 +1,5 @@
 -- The innermost waiting case and the alternative that is chosen for it; and a construction, which is the value that the case looks at, or the end.
--- Rests on Kept, on machine's Records and Codes, and on reach's NeverStuck.
+-- Rests on Kept, on machine's Records and Codes, and on reach's States.
 use Prim.Native.Nat.{ℕ, _+_, _≤_, _<_}
 use mathlib.Core.Path.{_≡_, refl, sym, _∙_, subst}
 use mathlib.Core.List.{List, [], _∷_}
@@ -11,7 +11,7 @@ use Rattle.reach.specs.Eval as Eval
 use Rattle.reach.specs.Eval.{Env, operands, size, Frame, waiting, State, choose, view, answer, next}
 use Rattle.reach.specs.States.{EnvIn, FramesIn, Chooses, Sound}
 use Rattle.machine.specs.Cells.{cellOf}
-use Rattle.machine.specs.Records.{recordWord, Code, CodeAlternatives, nothingLeft, EnvAt, FramesAt, evaluating-at, missing-at}
+use Rattle.machine.specs.Records.{recordWord, Code, CodeAlternatives, nothingLeft, EnvAt, FramesAt, evaluating-at, missing-at, OnlyTop, Wrote}
 use Rattle.machine.specs.Walks.{ChosenAt}
 use Rattle.machine.proofs.Codes.{chosen-at, code-construct}
 use Rattle.machine.proofs.Records.{count-word}
@@ -19,8 +19,10 @@ use Rattle.steps.specs.declared.Registers.{Registers}
 use Rattle.steps.specs.declared.Alternative.{Alternative}
 use Rattle.steps.specs.declared.Alternative.the-variants as Alternative
 use Rattle.steps.specs.declared.Next.the-variants as Next
-use Rattle.steps.specs.Stepping.{outlineOf, controlIn, FileOf, StandsFor, Standing, Ready, OnlyTop, Wrote, Follows, Stepped, StepMeans, FieldCount, Found, Chose, chose-none, chose-one}
-use Rattle.steps.proofs.Words.{few-kept, nothing-written}
+use Rattle.lookups.specs.Fields.{FieldCount}
+use Rattle.steps.specs.Stepping.{outlineOf, controlIn, FileOf, StandsFor, Standing, Ready, Follows, Stepped, StepMeans, Found, Chose, chose-none, chose-one, missingKind, expressionKind}
+use Rattle.machine.proofs.Words.{nothing-written}
+use Rattle.steps.proofs.Words.{few-kept}
 use Rattle.steps.proofs.Which.{when-construct, when-missing, when-no-frame, when-waiting}
 use Rattle.steps.proofs.Kept.{Met, shown, state-of, frames-there, operands-there, few-added}
 
@@ -64,13 +66,13 @@ module _
     (is-i : i ≡ recordWord w base (r .frame) 0) (found : Found file types functions i c a)
   where
     pub chose-absent :
-        a ≡ Alternative.Absent → Chose file types functions w w base r c k first inner (record { kind = 0; place = 0; env = 0; frame = 0; records = r .records })
+        a ≡ Alternative.Absent → Chose file types functions w w base r c k first inner (record { kind = missingKind; place = 0; env = 0; frame = 0; records = r .records })
     chose-absent is = chose-none (nothing-written w base (r .records)) (subst (λ (x : Alternative). Found file types functions (recordWord w base (r .frame) 0) c x) is (subst (λ (j : ℕ). Found file types functions j c a) is-i found))
 
     pub chose-present :
         {w′ : List ℕ} {place env seen next′ : ℕ} → env ≡ recordWord w base (r .frame) 2 → seen ≡ recordWord w base env 1 → next′ ≡ recordWord w base (r .frame) 3
         → a ≡ Alternative.Present place → Wrote w w′ base (r .records) env (seen + k) first inner
-        → Chose file types functions w w′ base r c k first inner (record { kind = 2; place = place; env = r .records; frame = next′; records = r .records + 1 })
+        → Chose file types functions w w′ base r c k first inner (record { kind = expressionKind; place = place; env = r .records; frame = next′; records = r .records + 1 })
     chose-present {w′} {place} {env} {seen} is-env is-seen is-next is wrote =
         rw is-next
         (chose-one place

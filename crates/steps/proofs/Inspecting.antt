@@ -1,5 +1,5 @@
 -- A part of the input is the value that a waiting case looks at, or the end; the case waits where the part is open.
--- Rests on Choosing, on machine's Cells and on reach's NeverStuck.
+-- Rests on Choosing, on machine's Cells and on reach's States.
 use Prim.Native.Nat.{ℕ, suc, _+_, _-_, _≤_, _<_}
 use mathlib.Core.Path.{_≡_, refl, sym, _∙_, ap, subst}
 use mathlib.Core.List.{List, [], _∷_}
@@ -11,13 +11,15 @@ use Rattle.reach.specs.Eval.{fieldsOf, partOf, Env, inputParts, size, Frame, wa
 use Rattle.reach.specs.States.{FramesIn, StateIn, PartHas, Chooses, Sound}
 use Rattle.reach.proofs.Order.{field-there}
 use Rattle.machine.specs.Cells.{cellOf, cellWord}
-use Rattle.machine.specs.Records.{recordWord, partIn, EnvAt, FramesAt}
+use Rattle.machine.specs.Records.{recordWord, partIn, EnvAt, FramesAt, Wrote}
 use Rattle.machine.proofs.Cells.{walk-field, head-open, head-constructor}
 use Rattle.machine.proofs.Records.{count-word, parts-added}
 use Rattle.steps.specs.declared.Registers.{Registers}
 use Rattle.steps.specs.declared.Next.the-variants as Next
-use Rattle.steps.specs.Stepping.{outlineOf, controlIn, StandsFor, Standing, Wrote, Stepped, StepMeans, FieldCount, Chose}
-use Rattle.steps.proofs.Words.{records-same, cells-same, nothing-written}
+use Rattle.lookups.specs.Fields.{FieldCount}
+use Rattle.steps.specs.Stepping.{outlineOf, controlIn, StandsFor, Standing, Stepped, StepMeans, Chose}
+use Rattle.machine.proofs.Words.{records-same, nothing-written}
+use Rattle.steps.proofs.Words.{cells-same}
 use Rattle.steps.proofs.Which.{when-part, when-no-frame}
 use Rattle.steps.proofs.Kept.{state-of}
 use Rattle.steps.proofs.Choosing.{Pending, pending, pending-there, chose-only, counted, chosen}

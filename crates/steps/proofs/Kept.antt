@@ -7,19 +7,19 @@ use native.Mathlib.Omega.{arith}
 use lib.ListN.{length, getD}
 use Rattle.reach.specs.Syntax.{Expr, Exprs, count, Alternatives, Program}
 use Rattle.reach.specs.Parts.{Parts}
-use Rattle.reach.specs.Encoding.{countAlternatives}
 use Rattle.reach.specs.Eval as Eval
 use Rattle.reach.specs.Eval.{Env, operands, size, Frame, waiting, State}
 use Rattle.reach.specs.States.{EnvIn, FramesIn, StateIn, Sound}
 use Rattle.machine.specs.Cells.{cellOf}
-use Rattle.machine.specs.Records.{Holds, Code, CodeAll, CodeAlternatives, Control, expressionAt, environmentOf, EnvAt, FramesAt, StateAt}
+use Rattle.machine.specs.Records.{Holds, Code, CodeAll, CodeAlternatives, Control, expressionAt, environmentOf, EnvAt, FramesAt, StateAt, OnlyTop, Wrote}
 use Rattle.machine.proofs.Codes.{Coded, coded-known, code-kind}
 use Rattle.machine.proofs.Records.{env-kept, frames-kept, operands-added, waiting-added}
 use Rattle.steps.specs.declared.Registers.{Registers}
 use Rattle.steps.specs.declared.Next.{Next}
 use Rattle.steps.specs.declared.Next.the-variants as Next
-use Rattle.steps.specs.Stepping.{outlineOf, controlIn, Few, StandsFor, Standing, Ready, OnlyTop, Wrote, StepMeans, Leads, Stepped}
-use Rattle.steps.proofs.Words.{records-same, cells-same, few-more}
+use Rattle.steps.specs.Stepping.{outlineOf, controlIn, Few, StandsFor, Standing, Ready, StepMeans, Leads, Stepped}
+use Rattle.machine.proofs.Words.{records-same}
+use Rattle.steps.proofs.Words.{cells-same, few-more}
 use Rattle.steps.proofs.Which.{when-expression}
 
 -- the state, by what the control is
@@ -121,14 +121,14 @@ module _
 
     -- or a waiting case
     pub waiting-there :
-        {i n a f : ℕ} {alts : Alternatives} {env : Env} {fs : List Frame} → Holds w′ base (r .records) i n a f → a < r .records → f < r .records
-        → n ≡ countAlternatives alts → CodeAlternatives file (outlineOf file types functions) i alts
+        {i a f : ℕ} {alts : Alternatives} {env : Env} {fs : List Frame} → Holds w′ base (r .records) i 0 a f → a < r .records → f < r .records
+        → CodeAlternatives file (outlineOf file types functions) i alts
         → EnvAt file (outlineOf file types functions) w base (cellOf w) a env → EnvIn e env
         → FramesAt file (outlineOf file types functions) w base (cellOf w) f fs → FramesIn e fs
         → FramesAt file (outlineOf file types functions) w′ base (cellOf w′) (r .records) (waiting alts env ∷ fs)
-    waiting-there holds a<t f<t many code env env-in frames frames-in =
+    waiting-there holds a<t f<t code env env-in frames frames-in =
         waiting-added file (outlineOf file types functions) w w′ base (r .records) (cellOf w) (cellOf w′) e (records-same only) ((cells-same only stands) .0)
-        holds a<t f<t many code env env-in frames frames-in
+        holds a<t f<t code env env-in frames frames-in
 
 -- the counts after a record with such a count was added
 pub few-added :

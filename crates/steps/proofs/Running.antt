@@ -11,8 +11,9 @@ use Rattle.steps.specs.declared.Next.{Next}
 use Rattle.steps.specs.declared.Next.the-variants as Next
 use Rattle.steps.specs.declared.Halt.{Halt}
 use Rattle.steps.specs.declared.Ran.{Ran}
-use Rattle.steps.specs.Stepping.{Stepped, FieldCount, Chose}
-use Rattle.steps.specs.Running.{BoundPart, StepsTo, ComesToHalt, RunsOn}
+use Rattle.lookups.specs.Fields.{FieldCount}
+use Rattle.steps.specs.Stepping.{Stepped, Chose}
+use Rattle.steps.specs.Running.{AtBoundPart, StepsTo, ComesToHalt, RunsOn}
 use Rattle.steps.proofs.Inspecting.{part-chooses, part-goes}
 
 module _ (file types functions : List ℕ) (label : ℕ) where
@@ -37,7 +38,7 @@ module _ (file types functions : List ℕ) (label : ℕ) where
 
 -- A case that goes on with a bound part.
 module _
-    (file types functions w : List ℕ) (base cell : ℕ) (r : Registers) (c k first : ℕ) (bound : BoundPart file types functions w base cell r c k first)
+    (file types functions w : List ℕ) (base cell : ℕ) (r : Registers) (c k first : ℕ) (bound : AtBoundPart file types functions w base cell r c k first)
   where
     pub enters : recordWord w base (r .frame) 2 < r .records
     enters =

@@ -11,24 +11,22 @@ use borrow.Author.Tests.{eq-eqb, ne-eqb}
 use Rattle.reach.specs.Base.{pick}
 use Rattle.reach.specs.Syntax.{Expr, call, case, bind, target, Exprs, []ₑ, _∷ₑ_, count, Alternatives, Function, Program, functionAt}
 use Rattle.reach.specs.Parts.{Parts}
-use Rattle.reach.specs.Encoding.{countAlternatives}
 use Rattle.reach.specs.Eval as Eval
 use Rattle.reach.specs.Eval.{Env, empty, operands, size, Frame, waiting, State, enter, view, answer, next}
 use Rattle.reach.specs.RuleFile.{Head}
-use Rattle.reach.specs.Places.{constructorsAt, typeAt, headAt, outlineAt}
+use Rattle.reach.specs.Places.{headAt, outlineAt}
 use Rattle.lookups.specs.declared.Head as Looked
-use Rattle.lookups.specs.declared.Constructors.{Constructors}
 use Rattle.lookups.specs.Heads.{headOf}
-use Rattle.lookups.proofs.Tables.{parameters-many, constructors-many}
+use Rattle.lookups.proofs.Tables.{parameters-many}
 use Rattle.machine.specs.Cells.{cellOf}
-use Rattle.machine.specs.Records.{recordWord, Code, empty-at, evaluating-at}
+use Rattle.machine.specs.Records.{recordWord, Code, empty-at, evaluating-at, Wrote}
 use Rattle.machine.proofs.Codes.{code-call, code-let, code-one, code-case, code-target}
 use Rattle.machine.proofs.Records.{count-word}
 use Rattle.steps.specs.declared.Registers.{Registers}
 use Rattle.steps.specs.declared.Next.{Next}
 use Rattle.steps.specs.declared.Next.the-variants as Next
-use Rattle.steps.specs.Stepping.{outlineOf, FileOf, StandsFor, Ready, Wrote, Leads, Stepped, StepMeans, PassedOver}
-use Rattle.steps.proofs.Words.{nothing-written}
+use Rattle.steps.specs.Stepping.{outlineOf, FileOf, StandsFor, Ready, Leads, Stepped, StepMeans, PassedOver, expressionKind}
+use Rattle.machine.proofs.Words.{nothing-written}
 use Rattle.steps.proofs.Which.{when-call, when-let, when-case, when-target}
 use Rattle.steps.proofs.Kept.{Met, StepsAt, steps-by, env-there, frames-there, operands-there, waiting-there, few-added}
 
@@ -62,7 +60,7 @@ module _
     (wrote : Wrote w w′ base (r .records) 0 (head .count) (i + 2) (env + 1))
   where
     call-after : Registers
-    call-after = record { kind = 2; place = head .body; env = r .records; frame = r .frame; records = r .records + 1 }
+    call-after = record { kind = expressionKind; place = head .body; env = r .records; frame = r .frame; records = r .records + 1 }
 
     call-follows :
         (types : List ℕ) (p : Program) (cells : ℕ) (e : Parts) (s : State) → FileOf file types functions p → StandsFor file types functions p w base cells r e s
@@ -93,7 +91,7 @@ module _
 
     pub call-leads :
         (types : List ℕ)
-        → Leads file types functions w w′ base r (record { kind = 2; place = head .body; env = r .records; frame = r .frame; records = r .records + 1 })
+        → Leads file types functions w w′ base r (record { kind = expressionKind; place = head .body; env = r .records; frame = r .frame; records = r .records + 1 })
     unfolding call-after
     call-leads types = record {
       only-top = wrote .only-top;
@@ -116,7 +114,7 @@ module _
     (is-seen : seen ≡ recordWord w base env 1) (wrote : Wrote w w′ base (r .records) env (seen + 1) (i + 2) (env + 1))
   where
     let-after : Registers
-    let-after = record { kind = 2; place = body; env = r .records; frame = r .frame; records = r .records + 1 }
+    let-after = record { kind = expressionKind; place = body; env = r .records; frame = r .frame; records = r .records + 1 }
 
     let-follows :
         (p : Program) (cells : ℕ) (e : Parts) (s : State) → StandsFor file types functions p w base cells r e s
@@ -141,7 +139,7 @@ module _
           },
         )
 
-    pub let-leads : Leads file types functions w w′ base r (record { kind = 2; place = body; env = r .records; frame = r .frame; records = r .records + 1 })
+    pub let-leads : Leads file types functions w w′ base r (record { kind = expressionKind; place = body; env = r .records; frame = r .frame; records = r .records + 1 })
     unfolding let-after
     let-leads = record {
       only-top = wrote .only-top;
@@ -158,21 +156,12 @@ case-next :
 unfolding next answer view
 case-next p e t y alts env fs = refl
 
--- a case has as many alternatives as the type's record says
-cased :
-    (file types functions : List ℕ) (t : ℕ) (alts : Alternatives) (cs : List (List ℕ)) → getElem? ((outlineOf file types functions) .types) t ≡ some cs
-    → countAlternatives alts ≡ length cs → countAlternatives alts ≡ length (typeAt file (getD types t 0))
-unfolding outlineAt
-cased file types functions t alts cs is many = many ∙ ap length (sym (mapped (typeAt file) types 0 t cs is .1))
-
 module _
-    (file types functions w w′ : List ℕ) (base i env : ℕ) (r : Registers) {alternatives : ℕ} (all : Constructors) (ready : Ready file w base r 3 i env)
-    (found : PassedOver file types functions (i + 2) alternatives)
-    (is : constructorsAt file (all .at) (all .count) ≡ typeAt file (getD types (getD file (i + 1) 0) 0)) (small : all .count ≤ 255)
-    (wrote : Wrote w w′ base (r .records) alternatives (all .count) env (r .frame))
+    (file types functions w w′ : List ℕ) (base i env : ℕ) (r : Registers) {alternatives : ℕ} (ready : Ready file w base r 3 i env)
+    (found : PassedOver file types functions (i + 2) alternatives) (wrote : Wrote w w′ base (r .records) alternatives 0 env (r .frame))
   where
     case-after : Registers
-    case-after = record { kind = 2; place = i + 2; env = env; frame = r .records; records = r .records + 1 }
+    case-after = record { kind = expressionKind; place = i + 2; env = env; frame = r .records; records = r .records + 1 }
 
     case-follows :
         (p : Program) (cells : ℕ) (e : Parts) (s : State) → StandsFor file types functions p w base cells r e s
@@ -180,15 +169,12 @@ module _
         → StepMeans file types functions w w′ base r p e (Eval.evaluating (case t y alts) env′ fs) (Next.Goes case-after)
     unfolding case-after
     case-follows p cells e s stands t y alts env′ fs met =
-        let at = code-case file (outlineOf file types functions) i t y alts (met .code) in
-        let arity = met .code .1 in
-        let here : constructorsAt file (all .at) (all .count) ≡ typeAt file (getD types t 0) = is ∙ ap (λ (k : ℕ). typeAt file (getD types k 0)) (at .1 .1) in
-        let many : all .count ≡ countAlternatives alts = sym (cased file types functions t alts (arity .0) (arity .1) (arity .2) ∙ constructors-many file all here) in (
+        let at = code-case file (outlineOf file types functions) i t y alts (met .code) in (
           Eval.evaluating y env′ (waiting alts env′ ∷ fs),
           case-next p e t y alts env′ fs,
           record {
             state = evaluating-at (at .2) (env-there stands (wrote .only-top) (ready .environment-there) (met .env-at) (met .env-in))
-                (waiting-there stands (wrote .only-top) (wrote .holds) (ready .environment-there) (ready .space .frame-below) many (at .3 alternatives (found y (at .2)))
+                (waiting-there stands (wrote .only-top) (wrote .holds) (ready .environment-there) (ready .space .frame-below) (at .3 alternatives (found y (at .2)))
                 (met .env-at) (met .env-in) (met .frames-at) (met .frames-in));
             environment-below = omega (arith, ready .environment-there);
             frame-below = omega arith;
@@ -198,7 +184,7 @@ module _
           },
         )
 
-    pub case-leads : Leads file types functions w w′ base r (record { kind = 2; place = i + 2; env = env; frame = r .records; records = r .records + 1 })
+    pub case-leads : Leads file types functions w w′ base r (record { kind = expressionKind; place = i + 2; env = env; frame = r .records; records = r .records + 1 })
     unfolding case-after
     case-leads = record {
       only-top = wrote .only-top;
@@ -237,9 +223,9 @@ module _ (file types functions w : List ℕ) (base label i env : ℕ) (r : Regis
 
   pub target-goes :
       (getD file (i + 1) 0 ≡ label → ⊥)
-      → Stepped file types functions w w base label r (Next.Goes (record { kind = 2; place = i + 2; env = env; frame = r .frame; records = r .records }))
+      → Stepped file types functions w w base label r (Next.Goes (record { kind = expressionKind; place = i + 2; env = env; frame = r .frame; records = r .records }))
   unfolding answer
-  target-goes other = target-steps (Next.Goes (record { kind = 2; place = i + 2; env = env; frame = r .frame; records = r .records })) (λ p e sought l y env′ fs met.
+  target-goes other = target-steps (Next.Goes (record { kind = expressionKind; place = i + 2; env = env; frame = r .frame; records = r .records })) (λ p e sought l y env′ fs met.
       let at = code-target file (outlineOf file types functions) i l y (met .code) in (
         Eval.evaluating y env′ fs,
         rw (target-next, ne-eqb l (p .label) (λ same. other (at .1 .1 ∙ (same ∙ sym sought)))),

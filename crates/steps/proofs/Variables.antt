@@ -18,8 +18,8 @@ use Rattle.machine.proofs.Records.{variable-at, variable-part, variable-operand
 use Rattle.steps.specs.declared.Registers.{Registers}
 use Rattle.steps.specs.declared.Next.{Next}
 use Rattle.steps.specs.declared.Next.the-variants as Next
-use Rattle.steps.specs.Stepping.{outlineOf, StandsFor, Standing, Ready, Leads, VariableThere, Group, OperandIn}
-use Rattle.steps.proofs.Words.{nothing-written}
+use Rattle.steps.specs.Stepping.{outlineOf, StandsFor, Standing, Ready, Leads, VariableThere, Group, OperandIn, partKind, expressionKind}
+use Rattle.machine.proofs.Words.{nothing-written}
 use Rattle.steps.proofs.Which.{when-variable}
 use Rattle.steps.proofs.Kept.{Met, shown, StepsAt, steps-by}
 
@@ -76,8 +76,8 @@ module _ (file types functions w : List ℕ) (base i env : ℕ) (r : Registers) 
     where
       -- a part of the input
       pub part-leads :
-          inner ≡ 0 → Leads file types functions w w base r (record { kind = 1; place = first + (n - outside); env = 0; frame = r .frame; records = r .records })
-      part-leads mark = variable-leads (record { kind = 1; place = first + (n - outside); env = 0; frame = r .frame; records = r .records }) (λ p cells e s stands m env′ fs met.
+          inner ≡ 0 → Leads file types functions w w base r (record { kind = partKind; place = first + (n - outside); env = 0; frame = r .frame; records = r .records })
+      part-leads mark = variable-leads (record { kind = partKind; place = first + (n - outside); env = 0; frame = r .frame; records = r .records }) (λ p cells e s stands m env′ fs met.
           let there = found p cells e s stands m env′ fs met in
           let at-group = group-is .outward file (outlineOf file types functions) (cellOf w) (there .0) (there .2) in
           let part = variable-part file (outlineOf file types functions) w base (cellOf w) n group (there .0) at-group (group-is .inside) (sym is-inner ∙ mark) in (
@@ -96,8 +96,8 @@ module _ (file types functions w : List ℕ) (base i env : ℕ) (r : Registers) 
       -- an operand, in the environment in which it stands
       pub operand-leads :
           {place : ℕ} → (inner ≡ 0 → ⊥) → OperandIn file types functions first (n - outside) place
-          → Leads file types functions w w base r (record { kind = 2; place = place; env = inner - 1; frame = r .frame; records = r .records })
-      operand-leads {place} other placed = variable-leads (record { kind = 2; place = place; env = inner - 1; frame = r .frame; records = r .records }) (λ p cells e s stands m env′ fs met.
+          → Leads file types functions w w base r (record { kind = expressionKind; place = place; env = inner - 1; frame = r .frame; records = r .records })
+      operand-leads {place} other placed = variable-leads (record { kind = expressionKind; place = place; env = inner - 1; frame = r .frame; records = r .records }) (λ p cells e s stands m env′ fs met.
           let there = found p cells e s stands m env′ fs met in
           let at-group = group-is .outward file (outlineOf file types functions) (cellOf w) (there .0) (there .2) in
           let (y, env″, is, before, env-at, operand) = variable-operand file (outlineOf file types functions) w base (cellOf w) n group (there .0) at-group (group-is .inside) (λ zero-mark. other (is-inner ∙ zero-mark)) in (

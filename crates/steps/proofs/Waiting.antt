@@ -61,7 +61,7 @@ looks-at (inspecting-at is frames) = (ap partIn (sym is), framed frames)
     framed :
         {file : List ℕ} {o : Outline} {w : List ℕ} {base : ℕ} {cell : Place → ℕ} {f : ℕ} {alts : Alternatives} {env : Env} {fs : List Frame}
         → FramesAt file o w base cell f (waiting alts env ∷ fs) → f ≡ 0 → ⊥
-    framed (waiting-at holds a<f next<f n code env rest) is = absurd (clash (omega arith))
+    framed (waiting-at holds a<f next<f code env rest) is = absurd (clash (omega arith))
 
 pub waits-control :
     {file types functions : List ℕ} {p : Program} {w : List ℕ} {base cells : ℕ} {r : Registers} {e : Parts} {s : State} {q : Question}

@@ -1,23 +1,17 @@
--- What the parts of a step find: what the table of ends gives, the fields of a constructor, and the walk outward to a variable's group.
--- Rests on Stepping, on machine's laws of codes and records, on skipping's Finding and on the answers of lookups.
-use Prim.Native.Nat.{ℕ, zero, suc, _+_, _≤_, _<_}
-use mathlib.Core.Path.{_≡_, refl, sym, _∙_, ap}
-use mathlib.Core.List.{List, [], _∷_, map}
-use mathlib.Core.Option.{some, Option·some-injective, Option·none-ne-some}
+-- What the parts of a step find: what the table of ends gives, and the walk outward to a variable's group.
+-- Rests on Stepping, on machine's laws of codes and records, and on skipping's Finding.
+use Prim.Native.Nat.{ℕ, _+_, _<_}
+use mathlib.Core.Path.{_≡_, refl}
+use mathlib.Core.List.{List}
 use native.Mathlib.Omega.{arith}
-use lib.ListN.{length, getD, getElem?}
-use Rattle.reach.specs.Syntax.{fieldTypes}
-use Rattle.reach.specs.Places.{bytesAt, constructorsAt, typeAt}
-use Rattle.reach.proofs.Places.{bytes-length}
-use Rattle.lookups.specs.declared.Fields.{Fields}
-use Rattle.lookups.specs.Fields.{fieldsOf, fieldsIn}
+use lib.ListN.{getD}
 use Rattle.skipping.specs.Ends.{Ends, passedOperands, passedAlternatives}
 use Rattle.skipping.proofs.Finding.{operand-found, alternative-found}
 use Rattle.machine.specs.Records.{recordWord}
 use Rattle.machine.proofs.Codes.{chosen-missing, chosen-present}
 use Rattle.machine.specs.Walks.{outsideOf}
 use Rattle.machine.proofs.Records.{variable-outer, variable-outside}
-use Rattle.steps.specs.Stepping.{outlineOf, Outward, VariableThere, FieldCount, PassedOver, OperandIn, Found}
+use Rattle.steps.specs.Stepping.{outlineOf, Outward, VariableThere, PassedOver, OperandIn, Found}
 use Rattle.steps.specs.declared.Alternative.the-variants as Alternative
 
 -- What the table of ends gives: the place behind an expression, an operand, and an alternative, missing or with its expression.
@@ -36,41 +30,6 @@ module _ (file types functions ends : List ℕ) (filled : Ends file types functi
     pub found-present : (getD file place 0 ≡ 0 → ⊥) → Found file types functions i c (Alternative.Present (place + 1))
     found-present other new fs s there =
         chosen-present file (outlineOf file types functions) new fs place 0 s (rw is (alternative-found file types functions ends filled new fs i c s there)) refl other
-
--- The fields of a constructor are as many as a byte says.
-module _ (file : List ℕ) (bytes : (i : ℕ) → getD file i 0 ≤ 255) where
-  few-constructors : (i n c : ℕ) (us : List ℕ) → getElem? (constructorsAt file i n) c ≡ some us → length us ≤ 255
-  unfolding constructorsAt
-  few-constructors i zero c us is = absurd (Option·none-ne-some us is)
-  few-constructors i (suc n) zero us is =
-      omega (arith, bytes i, ap length (Option·some-injective _ _ is), bytes-length file (i + 1) (getD file i 0))
-  few-constructors i (suc n) (suc c) us is = few-constructors (i + 1 + getD file i 0) n c us is
-
-  few-of : (types : List ℕ) (t c : ℕ) (us : List ℕ) → getElem? (getD (map (typeAt file) types) t []) c ≡ some us → length us ≤ 255
-  unfolding typeAt
-  few-of [] t c us is = absurd (Option·none-ne-some us is)
-  few-of (i ∷ types) zero c us is = few-constructors (i + 1) (getD file i 0) c us is
-  few-of (i ∷ types) (suc t) c us is = few-of types t c us is
-
-  pub few-fields : (types : List ℕ) (t c : ℕ) (us : List ℕ) → fieldsIn file types t c ≡ some us → length us ≤ 255
-  unfolding fieldTypes
-  few-fields types t c us is = few-of types t c us is
-
--- how many there are, by the answer to where they stand
-pub count-known :
-    (file types : List ℕ) (t c : ℕ) {i n : ℕ} {r : Fields} → ((i : ℕ) → getD file i 0 ≤ 255) → fieldsOf file r ≡ fieldsIn file types t c → r ≡ Fields.At i n
-    → FieldCount file types t c n
-count-known file types t c {i} {n} bytes told is = (
-  λ us are. sym (bytes-length file i n) ∙ ap length (Option·some-injective _ _ (sym found ∙ are)),
-  omega (arith, few-fields file bytes types t c (bytesAt file i n) found, bytes-length file i n),
-)
-  where
-    found : fieldsIn file types t c ≡ some (bytesAt file i n)
-    found = sym told ∙ ap (fieldsOf file) is
-
-pub count-unknown :
-    (file types : List ℕ) (t c : ℕ) {r : Fields} → fieldsOf file r ≡ fieldsIn file types t c → r ≡ Fields.Unknown → FieldCount file types t c 0
-count-unknown file types t c told is = (λ us are. absurd (Option·none-ne-some us (ap (fieldsOf file) (sym is) ∙ (told ∙ are))), omega arith)
 
 -- The walk outward.
 module _ (w : List ℕ) (base n env : ℕ) where

@@ -64,7 +64,7 @@ module _ (G : Expr → Type 0) where
 module _ {file : List ℕ} {o : Outline} {w : List ℕ} {base : ℕ} {cell : Place → ℕ} (G : List Frame → Type 0) where
   pub when-no-frame : {f : ℕ} {fs : List Frame} → f ≡ 0 → FramesAt file o w base cell f fs → G [] → G fs
   when-no-frame is none-at show = show
-  when-no-frame is (waiting-at holds a<f next<f n code env rest) show = absurd (clash (omega arith))
+  when-no-frame is (waiting-at holds a<f next<f code env rest) show = absurd (clash (omega arith))
 
   pub when-waiting :
       {f : ℕ} {fs : List Frame} → (f ≡ 0 → ⊥) → FramesAt file o w base cell f fs
@@ -73,5 +73,5 @@ module _ {file : List ℕ} {o : Outline} {w : List ℕ} {base : ℕ} {cell : Pla
       → FramesAt file o w base cell (recordWord w base f 3) rest → G (waiting alts outer ∷ rest))
       → G fs
   when-waiting some none-at show = absurd (some refl)
-  when-waiting some (waiting-at holds a<f next<f n code env rest) show =
+  when-waiting some (waiting-at holds a<f next<f code env rest) show =
       show _ _ _ (rw (holds .word-2) a<f) (rw (holds .word-3) next<f) (rw (holds .word-0) code) (rw (holds .word-2) env) (rw (holds .word-3) rest)

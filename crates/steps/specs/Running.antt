@@ -10,10 +10,11 @@ use Rattle.steps.specs.declared.Next.the-variants as Next
 use Rattle.steps.specs.declared.Halt.{Halt}
 use Rattle.steps.specs.declared.Halt.the-variants as Halt
 use Rattle.steps.specs.declared.Ran.{Ran}
-use Rattle.steps.specs.Stepping.{controlIn, Standing, Stepped, FieldCount}
+use Rattle.lookups.specs.Fields.{FieldCount}
+use Rattle.steps.specs.Stepping.{controlIn, Standing, Stepped}
 
 -- A case looks at the part in this cell, which is bound to constructor c with its k fields in the cells from `first` on.
-pub record BoundPart (file types functions w : List ℕ) (base cell : ℕ) (r : Registers) (c k first : ℕ) : Type 0 where
+pub record AtBoundPart (file types functions w : List ℕ) (base cell : ℕ) (r : Registers) (c k first : ℕ) : Type 0 where
   pub standing : Standing file types functions w base r
   pub is-part : controlIn r ≡ partIn cell
   pub some-frame : r .frame ≡ 0 → ⊥

@@ -1,5 +1,5 @@
 -- What the registers and the lent words stand for, and what a step promises: it is one step of the published evaluation.
--- Rests on machine's Cells, Records and Walks, on reach's Eval, Places, Evaluation and NeverStuck, and on the types of src/lib.rt.
+-- Rests on machine's Cells, Records and Walks, on reach's Eval, Places and States, and on the types of src/lib.rt.
 use Prim.Native.Nat.{ℕ, zero, suc, _+_, _*_, _-_, _≤_, _<_}
 use mathlib.Core.Path.{_≡_}
 use mathlib.Core.List.{List, map}
@@ -13,9 +13,8 @@ use Rattle.reach.specs.Eval.{State, Question, Env, Frame, Closure}
 use Rattle.reach.specs.RuleFile.{Outline}
 use Rattle.reach.specs.Places.{typeAt, headAt, outlineAt}
 use Rattle.reach.specs.States.{StateIn, Sound}
-use Rattle.lookups.specs.Fields.{fieldsIn}
 use Rattle.machine.specs.Cells.{Cells, cellOf}
-use Rattle.machine.specs.Records.{Code, Holds, recordWord, Control, environmentOf, StateAt, expressionAt, partIn, nothingLeft}
+use Rattle.machine.specs.Records.{Code, Holds, OnlyTop, Wrote, recordWord, Control, environmentOf, StateAt, expressionAt, partIn, nothingLeft}
 use Rattle.machine.specs.Walks.{Behind, OperandAt, ChosenAt, VariableAt, outsideOf}
 use Rattle.steps.specs.declared.Registers.{Registers}
 use Rattle.steps.specs.declared.Alternative.{Alternative}
@@ -26,6 +25,16 @@ use Rattle.steps.specs.declared.Next.the-variants as Next
 -- the outline whose types and functions stand at these places
 abbrev pub outlineOf : List ℕ → List ℕ → List ℕ → Outline
 outlineOf file types functions = outlineAt file types functions 0
+
+-- the kinds of what is being evaluated: nothing, an alternative being missing; a part of the input; an expression
+abbrev pub missingKind : ℕ
+missingKind = 0
+
+abbrev pub partKind : ℕ
+partKind = 1
+
+abbrev pub expressionKind : ℕ
+expressionKind = 2
 
 -- what is being evaluated, by its kind, its place and its environment's record
 abbrev pub controlOf : ℕ → ℕ → ℕ → Control
@@ -85,16 +94,6 @@ pub record Ready (file w : List ℕ) (base : ℕ) (r : Registers) (code i env : 
   pub environment-there : env < r .records
   pub space : Space w base r
 
--- no word changed but those of the record at the top
-pub record OnlyTop (w w′ : List ℕ) (base records : ℕ) : Type 0 where
-  pub same-length : length w′ ≡ length w
-  pub elsewhere : (i : ℕ) → (base + 4 * records ≤ i → base + 4 * (records + 1) ≤ i) → getD w′ i 0 ≡ getD w i 0
-
--- the record at the top was written
-pub record Wrote (w w′ : List ℕ) (base top a b c d : ℕ) : Type 0 where
-  pub only-top : OnlyTop w w′ base top
-  pub holds : Holds w′ base top a b c d
-
 -- After a step to registers r′ the words stand for state s′ (there may be no room for a further record then).
 pub record Follows (file types functions w′ : List ℕ) (base records : ℕ) (r′ : Registers) (s′ : State) : Type 0 where
   pub state : StateAt file (outlineOf file types functions) w′ base (cellOf w′) (controlIn r′) (r′ .frame) s′
@@ -143,10 +142,6 @@ pub record Group (w : List ℕ) (base n env group : ℕ) : Type 0 where
   pub inside : outsideOf w base group ≤ n
   pub no-later : group ≤ env
 
--- constructor c of type t, if there is one, has n fields, and there are no more than a byte says
-abbrev pub FieldCount : List ℕ → List ℕ → ℕ → ℕ → ℕ → Type 0
-FieldCount file types t c n = ((us : List ℕ) → fieldsIn file types t c ≡ some us → n ≡ length us) × (n ≤ 255)
-
 module _ (file types functions : List ℕ) where
   -- where an expression stands at i, next is the place behind it
   abbrev pub PassedOver : ℕ → ℕ → Type 0
@@ -169,8 +164,8 @@ module _ (file types functions : List ℕ) where
   -- environment is the record at the top.
   pub data Chose (w w′ : List ℕ) (base : ℕ) (r : Registers) (c k first inner : ℕ) : Registers → Type 0 where
     chose-none : OnlyTop w w′ base (r .records) → Found (recordWord w base (r .frame) 0) c Alternative.Absent
-        → Chose w w′ base r c k first inner (record { kind = 0; place = 0; env = 0; frame = 0; records = r .records })
+        → Chose w w′ base r c k first inner (record { kind = missingKind; place = 0; env = 0; frame = 0; records = r .records })
     chose-one : (i : ℕ)
         → Wrote w w′ base (r .records) (recordWord w base (r .frame) 2) (recordWord w base (recordWord w base (r .frame) 2) 1 + k) first inner
         → Found (recordWord w base (r .frame) 0) c (Alternative.Present i)
-        → Chose w w′ base r c k first inner (record { kind = 2; place = i; env = r .records; frame = recordWord w base (r .frame) 3; records = r .records + 1 })
+        → Chose w w′ base r c k first inner (record { kind = expressionKind; place = i; env = r .records; frame = recordWord w base (r .frame) 3; records = r .records + 1 })

@@ -2,28 +2,33 @@
 // the top and never changed; expressions are read where they stand in the file. Rests on crates machine, skipping and lookups.
 ghost use mathlib.Core.Path.{_≡_};
 ghost use mathlib.Core.List.{List};
-ghost use Prim.Native.Nat.{ℕ, _+_, _*_, _≤_, _<_};
-ghost use lib.ListN.{getD, length};
-ghost use Rattle.machine.specs.Cells.{cellWord};
+ghost use Prim.Native.Nat.{ℕ, _≤_, _<_};
 ghost use Rattle.machine.specs.Records.{recordWord, expressionAt, partIn};
 ghost use Rattle.machine.specs.Walks.{outsideOf};
-ghost use Rattle.steps.specs.Stepping.{controlIn, Space, Standing, Ready, Wrote, Leads, Stepped, VariableThere, Group, FieldCount, Found, Chose};
-ghost use Rattle.steps.specs.Running.{BoundPart, Onward, RunsOn};
+ghost use Rattle.steps.specs.Stepping.{controlIn, Space, Standing, Ready, Leads, Stepped, VariableThere, Group, Found, Chose};
+ghost use Rattle.steps.specs.Running.{AtBoundPart, Onward, RunsOn};
 ghost use Rattle.steps.specs.declared.Next.the-variants as Next;
 ghost use Rattle.skipping.specs.Ends.{Ends};
-use lookups::Fields;
-use lookups::constructors_of;
-use lookups::fields_of;
+use lookups::field_count;
 use lookups::head_of;
 use lookups::place_or_zero;
-use machine::word_or_zero;
+use machine::cell_word;
+use machine::put_record;
+use machine::record_word;
 use marks::byte_or_zero;
 use skipping::pass_alternatives;
 use skipping::pass_operands;
 
-// The registers: what is being evaluated, the record of the innermost waiting case or 0, and how many records there are. Kind 2 is the expression
-// at a place of the file in an environment's record, 1 the part of the input in the cell `place`, and 0 nothing, an alternative being missing. (Numbers and no
-// enum: the loop of a search carries them around, and copying an enum there costs more than a step.)
+// The kinds of what is being evaluated: nothing, an alternative being missing; the part of the input in the cell `place`; the expression at that
+// place of the file in an environment's record. (Numbers and no enum: the loop of a search carries them around, and copying an enum there
+// costs more than a step.)
+pub const MISSING: usize = 0;
+
+pub const PART: usize = 1;
+
+pub const EXPRESSION: usize = 2;
+
+// The registers: what is being evaluated, the record of the innermost waiting case or 0, and how many records there are.
 pub struct Registers {
     pub kind: usize,
     pub place: usize,
@@ -60,43 +65,6 @@ pub struct Ran {
 pub enum Alternative {
     Absent,
     Present(usize),
-}
-
-// Word k of a record.
-fn record_word(work: &[u32], base: usize, r: usize, k: usize) -> usize
-    requires { ⌜ (base ≤ 1000000) × (r < 4294967296) × (k < 4) ⌝ }
-    ensures { λ x. ⌜ (x ≡ recordWord (now (work .entry)) base r k) × (x < 4294967296) ⌝ }
-{
-    word_or_zero(work, base + 4 * r + k)
-}
-
-// Word k of a cell.
-pub fn cell_word(work: &[u32], cell: usize, k: usize) -> usize
-    requires { ⌜ (cell ≤ 1000000) × (k < 5) ⌝ }
-    ensures { λ x. ⌜ (x ≡ cellWord (now (work .entry)) cell k) × (x < 4294967296) ⌝ }
-{
-    word_or_zero(work, 5 * cell + k)
-}
-
-// A number that fits a word.
-pub fn narrow(x: usize) -> u32
-    requires { ⌜ x < 4294967296 ⌝ }
-    ensures { λ r. ⌜ r ≡ x ⌝ }
-{
-    x as u32
-}
-
-// Four words, the record at the top.
-pub fn put_record(work: &mut [u32], base: usize, top: usize, a: usize, b: usize, c: usize, d: usize)
-    requires { ⌜ base + 4 * (top + 1) ≤ length (now work) ⌝ }
-    requires { ⌜ (a < 4294967296) × (b < 4294967296) × (c < 4294967296) × (d < 4294967296) ⌝ }
-    ensures { λ r. ⌜ Wrote (now (work .entry)) (now (work .exit)) base top a b c d ⌝ }
-{
-    let at = base + 4 * top;
-    work[at] = narrow(a);
-    work[at + 1] = narrow(b);
-    work[at + 2] = narrow(c);
-    work[at + 3] = narrow(d);
 }
 
 // The alternative for constructor c of those that begin at a place.
@@ -152,7 +120,7 @@ fn step_variable<'a>(
     let inner = record_word(work, base, group, 3);
     if inner == 0 {
         return Registers {
-            kind: 1,
+            kind: PART,
             place: first + slot,
             env: 0,
             frame: r.frame,
@@ -161,7 +129,7 @@ fn step_variable<'a>(
     }
     let place = pass_operands(ends, first, slot);
     Registers {
-        kind: 2,
+        kind: EXPRESSION,
         place,
         env: inner - 1,
         frame: r.frame,
@@ -186,7 +154,7 @@ fn step_call<'a>(
     let top = r.records;
     put_record(work, base, top, 0, head.count, at + 2, env + 1);
     Registers {
-        kind: 2,
+        kind: EXPRESSION,
         place: head.body,
         env: top,
         frame: r.frame,
@@ -218,7 +186,7 @@ fn choose<'a>(
     let seen = record_word(work, base, env, 1);
     let Alternative::Present(place) = alternative_at(file, ends, alternatives, c) else {
         return Registers {
-            kind: 0,
+            kind: MISSING,
             place: 0,
             env: 0,
             frame: 0,
@@ -227,22 +195,12 @@ fn choose<'a>(
     };
     put_record(work, base, top, env, seen + k, first, inner);
     Registers {
-        kind: 2,
+        kind: EXPRESSION,
         place,
         env: top,
         frame: next,
         records: top + 1,
     }
-}
-
-// How many fields a constructor has.
-pub fn field_count<'a>(file: &'a [u8], types: &'a [u16], t: usize, c: usize) -> usize
-    ensures { λ r. ⌜ FieldCount (now (file .entry)) (now (types .entry)) t c r ⌝ }
-{
-    let Fields::At(_, n) = fields_of(file, types, t, c) else {
-        return 0;
-    };
-    n
 }
 
 // A construction is the value that a waiting case looks at, or the end.
@@ -272,7 +230,6 @@ fn step_construct<'a>(
 // A case turns to its scrutinee and waits.
 fn step_case<'a>(
     file: &'a [u8],
-    types: &'a [u16],
     ends: &'a [u16],
     work: &mut [u32],
     base: usize,
@@ -281,14 +238,13 @@ fn step_case<'a>(
     r: Registers,
 ) -> Registers
     requires { ⌜ Ready (now file) (now work) base r 3 at env ⌝ }
-    ensures { λ x. ⌜ ((functions : List ℕ) → Ends (now (file .entry)) (now (types .entry)) functions (now (ends .entry)) → Leads (now (file .entry)) (now (types .entry)) functions (now (work .entry)) (now (work .exit)) base r x) ⌝ }
+    ensures { λ x. ⌜ ((types functions : List ℕ) → Ends (now (file .entry)) types functions (now (ends .entry)) → Leads (now (file .entry)) types functions (now (work .entry)) (now (work .exit)) base r x) ⌝ }
 {
     let top = r.records;
     let alternatives = place_or_zero(ends, at + 2);
-    let all = constructors_of(file, types, byte_or_zero(file, at + 1));
-    put_record(work, base, top, alternatives, all.count, env, r.frame);
+    put_record(work, base, top, alternatives, 0, env, r.frame);
     Registers {
-        kind: 2,
+        kind: EXPRESSION,
         place: at + 2,
         env,
         frame: top,
@@ -314,7 +270,7 @@ fn step_let<'a>(
     let seen = record_word(work, base, env, 1);
     put_record(work, base, top, env, seen + 1, at + 2, env + 1);
     Registers {
-        kind: 2,
+        kind: EXPRESSION,
         place: body,
         env: top,
         frame: r.frame,
@@ -333,8 +289,8 @@ pub fn enter_part<'a>(
     k: usize,
     first: usize,
 ) -> Registers
-    requires { ⌜ ((types functions : List ℕ) × (cell : ℕ) × BoundPart (now file) types functions (now work) base cell r c k first) ⌝ }
-    ensures { λ x. ⌜ ((types functions : List ℕ) (cell label : ℕ) → BoundPart (now (file .entry)) types functions (now (work .entry)) base cell r c k first → Ends (now (file .entry)) types functions (now (ends .entry)) → Stepped (now (file .entry)) types functions (now (work .entry)) (now (work .exit)) base label r (Next.Goes x)) ⌝ }
+    requires { ⌜ ((types functions : List ℕ) × (cell : ℕ) × AtBoundPart (now file) types functions (now work) base cell r c k first) ⌝ }
+    ensures { λ x. ⌜ ((types functions : List ℕ) (cell label : ℕ) → AtBoundPart (now (file .entry)) types functions (now (work .entry)) base cell r c k first → Ends (now (file .entry)) types functions (now (ends .entry)) → Stepped (now (file .entry)) types functions (now (work .entry)) (now (work .exit)) base label r (Next.Goes x)) ⌝ }
 {
     choose(file, ends, work, base, r, c, k, first, 0)
 }
@@ -375,7 +331,7 @@ fn step_target(file: &[u8], label: usize, at: usize, env: usize, r: Registers) -
         return Next::Demands;
     }
     Next::Goes(Registers {
-        kind: 2,
+        kind: EXPRESSION,
         place: at + 2,
         env,
         frame: r.frame,
@@ -404,7 +360,7 @@ fn step_expression<'a>(
         0 => Next::Goes(step_variable(file, ends, work, base, at, env, r)),
         1 => Next::Goes(step_call(file, functions, work, base, at, env, r)),
         2 => step_construct(file, types, ends, work, base, at, env, r),
-        3 => Next::Goes(step_case(file, types, ends, work, base, at, env, r)),
+        3 => Next::Goes(step_case(file, ends, work, base, at, env, r)),
         4 => Next::Goes(step_let(file, ends, work, base, at, env, r)),
         _ => step_target(file, label, at, env, r),
     }
@@ -426,8 +382,8 @@ fn step<'a>(
 {
     let kind = r.kind;
     match kind {
-        0 => Next::Stops,
-        1 => step_part(file, types, ends, work, base, r.place, r),
+        MISSING => Next::Stops,
+        PART => step_part(file, types, ends, work, base, r.place, r),
         _ => step_expression(
             file,
             types,

@@ -17,13 +17,12 @@ use Rattle.reach.proofs.Order.{free-unbound, ⊑-there, bind-refines, bind-has,
 use Rattle.reach.proofs.Places.{bytes-length}
 use Rattle.machine.specs.Cells.{cellWord, cellOf, Cells, Binds, Unmoved}
 use Rattle.machine.proofs.Cells.{field, walk-part, walk-kept, OneOf, bind-places, bind-elsewhere}
-use Rattle.cells.specs.Writes.{Starts}
 use Rattle.cells.proofs.Binding.{bound-cells}
 use Rattle.inputs.specs.Positions.{Placed, byteOf}
 use Rattle.inputs.proofs.Closed.{input-row, ValueStands, row-width}
 use Rattle.inputs.proofs.Rows.{sourceRow}
 use Rattle.inputs.proofs.Positions.{PartStands, input-part}
-use Rattle.values.specs.Notes.{notedPlace, Noted, NotesStand, Follows}
+use Rattle.values.specs.Notes.{notedPlace, Noted, NotesStand, FollowsInput}
 
 free-there : {s : Seen} → s ≡ free → There s
 free-there h = subst There (sym h) tt
@@ -91,15 +90,15 @@ open-places n r t = by-place (bind-places here 0 n (opened end) (inside r) refl 
     by-place (inl none) = absurd none
     by-place (inr f) = let same = f .2 in (f .0, f .1, cc)
 
--- The parameters' cells, as `start_cells` makes them, and in these the places from the first byte on, as `note_values` notes them: the words stand for
--- the input with every parameter open, and follow the closed one.
+-- The parameters' open cells, and in these the places from the first byte on, as `note_values` notes them: the words stand for the input with every
+-- parameter open, and follow the closed one.
 pub start-follows :
     {p : Program} {file types functions : List ℕ} {goal : ℕ} (placed : Placed p file types functions goal) (input : List ℕ) {j : Parts}
-    {w v w′ ts : List ℕ} {n depth : ℕ} → inputOf p input ≡ some j → ts ≡ sourceTypes p → depth ≡ p .depth → length ts ≡ n
-    → Starts w v n ts depth → Noted file types input v w′ 0 ts 0 depth → Follows (map (typeAt file) types) (sourceSlots p) w′ n (allOpen n) j
-unfolding sourceSlots
-start-follows {p} {file} {types} {functions} {goal} placed input {j} {w} {v} {w′} {ts} {n} {depth} reads source deep count starts noted = record {
-  cells = rw (← source, ← deep) (noted-cells (starts .stands known) noted (λ r c k h. absurd (open-unbound n r h)));
+    {v w′ ts : List ℕ} {n depth : ℕ} → inputOf p input ≡ some j → ts ≡ sourceTypes p → depth ≡ p .depth → length ts ≡ n
+    → Cells (map (typeAt file) types) (sourceSlots p) v n (allOpen n) → Noted file types input v w′ 0 ts 0 depth
+    → FollowsInput (map (typeAt file) types) (sourceSlots p) w′ n (allOpen n) j
+start-follows {p} {file} {types} {functions} {goal} placed input {j} {v} {w′} {ts} {n} {depth} reads source deep count cells noted = record {
+  cells = noted-cells cells noted (λ r c k h. absurd (open-unbound n r h));
   below = rw (← count, ← (row-width known input depth ts 0 whole)) (open-least j);
   notes = λ r h. by-part r (open-places n r (free-there h));
 }
@@ -163,7 +162,7 @@ open-by p there type room place = record {
 -- so it is where the input is bound as its closed bytes say
 pub open-stands :
     {p : Program} {file types functions : List ℕ} {goal : ℕ} (placed : Placed p file types functions goal) (input : List ℕ) {w : List ℕ} {top : ℕ} {e j : Parts}
-    → inputOf p input ≡ some j → (q : Place) → Follows (map (typeAt file) types) (sourceSlots p) w top e j → at e q ≡ free
+    → inputOf p input ≡ some j → (q : Place) → FollowsInput (map (typeAt file) types) (sourceSlots p) w top e j → at e q ≡ free
     → OpenStands (map (typeAt file) types) (sourceSlots p) input w e j q
 open-stands {p} {file} {types} placed input {w} {e = e} {j} reads q follows unbound =
     let there = free-there unbound in
@@ -178,7 +177,7 @@ open-stands {p} {file} {types} placed input {w} {e = e} {j} reads q follows unbo
 -- still completes, every part is in the cell where it was, and in each open one is noted where its value stands.
 module _
     {file types input w v w′ : List ℕ} {ss : List Slot} {top c k i room : ℕ} {e j : Parts} (fields : ℕ) (q : Place)
-    (follows : Follows (map (typeAt file) types) ss w top e j) (unbound : at e q ≡ free)
+    (follows : FollowsInput (map (typeAt file) types) ss w top e j) (unbound : at e q ≡ free)
     (open-part : OpenStands (map (typeAt file) types) ss input w e j q) (constructor : c ≡ open-part .number)
     (typed : bytesAt file fields k ≡ open-part .stands .fields) (fits : 5 * (top + k) ≤ length w)
     (binds : Binds w v (cellOf w q) c top k (bytesAt file fields k) (cellWord w (cellOf w q) 3 - 1))
@@ -236,5 +235,5 @@ module _
             noted-unmoved (after-bind .0) noted bound-below r (free-there h) ∙ ap (cellOf v) (f .2) ∙ after-bind .2 (f .0) in
             rw cell (new-note (f .0) (f .1) ∙ ap (λ p. byteOf j p 0) (sym (f .2)))
 
-    pub bound-follows : Unmoved w w′ e × Follows (map (typeAt file) types) ss w′ (top + k) (bindAt q c k e) j
+    pub bound-follows : Unmoved w w′ e × FollowsInput (map (typeAt file) types) ss w′ (top + k) (bindAt q c k e) j
     bound-follows = (unmoved, record { cells = noted-cells (after-bind .0) noted bound-below; below = completes; notes = notes })

@@ -51,7 +51,7 @@ abbrev pub NotesStand : List ℕ → Parts → Parts → Type 0
 NotesStand w e j = (r : Place) → at e r ≡ free → notedPlace w (cellOf w r) ≡ byteOf j r 0
 
 -- The words stand for the input e, which the closed input j completes, with these notes.
-pub record Follows (types : Types) (ss : List Slot) (w : List ℕ) (top : ℕ) (e j : Parts) : Type 0 where
+pub record FollowsInput (types : Types) (ss : List Slot) (w : List ℕ) (top : ℕ) (e j : Parts) : Type 0 where
   pub cells : Cells types ss w top e
   pub below : e ⊑ j
   pub notes : NotesStand w e j

@@ -7,7 +7,7 @@ ghost use Rattle.reach.specs.Places.{bytesAt};
 ghost use Rattle.values.specs.Notes.{Noted, notedPlace, notePlace, behindValue};
 use inputs::Behind;
 use inputs::value;
-use machine::word_or_zero;
+use machine::cell_word;
 use marks::byte_or_zero;
 
 // The place that is noted in an open cell.
@@ -15,7 +15,7 @@ pub fn noted(work: &[u32], cell: usize) -> usize
     requires { ⌜ cell ≤ 1000000 ⌝ }
     ensures { λ r. ⌜ r ≡ notedPlace (now (work .entry)) cell ⌝ }
 {
-    word_or_zero(work, 5 * cell + 4) + 4294967296 * word_or_zero(work, 5 * cell + 1)
+    cell_word(work, cell, 4) + 4294967296 * cell_word(work, cell, 1)
 }
 
 // Notes a place in an open cell.

@@ -14,7 +14,7 @@ slice-write-work-2 c = simp length-set (omega arith)
 
 open-cells-requires : tie.Need-open-cells-requires
 open-cells-requires c κs =
-    simp length-set (omega (arith, c .before .one-less .ensures, c .before .before .word-or-zero .ensures .0, c .before .before .before .before .before .before .pre))
+    simp length-set (omega (arith, c .before .one-less .ensures, c .before .before .cell-word .ensures .0, c .before .before .before .before .before .before .pre))
 
 same-length : tie.Need-same-length
 same-length c = c .before .before .open-cells .kept .1 .0 ∙ simp length-set
@@ -24,15 +24,13 @@ returns c =
     binds
     (c .before .before .before .before .before .before .before .before .before .pre .0)
     (c .before .before .before .before .before .before .before .before .before .pre .1)
-    (c .before .before .before .before .one-less .ensures ∙ ap (λ r. r - 1) (c .before .before .before .before .before .word-or-zero .ensures .0))
+    (c .before .before .before .before .one-less .ensures ∙ ap (λ r. r - 1) (c .before .before .before .before .before .cell-word .ensures .0))
     (c .before .before .open-cells .ensures)
 
 pub bind-cell-spec : {M : Type 1} → statement M
 bind-cell-spec =
     tie.close
     (tie.spec
-    (λ c. search needs)
-    (λ c. search needs)
     (λ c κs. search needs)
     (λ c κs. search needs)
     (λ c. search needs)

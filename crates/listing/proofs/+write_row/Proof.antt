@@ -7,8 +7,8 @@ use lib.ListN.{length, length-set}
 use borrow.Author.Needs.{needs}
 use borrow.Fn.Kinds.{In}
 use borrow.Fn.PlainCycle.{Measures, is, falls, and}
-use Rattle.steps.proofs.cell_word.Reads as cell-word
-use Rattle.steps.proofs.field_count.Reads as field-count
+use Rattle.machine.proofs.cell_word.Reads as cell-word
+use Rattle.lookups.proofs.field_count.Reads as field-count
 use Rattle.listing.proofs.Rows.{part-fits, open-fits, number-small, fields-fit, rest-fits, wrote-none, wrote-open, wrote-bound}
 use Rattle.listing.proofs.write_row.Reads as write-row
 use Rattle.listing.proofs.write_row.Kinds as write-row-kinds

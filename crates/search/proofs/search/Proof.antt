@@ -1,5 +1,5 @@
 -- `search::search` meets its contract: the answer, the list slice and the words, by what the check and the exploration found. Rests on Answering.
-use Prim.Native.Nat.{_+_, _*_, _≤_}
+use Prim.Native.Nat.{_≤_}
 use mathlib.Core.Path.{_∙_, sym}
 use lib.ListN.{length-take}
 use Rattle.loaded.proofs.Loaded.{taken-length, types-taken, types-held, functions-taken, functions-held, steps-small}
@@ -24,44 +24,41 @@ enum-told c = search needs
 steps-requires : tie.Need-steps-requires
 steps-requires c κs = search needs
 
-mul-words : tie.Need-mul-words
-mul-words c = omega (arith, steps-small (c .before .before .before .before .before .before .before .before .before .before .args .file .now) (c .before .before .before .before .before .before .load .result) (c .before .before .before .before .before .before .load .ensures) (c .before .before .before .before .enum-told .given .1) (c .steps .ensures))
-
-add-words : tie.Need-add-words
-add-words c = omega (arith, steps-small (c .before .before .before .before .before .before .before .before .before .before .args .file .now) (c .before .before .before .before .before .before .load .result) (c .before .before .before .before .before .before .load .ensures) (c .before .before .before .before .enum-told .given .1) (c .steps .ensures))
+work-words-requires : tie.Need-work-words-requires
+work-words-requires c κs = omega (arith, steps-small (c .before .before .before .before .before .before .before .before .before .before .args .file .now) (c .before .before .before .before .before .before .load .result) (c .before .before .before .before .before .before .load .ensures) (c .before .before .before .before .enum-told .given .1) (c .steps .ensures))
 
 returns-2 : tie.Need-returns-2
-returns-2 c = search-short (c .before .before .before .before .before .before .before .before .before .before .before .args .file .now) (c .before .before .before .before .before .before .before .load .result) (c .before .before .before .before .before .before .before .load .ensures) (c .before .before .before .before .before .enum-told .given .1) (c .before .steps .ensures) (c .before .before .before .before .before .before .before .before .before .before .before .args .work .now) (c .before .before .before .before .before .before .before .before .before .before .before .args .list .now) (c .if1 .taken)
+returns-2 c = search-short (c .before .before .before .before .before .before .before .before .before .before .before .before .args .file .now) (c .before .before .before .before .before .before .before .before .load .result) (c .before .before .before .before .before .before .before .before .load .ensures) (c .before .before .before .before .before .before .enum-told .given .1) (c .before .before .steps .ensures) (c .before .work-words .ensures) (c .before .before .before .before .before .before .before .before .before .before .before .before .args .work .now) (c .before .before .before .before .before .before .before .before .before .before .before .before .args .list .now) (c .if1 .taken)
 
 room-requires : tie.Need-room-requires
 room-requires c κs = search needs
 
 array-share-prefix-type-at : tie.Need-array-share-prefix-type-at
-array-share-prefix-type-at c = types-held (c .before .before .before .before .before .before .before .before .before .before .before .before .args .file .now) (c .before .before .before .before .before .before .before .before .load .result) (c .before .before .before .before .before .before .before .before .load .ensures) (c .before .before .before .before .before .before .enum-told .given .1)
+array-share-prefix-type-at c = types-held (c .before .before .before .before .before .before .before .before .before .before .before .before .before .args .file .now) (c .before .before .before .before .before .before .before .before .before .load .result) (c .before .before .before .before .before .before .before .before .before .load .ensures) (c .before .before .before .before .before .before .before .enum-told .given .1)
 
 slice-aggregate-search-checked : tie.Need-slice-aggregate-search-checked
-slice-aggregate-search-checked c = types-taken (c .before .before .before .before .before .before .before .before .before .before .before .before .before .args .file .now) (c .before .before .before .before .before .before .before .before .before .load .result) (c .before .before .before .before .before .before .before .before .before .load .ensures) (c .before .before .before .before .before .before .before .enum-told .given .1)
+slice-aggregate-search-checked c = types-taken (c .before .before .before .before .before .before .before .before .before .before .before .before .before .before .args .file .now) (c .before .before .before .before .before .before .before .before .before .before .load .result) (c .before .before .before .before .before .before .before .before .before .before .load .ensures) (c .before .before .before .before .before .before .before .before .enum-told .given .1)
 
 array-share-prefix-function-at : tie.Need-array-share-prefix-function-at
-array-share-prefix-function-at c = functions-held (c .before .before .before .before .before .before .before .before .before .before .before .before .before .args .file .now) (c .before .before .before .before .before .before .before .before .before .load .result) (c .before .before .before .before .before .before .before .before .before .load .ensures) (c .before .before .before .before .before .before .before .enum-told .given .1)
+array-share-prefix-function-at c = functions-held (c .before .before .before .before .before .before .before .before .before .before .before .before .before .before .args .file .now) (c .before .before .before .before .before .before .before .before .before .before .load .result) (c .before .before .before .before .before .before .before .before .before .before .load .ensures) (c .before .before .before .before .before .before .before .before .enum-told .given .1)
 
 slice-aggregate-search-checked-2 : tie.Need-slice-aggregate-search-checked-2
-slice-aggregate-search-checked-2 c = functions-taken (c .before .before .before .before .before .before .before .before .before .before .before .before .before .before .args .file .now) (c .before .before .before .before .before .before .before .before .before .before .load .result) (c .before .before .before .before .before .before .before .before .before .before .load .ensures) (c .before .before .before .before .before .before .before .before .enum-told .given .1)
+slice-aggregate-search-checked-2 c = functions-taken (c .before .before .before .before .before .before .before .before .before .before .before .before .before .before .before .args .file .now) (c .before .before .before .before .before .before .before .before .before .before .before .load .result) (c .before .before .before .before .before .before .before .before .before .before .before .load .ensures) (c .before .before .before .before .before .before .before .before .before .enum-told .given .1)
 
 slice-relend-prefix-search-checked : tie.Need-slice-relend-prefix-search-checked
 slice-relend-prefix-search-checked c = search needs
 
 slice-aggregate-search-checked-3 : tie.Need-slice-aggregate-search-checked-3
-slice-aggregate-search-checked-3 c = omega (arith, length-take (64 * c .before .before .before .before .before .steps .result + 1024) (c .before .before .before .before .before .before .before .before .before .before .before .before .before .before .before .args .work .now))
+slice-aggregate-search-checked-3 c = omega (arith, length-take (c .before .before .before .before .before .work-words .result) (c .before .before .before .before .before .before .before .before .before .before .before .before .before .before .before .before .args .work .now))
 
 slice-relend-prefix-search-checked-2 : tie.Need-slice-relend-prefix-search-checked-2
-slice-relend-prefix-search-checked-2 c = room-inside (c .before .before .before .before .before .before .before .before .before .before .before .before .before .before .before .args .list .now) (c .before .before .before .room .ensures)
+slice-relend-prefix-search-checked-2 c = room-inside (c .before .before .before .before .before .before .before .before .before .before .before .before .before .before .before .before .args .list .now) (c .before .before .before .room .ensures)
 
 slice-aggregate-search-checked-4 : tie.Need-slice-aggregate-search-checked-4
-slice-aggregate-search-checked-4 c = sym (room-taken (c .before .before .before .before .before .before .before .before .before .before .before .before .before .before .before .before .args .list .now) (c .before .before .before .before .room .ensures))
+slice-aggregate-search-checked-4 c = sym (room-taken (c .before .before .before .before .before .before .before .before .before .before .before .before .before .before .before .before .before .args .list .now) (c .before .before .before .before .room .ensures))
 
 search-checked-requires : tie.Need-search-checked-requires
-search-checked-requires c κs = search-able (c .before .before .before .before .before .before .before .before .before .before .before .before .before .before .before .before .args .file .now) (c .before .before .before .before .before .before .before .before .before .before .before .before .load .result) (c .before .before .before .before .before .before .before .before .before .before .before .before .load .ensures) (c .before .before .before .before .before .before .before .before .before .before .enum-told .given .1) (c .before .before .before .before .before .before .steps .ensures) (c .before .before .before .before .before .before .before .before .before .before .before .before .before .before .before .before .args .work .now) (omega arith)
+search-checked-requires c κs = search-able (c .before .before .before .before .before .before .before .before .before .before .before .before .before .before .before .before .before .args .file .now) (c .before .before .before .before .before .before .before .before .before .before .before .before .before .load .result) (c .before .before .before .before .before .before .before .before .before .before .before .before .before .load .ensures) (c .before .before .before .before .before .before .before .before .before .before .before .enum-told .given .1) (c .before .before .before .before .before .before .before .steps .ensures) (c .before .before .before .before .before .before .work-words .ensures) (c .before .before .before .before .before .before .before .before .before .before .before .before .before .before .before .before .before .args .work .now) (omega arith)
 
 same-length : tie.Need-same-length
 same-length c = search needs
@@ -70,7 +67,7 @@ same-length-2 : tie.Need-same-length-2
 same-length-2 c = search needs
 
 returns-3 : tie.Need-returns-3
-returns-3 c = search-done (c .before .before .before .before .before .before .before .before .before .before .before .before .before .before .before .before .before .before .before .before .before .args .file .now) (c .before .before .before .before .before .before .before .before .before .before .before .before .before .before .before .before .before .load .result) (c .before .before .before .before .before .before .before .before .before .before .before .before .before .before .before .before .before .load .ensures) (c .before .before .before .before .before .before .before .before .before .before .before .before .before .before .before .enum-told .given .1) (c .before .before .before .before .before .before .before .before .before .before .before .steps .ensures) (c .before .before .before .before .before .before .before .before .before .before .before .before .before .before .before .before .before .before .before .before .before .args .work .now) (c .before .before .before .before .before .before .before .before .before .before .before .before .before .before .before .before .before .before .before .before .before .args .list .now) (c .before .before .before .before .search-checked .last .1 .1 .1 .1 .1 .0) (c .before .before .before .before .search-checked .last .1 .1 .1 .1 .1 .1 .0) (omega arith) (c .before .before .before .before .before .before .before .before .before .room .ensures) (c .before .before .before .before .search-checked .kept .1 .1 .1 .1 .1 .0 ∙ taken-length (64 * c .before .before .before .before .before .before .before .before .before .before .before .steps .result + 1024) (c .before .before .before .before .before .before .before .before .before .before .before .before .before .before .before .before .before .before .before .before .before .args .work .now) (omega arith)) (c .before .before .before .before .search-checked .result) (c .before .before .before .before .search-checked .ensures)
+returns-3 c = search-done (c .before .before .before .before .before .before .before .before .before .before .before .before .before .before .before .before .before .before .before .before .before .before .args .file .now) (c .before .before .before .before .before .before .before .before .before .before .before .before .before .before .before .before .before .before .load .result) (c .before .before .before .before .before .before .before .before .before .before .before .before .before .before .before .before .before .before .load .ensures) (c .before .before .before .before .before .before .before .before .before .before .before .before .before .before .before .before .enum-told .given .1) (c .before .before .before .before .before .before .before .before .before .before .before .before .steps .ensures) (c .before .before .before .before .before .before .before .before .before .before .before .work-words .ensures) (c .before .before .before .before .before .before .before .before .before .before .before .before .before .before .before .before .before .before .before .before .before .before .args .work .now) (c .before .before .before .before .before .before .before .before .before .before .before .before .before .before .before .before .before .before .before .before .before .before .args .list .now) (c .before .before .before .before .search-checked .last .1 .1 .1 .1 .1 .0) (c .before .before .before .before .search-checked .last .1 .1 .1 .1 .1 .1 .0) (omega arith) (c .before .before .before .before .before .before .before .before .before .room .ensures) (c .before .before .before .before .search-checked .kept .1 .1 .1 .1 .1 .0 ∙ taken-length (c .before .before .before .before .before .before .before .before .before .before .before .work-words .result) (c .before .before .before .before .before .before .before .before .before .before .before .before .before .before .before .before .before .before .before .before .before .before .args .work .now) (omega arith)) (c .before .before .before .before .search-checked .result) (c .before .before .before .before .search-checked .ensures)
 
 pub search-spec : {M : Type 1} → statement M
 search-spec =
@@ -81,8 +78,7 @@ search-spec =
     returns
     enum-told
     steps-requires
-    mul-words
-    add-words
+    work-words-requires
     returns-2
     room-requires
     array-share-prefix-type-at

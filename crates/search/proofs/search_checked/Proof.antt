@@ -1,41 +1,34 @@
 -- `search::search_checked` meets its contract: what it reads of the goal is the program's, so the search begins as the definition says. Rests on Beginning.
-use Rattle.search.proofs.Beginning.{steps-is, limit-few, parameters-few, deep-small, begins, explored}
-use native.Mathlib.Omega.{arith}
+use Rattle.loaded.proofs.Beginning.{limit-few, opens}
+use Rattle.search.proofs.Beginning.{begins, explored}
 use borrow.Author.Needs.{needs}
 use Rattle.search.proofs.search_checked.Statement.{statement}
 use Rattle.search.proofs.search_checked.Tie as tie
 
-mul-base : tie.Need-mul-base
-mul-base c = omega (arith, limit-few (c .before .before .before .before .before .before .before .before .before .pre .1) (c .steps .ensures))
+records-at-requires : tie.Need-records-at-requires
+records-at-requires c κs = limit-few (c .before .before .before .before .before .before .before .before .before .pre .1 .of-file) (c .steps .ensures)
 
-add-base : tie.Need-add-base
-add-base c = omega (arith, limit-few (c .before .before .before .before .before .before .before .before .before .pre .1) (c .steps .ensures))
-
-mul-stack : tie.Need-mul-stack
-mul-stack c = omega (arith, limit-few (c .before .before .before .before .before .before .before .before .before .pre .1) (c .steps .ensures))
-
-add-stack : tie.Need-add-stack
-add-stack c = omega (arith, limit-few (c .before .before .before .before .before .before .before .before .before .pre .1) (c .steps .ensures))
+choices-at-requires : tie.Need-choices-at-requires
+choices-at-requires c κs = limit-few (c .before .before .before .before .before .before .before .before .before .before .pre .1 .of-file) (c .before .steps .ensures)
 
 open-input-requires : tie.Need-open-input-requires
-open-input-requires c κs = let able = c .before .before .before .before .before .before .before .before .before .before .before .before .before .pre .1 in
-    let read = c .before .before .before .before .steps .ensures in
+open-input-requires c κs = let able = c .before .before .before .before .before .before .before .before .before .before .before .before .before .before .before .pre .1 in
     let found = c .before .before .head-of in
-    let few = parameters-few able read (c .before .before .before .source .ensures) (found .result) (found .ensures .0) (c .depth .ensures) in
-    let near = found .ensures .1 in
-    (omega arith, omega (arith, able .long, read, steps-is able), omega arith, omega arith, deep-small able read (c .before .before .before .source .ensures) (found .result) (found .ensures .0) (c .depth .ensures))
+    opens (able .of-file) (c .before .before .before .before .before .before .steps .ensures) (c .before .before .before .source .ensures) (found .result) (found .ensures .0) (c .depth .ensures) (c .before .before .before .before .before .before .before .before .before .before .before .before .before .before .before .args .work .now) (c .before .before .before .before .before .records-at .ensures) (able .long) (found .ensures .1)
 
 explore-requires : tie.Need-explore-requires
-explore-requires c κs = let able = c .before .before .before .before .before .before .before .before .before .before .before .before .before .before .before .before .before .before .before .before .pre in
+explore-requires c κs = let able = c .before .before .before .before .before .before .before .before .before .before .before .before .before .before .before .before .before .before .before .before .before .before .pre in
     let found = c .before .before .before .before .before .before .before .before .before .head-of in
-    ((able .0, begins (able .1) (c .before .before .before .before .before .before .before .before .before .before .before .steps .ensures) (c .before .before .before .before .before .before .before .before .before .before .source .ensures) (found .result) (found .ensures .0) (c .before .before .before .before .before .before .before .depth .ensures) (c .before .before .label .ensures) (c .before .before .before .before .before .before .open-input .ensures)), c .before .before .before .before .before .before .before .before .before .before .before .before .before .fill-ends .ensures)
+    let opened = c .before .before .before .before .before .before .open-input .ensures in
+    ((able .0, begins (able .1) (c .before .before .before .before .before .before .before .before .before .before .before .before .before .steps .ensures) (c .before .before .before .before .before .before .before .before .before .before .before .before .records-at .ensures) (c .before .before .before .before .before .before .before .before .before .before .before .choices-at .ensures) (c .before .before .before .before .before .before .before .before .before .before .source .ensures) (found .result) (found .ensures .0) (c .before .before .before .before .before .before .before .depth .ensures) (c .before .before .label .ensures) (opened .0) (opened .1)), c .before .before .before .before .before .before .before .before .before .before .before .before .before .before .before .fill-ends .ensures)
 
 returns : tie.Need-returns
 returns c = let found = c .before .before .before .before .before .before .before .before .before .before .before .before .before .before .head-of in
     let came = c .before .before .before .before .explore in
+    let opened = c .before .before .before .before .before .before .before .before .before .before .before .open-input .ensures in
     λ p given.
-    explored given (c .before .before .before .before .before .before .before .before .before .before .before .before .before .before .before .before .steps .ensures) (c .before .before .before .before .before .before .before .before .before .before .before .before .before .before .before .source .ensures) (found .result) (found .ensures .0) (c .before .before .before .before .before .before .before .before .before .before .before .before .depth .ensures)
-    (came .last .1 .1 .1 .1 .1 .1 .0) (c .before .before .before .before .before .before .before .before .before .before .before .before .before .before .before .before .before .before .before .before .before .before .before .before .before .args .list .now) (came .last .1 .1 .1 .1 .1 .1 .1 .1 .1 .1 .1 .1 .0) (came .result) (c .before .before .before .before .before .before .before .label .ensures) (c .before .before .before .before .before .before .before .before .before .before .before .open-input .ensures) (came .ensures)
+    explored given (c .before .before .before .before .before .before .before .before .before .before .before .before .before .before .before .before .before .before .steps .ensures) (c .before .before .before .before .before .before .before .before .before .before .before .before .before .before .before .before .before .records-at .ensures) (c .before .before .before .before .before .before .before .before .before .before .before .before .before .before .before .before .choices-at .ensures) (c .before .before .before .before .before .before .before .before .before .before .before .before .before .before .before .source .ensures) (found .result) (found .ensures .0) (c .before .before .before .before .before .before .before .before .before .before .before .before .depth .ensures)
+    (came .last .1 .1 .1 .1 .1 .1 .0) (c .before .before .before .before .before .before .before .before .before .before .before .before .before .before .before .before .before .before .before .before .before .before .before .before .before .before .before .args .list .now) (came .last .1 .1 .1 .1 .1 .1 .1 .1 .1 .1 .1 .1 .0) (came .result) (c .before .before .before .before .before .before .before .label .ensures) (opened .0) (opened .1) (came .ensures)
 
 pub search-checked-spec : {M : Type 1} → statement M
 search-checked-spec =
@@ -44,10 +37,8 @@ search-checked-spec =
     (λ c. search needs)
     (λ c κs. search needs)
     (λ c κs. search needs)
-    mul-base
-    add-base
-    mul-stack
-    add-stack
+    records-at-requires
+    choices-at-requires
     (λ c κs. search needs)
     (λ c κs. search needs)
     (λ c κs. search needs)

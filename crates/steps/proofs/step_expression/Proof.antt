@@ -51,7 +51,7 @@ returns-3 c = let a = c .before .before .before .before .before .before .before 
 
 returns-4 : tie.Need-returns-4
 returns-4 c = let a = c .before .before .before .before .before .before .before .before .before .before .before .args in
-    stepped (a .label) (c .before .before .step-case .ensures (a .functions .now) (c .before .before .before .before .before .before .before .before .before .before .before .pre .0))
+    stepped (a .label) (c .before .before .step-case .ensures (a .types .now) (a .functions .now) (c .before .before .before .before .before .before .before .before .before .before .before .pre .0))
 
 returns-5 : tie.Need-returns-5
 returns-5 c = let a = c .before .before .before .before .before .before .before .before .before .before .before .args in

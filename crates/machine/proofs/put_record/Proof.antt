@@ -1,10 +1,10 @@
--- `steps::put_record` meets its contract: four stores are the record that Words speaks of.
+-- `machine::put_record` meets its contract: four stores are the record that Words speaks of.
 use native.Mathlib.Omega.{arith}
 use lib.ListN.{length-set}
 use borrow.Author.Needs.{needs}
-use Rattle.steps.proofs.Words.{wrote}
-use Rattle.steps.proofs.put_record.Statement.{statement}
-use Rattle.steps.proofs.put_record.Tie as tie
+use Rattle.machine.proofs.Words.{wrote}
+use Rattle.machine.proofs.put_record.Statement.{statement}
+use Rattle.machine.proofs.put_record.Tie as tie
 
 slice-write-work-2 : tie.Need-slice-write-work-2
 slice-write-work-2 c = simp length-set (omega arith)

@@ -1,0 +1,34 @@
+-- What both runs begin with: a checked file with its tables and its goal, and the words and registers at the beginning.
+-- Rests on reach's Answers and Places, on cells' Writes, on machine's Records and on steps' Stepping.
+use Prim.Native.Nat.{ℕ, _<_}
+use mathlib.Core.Path.{_≡_}
+use mathlib.Core.List.{List}
+use lib.ListN.{length, getD}
+use Rattle.reach.specs.Syntax.{Program, sourceTypes}
+use Rattle.reach.specs.Places.{bytesAt, headAt, goalAt}
+use Rattle.reach.specs.Answers.{check, accepted}
+use Rattle.machine.specs.Records.{Wrote}
+use Rattle.cells.specs.Writes.{Starts}
+use Rattle.steps.specs.declared.Registers.{Registers}
+use Rattle.steps.specs.Stepping.{FileOf, expressionKind}
+
+-- A checked file with its program, the places of its types and functions, and that of its goal.
+pub record GivenFile (file types functions : List ℕ) (goal : ℕ) (p : Program) : Type 0 where
+  pub checked : check file ≡ accepted p
+  pub file-of : FileOf file types functions p
+  pub goal-is : goalAt file goal ≡ record { source = p .source; label = p .label; depth = p .depth; steps = p .steps }
+  pub source-there : p .source < length functions
+  pub parameters-there : sourceTypes p ≡ (headAt file (getD functions (p .source) 0)) .parameters
+
+-- The words at the beginning: the source's n parameters, whose types stand from place `first` of the file on, have open cells, and records 0 and 1 are
+-- the empty environment and the parameters' group.
+pub record Opened (file w w′ : List ℕ) (base first n depth : ℕ) : Type 0 where
+  pub w₁ : List ℕ
+  pub w₂ : List ℕ
+  pub starts : Starts w w₁ n (bytesAt file first n) depth
+  pub zeros : Wrote w₁ w₂ base 0 0 0 0 0
+  pub group : Wrote w₂ w′ base 1 0 n 0 0
+
+-- the registers at the beginning: the expression at place i, the source's body, is evaluated in record 1
+abbrev pub startRegisters : ℕ → Registers
+startRegisters i = record { kind = expressionKind; place = i; env = 1; frame = 0; records = 2 }
