@@ -12,7 +12,7 @@ use Rattle.reach.specs.declared.Refusal.the-variants.{UnknownNumber, EmptyType,
 use Rattle.reach.specs.Limits.{fileLimit, typeLimit, functionLimit}
 use Rattle.reach.specs.Types.{leastDepths}
 use Rattle.reach.specs.RuleFile.{Outline, outline, numbersExist, programOf, noEmptyType, deepEnough}
-use Rattle.reach.specs.Places.{typeAt, outlineAt}
+use Rattle.reach.specs.Places.{typeAt, declarationsAt, outlineAt}
 use Rattle.reach.specs.Answers.{turnedBack, check}
 use Rattle.records.specs.declared.Step.{Step}
 use Rattle.records.specs.declared.Step.the-variants.{Next, Refused}
@@ -83,13 +83,14 @@ module _ (s : List ℕ) (o : Outlined) where
 
     module _ (passed : not r ≡ false) {b : Step} (told : bodiesStep b ≡ bodiesStep (stepOf (functionsAt s (typesIn o) (functionsIn o)))) where
       pub body-refused : {why : Refusal} → b ≡ Refused why → check s ≡ turnedBack why
+      unfolding outlineAt
       body-refused e =
           bodies-refused s (out .size) (out .read) (exist passed)
-          (Passes.bodies-refused s (typesIn o) (functionsIn o) (o .«goal_at») (out .behind) told e)
+          (Passes.bodies-refused s (typesIn o) (functionsIn o) (out .behind) told e)
 
       pub bodies-passed : {n : ℕ} → b ≡ Next n → Reads s o
       bodies-passed e =
-          let (fs, end, read) = Passes.bodies-got s (typesIn o) (functionsIn o) (o .«goal_at») (out .behind) told e in
+          let (fs, end, read) = Passes.bodies-got s (typesIn o) (functionsIn o) (out .behind) told e in
           record {
             outlined = out;
             functions = fs;
@@ -99,11 +100,12 @@ module _ (s : List ℕ) (o : Outlined) where
   -- the tests of depth, on the array of least depths
   module _ (reads : Reads s o) {least : List ℕ} (are : least ≡ padded (leastDepths (map (typeAt s) (typesIn o)))) where
     module _ {r : Bool} (tested : r ≡ noEmptyType (take (o .types) least)) where
-      none-empty-is : noEmptyType (leastDepths (whole .types)) ≡ r
-      unfolding outlineAt
+      none-empty-is : noEmptyType (leastDepths (whole .declared .types)) ≡ r
+      unfolding declarationsAt outlineAt
       none-empty-is = sym (tested ∙ rw are (ap noEmptyType (rw (types-count (reads .outlined)) at (least-front s (typesIn o)))))
 
       pub type-empty : not r ≡ true → check s ≡ turnedBack EmptyType
+      unfolding outlineAt
       type-empty e =
           empty-refused s (reads .outlined .size) (reads .passed .read) (reads .passed .exist) (reads .passed .bodies)
           (none-empty-is ∙ not-true r e)
@@ -113,6 +115,7 @@ module _ (s : List ℕ) (o : Outlined) where
         deep-is = sym (deep ∙ rw are (depth-tested (reads .passed)))
 
         pub depth-small : not d ≡ true → check s ≡ turnedBack DepthTooSmall
+        unfolding outlineAt
         depth-small e =
             depth-refused s (reads .outlined .size) (reads .passed .read) (reads .passed .exist) (reads .passed .bodies)
             (none-empty-is ∙ not-false r filled) (deep-is ∙ not-true d e)
@@ -131,7 +134,7 @@ module _ (s : List ℕ) (o : Outlined) where
             }
 
         pub all-passed : not d ≡ false → LoadsAs s loaded Checked.Accepted
-        unfolding programOf outlineAt
+        unfolding programOf declarationsAt outlineAt
         all-passed e = (
           programOf whole (reads .functions),
           file-accepted s (reads .outlined .size) (reads .passed .read) (reads .passed .exist) (reads .passed .bodies)

@@ -9,8 +9,8 @@ use Rattle.reach.specs.Limits.{fileLimit, typeLimit, functionLimit}
 use Rattle.reach.specs.Syntax.{Function, Program}
 use Rattle.reach.specs.Types.{leastDepths, shallow}
 use Rattle.reach.specs.Reader.{got}
-use Rattle.reach.specs.RuleFile.{Outline, outline, numbersExist, functionsOf, programOf}
-use Rattle.reach.specs.Places.{headAt, outlineAt}
+use Rattle.reach.specs.RuleFile.{outline, numbersExist, functionsOf, programOf}
+use Rattle.reach.specs.Places.{headAt, declarationsAt, outlineAt}
 use Rattle.reach.specs.Answers as Answers
 use Rattle.outline.specs.declared.Outlined.{Outlined}
 use Rattle.depths.specs.Table.{padded}
@@ -25,7 +25,7 @@ pub record Passed (s types functions : List ℕ) (goal : ℕ) (fs : List Functio
   pub read : outline s 0 ≡ got (outlineAt s types functions goal) behind
   pub exist : numbersExist (outlineAt s types functions goal) ≡ true
   pub end : ℕ
-  pub bodies : functionsOf (outlineAt s types functions goal) ((outlineAt s types functions goal) .heads) s behind ≡ got fs end
+  pub bodies : functionsOf (declarationsAt s types functions) ((declarationsAt s types functions) .heads) s behind ≡ got fs end
 
 -- the places of the records, as the first pass leaves them
 abbrev pub typesIn : Outlined → List ℕ

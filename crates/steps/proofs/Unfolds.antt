@@ -15,7 +15,7 @@ use Rattle.reach.specs.Encoding.{countAlternatives}
 use Rattle.reach.specs.Eval as Eval
 use Rattle.reach.specs.Eval.{Env, empty, operands, size, Frame, waiting, State, enter, view, answer, next}
 use Rattle.reach.specs.RuleFile.{Head}
-use Rattle.reach.specs.Places.{constructorsAt, typeAt, headAt, outlineAt}
+use Rattle.reach.specs.Places.{constructorsAt, typeAt, headAt, declarationsAt}
 use Rattle.lookups.specs.declared.Head as Looked
 use Rattle.lookups.specs.declared.Constructors.{Constructors}
 use Rattle.lookups.specs.Heads.{headOf}
@@ -45,7 +45,7 @@ module _ (file types functions : List ℕ) where
   called :
       (f : ℕ) (es : Exprs) (h : Head) → getElem? ((outlineOf file types functions) .heads) f ≡ some h → count es ≡ length (h .parameters)
       → (f < length functions) × (count es ≡ length ((headAt file (getD functions f 0)) .parameters))
-  unfolding outlineAt
+  unfolding declarationsAt
   called f es h is many =
       let known = mapped (headAt file) functions 0 f h is in
       (known .0, many ∙ ap (λ (g : Head). length (g .parameters)) (sym (known .1)))
@@ -162,7 +162,7 @@ case-next p e t y alts env fs = refl
 cased :
     (file types functions : List ℕ) (t : ℕ) (alts : Alternatives) (cs : List (List ℕ)) → getElem? ((outlineOf file types functions) .types) t ≡ some cs
     → countAlternatives alts ≡ length cs → countAlternatives alts ≡ length (typeAt file (getD types t 0))
-unfolding outlineAt
+unfolding declarationsAt
 cased file types functions t alts cs is many = many ∙ ap length (sym (mapped (typeAt file) types 0 t cs is .1))
 
 module _

@@ -10,7 +10,7 @@ use Rattle.reach.specs.Base.{pick}
 use Rattle.reach.specs.Syntax.{variable, call, construct, case, bind, target, Alternatives, Program}
 use Rattle.reach.specs.Parts.{Parts, Place}
 use Rattle.reach.specs.Eval.{State, evaluating, inspecting, missing, stuck, Env, Frame, waiting, Question, Next, demands, stops, goes, waits, view, next}
-use Rattle.reach.specs.RuleFile.{Outline}
+use Rattle.reach.specs.RuleFile.{Declarations}
 use Rattle.reach.proofs.Base.{clash}
 use Rattle.reach.proofs.Evaluation.{answer-waits}
 use Rattle.machine.specs.Cells.{cellOf}
@@ -54,12 +54,12 @@ inspects p e s q h = view-waits p s q ((answer-waits e (view p s) q h) .0)
 
 -- the control is the part, and there is a frame
 looks-at :
-    {file : List ℕ} {o : Outline} {w : List ℕ} {base : ℕ} {cell : Place → ℕ} {c : Control} {f : ℕ} {q : Place} {alts : Alternatives} {env : Env} {fs : List Frame}
+    {file : List ℕ} {o : Declarations} {w : List ℕ} {base : ℕ} {cell : Place → ℕ} {c : Control} {f : ℕ} {q : Place} {alts : Alternatives} {env : Env} {fs : List Frame}
     → StateAt file o w base cell c f (inspecting q (waiting alts env ∷ fs)) → (c ≡ partIn (cell q)) × (f ≡ 0 → ⊥)
 looks-at (inspecting-at is frames) = (ap partIn (sym is), framed frames)
   where
     framed :
-        {file : List ℕ} {o : Outline} {w : List ℕ} {base : ℕ} {cell : Place → ℕ} {f : ℕ} {alts : Alternatives} {env : Env} {fs : List Frame}
+        {file : List ℕ} {o : Declarations} {w : List ℕ} {base : ℕ} {cell : Place → ℕ} {f : ℕ} {alts : Alternatives} {env : Env} {fs : List Frame}
         → FramesAt file o w base cell f (waiting alts env ∷ fs) → f ≡ 0 → ⊥
     framed (waiting-at holds a<f next<f n code env rest) is = absurd (clash (omega arith))
 

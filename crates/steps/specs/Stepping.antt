@@ -10,8 +10,8 @@ use Rattle.reach.specs.Parts.{Parts, Place}
 use Rattle.reach.specs.Types.{sourceSlots}
 use Rattle.reach.specs.Eval as Eval
 use Rattle.reach.specs.Eval.{State, Question, Env, Frame, Closure}
-use Rattle.reach.specs.RuleFile.{Outline}
-use Rattle.reach.specs.Places.{typeAt, headAt, outlineAt}
+use Rattle.reach.specs.RuleFile.{Declarations}
+use Rattle.reach.specs.Places.{typeAt, headAt, declarationsAt}
 use Rattle.reach.specs.States.{StateIn, Sound}
 use Rattle.lookups.specs.Fields.{fieldsIn}
 use Rattle.machine.specs.Cells.{Cells, cellOf}
@@ -23,9 +23,9 @@ use Rattle.steps.specs.declared.Alternative.the-variants as Alternative
 use Rattle.steps.specs.declared.Next.{Next}
 use Rattle.steps.specs.declared.Next.the-variants as Next
 
--- the outline whose types and functions stand at these places
-abbrev pub outlineOf : List ℕ → List ℕ → List ℕ → Outline
-outlineOf file types functions = outlineAt file types functions 0
+-- what a file declares whose types and functions stand at these places
+abbrev pub outlineOf : List ℕ → List ℕ → List ℕ → Declarations
+outlineOf file types functions = declarationsAt file types functions
 
 -- what is being evaluated, by its kind, its place and its environment's record
 abbrev pub controlOf : ℕ → ℕ → ℕ → Control
@@ -131,11 +131,11 @@ pub record Stepped (file types functions w w′ : List ℕ) (base label : ℕ) (
 -- record r′ is on the walk outward from record r to the group of variable n, whatever the variable stands for
 abbrev pub Outward : List ℕ → ℕ → ℕ → ℕ → ℕ → Type 0
 Outward w base n r r′ =
-    (file : List ℕ) (o : Outline) (cell : Place → ℕ) (x : Closure) → VariableAt file o w base cell n r x → VariableAt file o w base cell n r′ x
+    (file : List ℕ) (o : Declarations) (cell : Place → ℕ) (x : Closure) → VariableAt file o w base cell n r x → VariableAt file o w base cell n r′ x
 
 -- the variable stands for something
 abbrev pub VariableThere : List ℕ → ℕ → ℕ → ℕ → Type 0
-VariableThere w base n r = (file : List ℕ) × (o : Outline) × (cell : Place → ℕ) × (x : Closure) × VariableAt file o w base cell n r x
+VariableThere w base n r = (file : List ℕ) × (o : Declarations) × (cell : Place → ℕ) × (x : Closure) × VariableAt file o w base cell n r x
 
 -- the record of the variable's group
 pub record Group (w : List ℕ) (base n env group : ℕ) : Type 0 where
