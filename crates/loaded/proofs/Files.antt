@@ -1,5 +1,6 @@
 -- The tables of a loaded file are those that a step asks for: the types stand at their places, and so does every function's body.
 -- Rests on rulefile's Tabled, machine's Codes and steps' Stepping.
+use Prim.Native.Nat.{ℕ}
 use mathlib.Core.List.{List}
 use native.Mathlib.Omega.{arith}
 use lib.ListN.{getD}
