@@ -18,7 +18,7 @@ use Rattle.lookups.proofs.Tables.{found, missing}
 use Rattle.depths.specs.Table.{padded}
 use Rattle.depths.proofs.Padded.{padded-lookup, padded-shallow}
 use Rattle.rulefile.specs.declared.Loaded.{Loaded}
-use Rattle.rulefile.specs.Loading.{Passed, sourceShallow, typePlaces, functionPlaces, Tabled}
+use Rattle.rulefile.specs.Loading.{Passed, goalOf, sourceShallow, typePlaces, functionPlaces, Tabled}
 
 -- ---- tables of places that passed
 
@@ -60,9 +60,9 @@ module _ {s types functions : List ℕ} {goal : ℕ} {fs : List Function} (passe
   source-parameters = let g = function-found ((goalAt s goal) .source) source-there in rw (g .1) (g .2 .parameters)
 
   -- the test of depth on the padded table is the one of the definition
-  pub depth-tested : sourceShallow s functions goal (padded (leastDepths (map (typeAt s) types))) ≡ deepEnough (programOf whole fs)
-  unfolding deepEnough programOf declarationsAt outlineAt goalAt
-  depth-tested = rw source-parameters (padded-shallow (leastDepths (map (typeAt s) types)) (getD s (goal + 2) 0) _)
+  pub depth-tested : sourceShallow s functions (goalAt s goal) (padded (leastDepths (map (typeAt s) types))) ≡ deepEnough (programOf whole fs)
+  unfolding deepEnough programOf declarationsAt outlineAt
+  depth-tested = rw source-parameters (padded-shallow (leastDepths (map (typeAt s) types)) ((goalAt s goal) .depth) _)
 
 -- ---- the program of a loaded file
 
@@ -90,6 +90,10 @@ module _ {s : List ℕ} {r : Loaded} {p : Program} (t : Tabled s r p) where
   pub program-steps : (goalAt s (r .«goal_at»)) .steps ≡ p .steps
   unfolding programOf outlineAt
   program-steps = sym (ap (λ q. q .steps) (t .program))
+
+  -- and so is the goal that is handed on
+  pub program-goal : goalOf (r .goal) ≡ record { source = p .source; label = p .label; depth = p .depth; steps = p .steps }
+  program-goal = t .goal-there ∙ rw (← program-source, ← program-label, ← program-depth, ← program-steps)
 
   -- the functions, by their places
   functions-are : p .functions ≡ t .functions
