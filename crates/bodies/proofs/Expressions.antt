@@ -16,7 +16,7 @@ use Rattle.reach.specs.Syntax.{call, construct, case, bind, target}
 use Rattle.reach.specs.Reader.{got, refused, _>>=_, give, byte}
 use Rattle.reach.specs.RuleFile as RuleFile
 use Rattle.reach.specs.RuleFile.{Below, operandsOf, alternatives, variableExpr, callOf, callExpr, constructOf, constructExpr, caseOf, caseExpr, letExpr, targetExpr, expressionBy}
-use Rattle.reach.specs.Places.{bytesAt, constructorsAt, typeAt, headAt, outlineAt}
+use Rattle.reach.specs.Places.{bytesAt, constructorsAt, typeAt, headAt, declarationsAt}
 use Rattle.records.specs.declared.Step.{Step}
 use Rattle.records.specs.declared.Step.the-variants.{Next, Refused}
 use Rattle.records.specs.Steps.{stepOf}
@@ -28,7 +28,7 @@ use Rattle.lookups.specs.declared.Head.{Head}
 use Rattle.lookups.specs.declared.Constructors.{Constructors}
 use Rattle.lookups.specs.Fields.{fieldsOf, fieldsIn}
 use Rattle.lookups.specs.Heads.{headOf}
-use Rattle.bodies.specs.Check.{viewOf, Limits, outlineOf, expressionAt, variableAt, callAt, constructAt, caseAt, letAt, targetAt}
+use Rattle.bodies.specs.Check.{viewOf, Limits, declared, expressionAt, variableAt, callAt, constructAt, caseAt, letAt, targetAt}
 use Rattle.lookups.proofs.Tables.{found, missing, parameters-are}
 use Rattle.bodies.proofs.Views.{limits-over, limits-kept, limits-nested}
 use Rattle.bodies.proofs.Steps.{both-next, first-refused, below-is, expression-is}
@@ -96,12 +96,12 @@ module _ (file types functions : List ℕ) (left : ℕ) (view : View) (expected 
 
   module _ {b next f : ℕ} (read : byte s at ≡ got b next) (same : f ≡ b) where
     pub call-unknown : length functions ≤ f → Refused UnknownNumber ≡ callStep
-    unfolding callExpr callOf outlineAt
+    unfolding callExpr callOf declarationsAt
     call-unknown h = rw (read, missing (headAt file) functions b (omega arith))
 
     module _ (known : f < length functions) {r : Bool} (l : Limits left view r) where
       pub call-over : not r ≡ true → Refused OutOfRange ≡ callStep
-      unfolding callExpr callOf outlineAt
+      unfolding callExpr callOf declarationsAt
       call-over e = rw (read, found (headAt file) functions 0 b (omega arith), limits-over l e)
 
       module _ (kept : not r ≡ false) (h : Head) (is : headOf file h ≡ headAt file (getD functions f 0)) where
@@ -115,13 +115,13 @@ module _ (file types functions : List ℕ) (left : ℕ) (view : View) (expected 
         call-parameters = parameters-are file h called
 
         pub call-mismatch : (h .result ≡ expected → ⊥) → Refused TypeMismatch ≡ callStep
-        unfolding callExpr callOf outlineAt
+        unfolding callExpr callOf declarationsAt
         call-mismatch e =
             rw (read, found (headAt file) functions 0 b (omega arith), limits-kept l kept, ne-eqb _ _ (λ x. e (call-result ∙ x)))
 
         pub call-goes : h .result ≡ expected
             → {end : Step} → end ≡ stepOf (operandsOf inner (viewOf view) (bytesAt file (h .parameters) (h .count)) s next) → end ≡ callStep
-        unfolding callExpr callOf outlineAt
+        unfolding callExpr callOf declarationsAt
         call-goes e ends =
             ends
             ∙ rw (read, found (headAt file) functions 0 b (omega arith), limits-kept l kept, eq-eqb _ _ (sym call-result ∙ e))
@@ -144,23 +144,23 @@ module _ (file types functions : List ℕ) (left : ℕ) (view : View) (expected 
       fields-are = cc
 
       pub construct-unknown : fields ≡ Fields.Unknown → Refused UnknownNumber ≡ constructStep
-      unfolding constructExpr constructOf outlineAt
+      unfolding constructExpr constructOf declarationsAt
       construct-unknown e = rw (read, again, fields-are, e)
 
       module _ {first n : ℕ} (e : fields ≡ Fields.At first n) {r : Bool} (l : Limits left view r) where
         pub construct-over : not r ≡ true → Refused OutOfRange ≡ constructStep
-        unfolding constructExpr constructOf outlineAt
+        unfolding constructExpr constructOf declarationsAt
         construct-over x = rw (read, again, fields-are, e, limits-over l x)
 
         module _ (kept : not r ≡ false) where
           pub construct-mismatch : (t ≡ expected → ⊥) → Refused TypeMismatch ≡ constructStep
-          unfolding constructExpr constructOf outlineAt
+          unfolding constructExpr constructOf declarationsAt
           construct-mismatch x =
               rw (read, again, fields-are, e, limits-kept l kept, ne-eqb b expected (λ y. x (same ∙ y)))
 
           pub construct-goes : t ≡ expected
               → {end : Step} → end ≡ stepOf (operandsOf inner (viewOf view) (bytesAt file first n) s next) → end ≡ constructStep
-          unfolding constructExpr constructOf outlineAt
+          unfolding constructExpr constructOf declarationsAt
           construct-goes x ends =
               ends
               ∙ rw (read, again, fields-are, e, limits-kept l kept, eq-eqb b expected (sym same ∙ x))
@@ -174,12 +174,12 @@ module _ (file types functions : List ℕ) (left : ℕ) (view : View) (expected 
 
   module _ {b next t : ℕ} (read : byte s at ≡ got b next) (same : t ≡ b) where
     pub case-unknown : length types ≤ t → Refused UnknownNumber ≡ caseStep
-    unfolding caseExpr caseOf outlineAt
+    unfolding caseExpr caseOf declarationsAt
     case-unknown h = rw (read, missing (typeAt file) types b (omega arith))
 
     module _ (known : t < length types) {r : Bool} (l : Limits left view r) where
       pub case-over : not r ≡ true → Refused OutOfRange ≡ caseStep
-      unfolding caseExpr caseOf outlineAt
+      unfolding caseExpr caseOf declarationsAt
       case-over e = rw (read, found (typeAt file) types 0 b (omega arith), limits-over l e)
 
       module _ (kept : not r ≡ false) {step : Step} (told : step ≡ stepOf (inner (viewOf view) t s next)) where
@@ -187,7 +187,7 @@ module _ (file types functions : List ℕ) (left : ℕ) (view : View) (expected 
         subject = rw (← same) told
 
         pub case-refused : {why : Refusal} → step ≡ Refused why → step ≡ caseStep
-        unfolding caseExpr caseOf outlineAt
+        unfolding caseExpr caseOf declarationsAt
         case-refused e =
             e
             ∙ rw (read, found (typeAt file) types 0 b (omega arith), limits-kept l kept, below-is _ left (limits-nested l kept))
@@ -198,7 +198,7 @@ module _ (file types functions : List ℕ) (left : ℕ) (view : View) (expected 
 
         pub case-goes : {first : ℕ} → step ≡ Next first → (all : Constructors) → constructorsAt file (all .at) (all .count) ≡ typeAt file (getD types t 0)
             → {end : Step} → end ≡ stepOf (alternatives inner (viewOf view) expected (constructorsAt file (all .at) (all .count)) s first) → end ≡ caseStep
-        unfolding caseExpr caseOf outlineAt
+        unfolding caseExpr caseOf declarationsAt
         case-goes e all is ends =
             ends
             ∙ rw (read, found (typeAt file) types 0 b (omega arith), limits-kept l kept, below-is _ left (limits-nested l kept), is, same)
@@ -216,12 +216,12 @@ module _ (file types functions : List ℕ) (left : ℕ) (view : View) (expected 
     many = length-map types (typeAt file)
 
     pub let-unknown : length types ≤ t → Refused UnknownNumber ≡ letStep
-    unfolding letExpr outlineAt
+    unfolding letExpr declarationsAt
     let-unknown h = rw (read, many, le-ltb b (length types) (omega arith))
 
     module _ (known : t < length types) {r : Bool} (l : Limits left view r) where
       pub let-over : not r ≡ true → Refused OutOfRange ≡ letStep
-      unfolding letExpr outlineAt
+      unfolding letExpr declarationsAt
       let-over e = rw (read, many, lt-ltb b (length types) (omega arith), limits-over l e)
 
       module _ (kept : not r ≡ false) {step : Step} (told : step ≡ stepOf (inner (viewOf view) t s next)) where
@@ -229,7 +229,7 @@ module _ (file types functions : List ℕ) (left : ℕ) (view : View) (expected 
         bound = rw (← same) told
 
         pub let-refused : {why : Refusal} → step ≡ Refused why → step ≡ letStep
-        unfolding letExpr outlineAt
+        unfolding letExpr declarationsAt
         let-refused e =
             e
             ∙ rw (read, many, lt-ltb b (length types) (omega arith), limits-kept l kept, below-is _ left (limits-nested l kept))
@@ -240,7 +240,7 @@ module _ (file types functions : List ℕ) (left : ℕ) (view : View) (expected 
 
         pub let-goes : {behind : ℕ} → step ≡ Next behind → (wider : View) → viewOf wider ≡ viewOf view ++ (t ∷ [])
             → {end : Step} → end ≡ stepOf (inner (viewOf wider) expected s behind) → end ≡ letStep
-        unfolding letExpr outlineAt
+        unfolding letExpr declarationsAt
         let-goes e wider w ends =
             ends
             ∙ rw (read, many, lt-ltb b (length types) (omega arith), limits-kept l kept, below-is _ left (limits-nested l kept), w, same)
@@ -270,39 +270,39 @@ module _ (file types functions : List ℕ) (left : ℕ) (view : List ℕ) (expec
 
   pub expression-short : byte s at ≡ refused Truncated → Refused Truncated ≡ expressionStep
   unfolding expressionBy
-  expression-short read = rw (expression-is (outlineOf file types functions) left, read)
+  expression-short read = rw (expression-is (declared file types functions) left, read)
 
   module _ {b next : ℕ} (read : byte s at ≡ got b next) where
     pub expression-variable : b ≡ 0
         → {end : Step} → end ≡ stepOf (variableAt left view expected s next) → end ≡ expressionStep
     unfolding expressionBy variableExpr
-    expression-variable e ends = ends ∙ rw (expression-is (outlineOf file types functions) left, read, e)
+    expression-variable e ends = ends ∙ rw (expression-is (declared file types functions) left, read, e)
 
     pub expression-call : b ≡ 1
         → {end : Step} → end ≡ stepOf (callAt file types functions left view expected s next) → end ≡ expressionStep
     unfolding expressionBy
-    expression-call e ends = ends ∙ rw (expression-is (outlineOf file types functions) left, read, e)
+    expression-call e ends = ends ∙ rw (expression-is (declared file types functions) left, read, e)
 
     pub expression-construct : b ≡ 2
         → {end : Step} → end ≡ stepOf (constructAt file types functions left view expected s next) → end ≡ expressionStep
     unfolding expressionBy
-    expression-construct e ends = ends ∙ rw (expression-is (outlineOf file types functions) left, read, e)
+    expression-construct e ends = ends ∙ rw (expression-is (declared file types functions) left, read, e)
 
     pub expression-case : b ≡ 3
         → {end : Step} → end ≡ stepOf (caseAt file types functions left view expected s next) → end ≡ expressionStep
     unfolding expressionBy
-    expression-case e ends = ends ∙ rw (expression-is (outlineOf file types functions) left, read, e)
+    expression-case e ends = ends ∙ rw (expression-is (declared file types functions) left, read, e)
 
     pub expression-let : b ≡ 4
         → {end : Step} → end ≡ stepOf (letAt file types functions left view expected s next) → end ≡ expressionStep
     unfolding expressionBy
-    expression-let e ends = ends ∙ rw (expression-is (outlineOf file types functions) left, read, e)
+    expression-let e ends = ends ∙ rw (expression-is (declared file types functions) left, read, e)
 
     pub expression-target : b ≡ 5
         → {end : Step} → end ≡ stepOf (targetAt file types functions left view expected s next) → end ≡ expressionStep
     unfolding expressionBy
-    expression-target e ends = ends ∙ rw (expression-is (outlineOf file types functions) left, read, e)
+    expression-target e ends = ends ∙ rw (expression-is (declared file types functions) left, read, e)
 
     pub expression-unknown : 5 < b → Refused UnknownCode ≡ expressionStep
     unfolding expressionBy
-    expression-unknown h = rw (expression-is (outlineOf file types functions) left, read, lt-leb b 5 h)
+    expression-unknown h = rw (expression-is (declared file types functions) left, read, lt-leb b 5 h)

@@ -13,7 +13,7 @@ use Rattle.reach.specs.declared.Refusal.the-variants.{TrailingBytes}
 use Rattle.reach.specs.Limits.{nestingLimit}
 use Rattle.reach.specs.Syntax.{Expr, Function}
 use Rattle.reach.specs.Reader.{Got, atEnd}
-use Rattle.reach.specs.RuleFile.{Head, Outline, bodyOf, functionsOf}
+use Rattle.reach.specs.RuleFile.{Head, Declarations, bodyOf, functionsOf}
 use Rattle.reach.specs.Places.{bytesAt, headAt}
 use Rattle.records.specs.declared.Step.{Step}
 use Rattle.records.specs.declared.Step.the-variants.{Next, Refused}
@@ -22,7 +22,7 @@ use Rattle.records.proofs.Answers.{step-got, step-refused}
 use Rattle.lookups.specs.declared.Head as Looked
 use Rattle.lookups.specs.Heads.{headOf}
 use Rattle.lookups.proofs.Tables.{parameters-many}
-use Rattle.bodies.specs.Check.{outlineOf, expressionAt, bodyAt, Small, BodyThere, bodiesStep}
+use Rattle.bodies.specs.Check.{declared, expressionAt, bodyAt, Small, BodyThere, bodiesStep}
 use Rattle.bodies.proofs.Steps.{both-next}
 
 -- where a body ends, and the expression in it
@@ -73,18 +73,18 @@ few-parameters {file} {f = f} small more h is = omega (arith, parameters-many fi
 -- the bodies from number f on; the place behind them is left out
 abbrev pub bodiesFrom : List ℕ → List ℕ → List ℕ → ℕ → Step
 bodiesFrom file types functions f =
-    bodiesStep (stepOf (functionsOf (outlineOf file types functions) (map (headAt file) (drop f functions)) file 0))
+    bodiesStep (stepOf (functionsOf (declared file types functions) (map (headAt file) (drop f functions)) file 0))
 
 -- no body is read from the place behind the one before
-anywhere : (o : Outline) (s : List ℕ) (hs : List Head) (i j : ℕ) → bodiesStep (stepOf (functionsOf o hs s i)) ≡ bodiesStep (stepOf (functionsOf o hs s j))
+anywhere : (d : Declarations) (s : List ℕ) (hs : List Head) (i j : ℕ) → bodiesStep (stepOf (functionsOf d hs s i)) ≡ bodiesStep (stepOf (functionsOf d hs s j))
 unfolding functionsOf
-anywhere o s [] i j = refl
-anywhere o s (h ∷ hs) i j = refl
+anywhere d s [] i j = refl
+anywhere d s (h ∷ hs) i j = refl
 
 -- All bodies: of more than none the first, which goes on or is refused; and no more.
 module _ (file types functions : List ℕ) (f : ℕ) where
-  abbrev o : Outline
-  o = outlineOf file types functions
+  abbrev d : Declarations
+  d = declared file types functions
 
   abbrev first : Head
   first = headAt file (getD functions f 0)
@@ -92,21 +92,21 @@ module _ (file types functions : List ℕ) (f : ℕ) where
   abbrev others : List Head
   others = map (headAt file) (drop (suc f) functions)
 
-  module _ (more : f < length functions) {step : Step} (told : step ≡ stepOf (bodyOf o first file)) where
+  module _ (more : f < length functions) {step : Step} (told : step ≡ stepOf (bodyOf d first file)) where
     pub body-next : {next : ℕ} → step ≡ Next next → bodiesFrom file types functions (f + 1) ≡ bodiesFrom file types functions f
     unfolding functionsOf
     body-next {next} e =
         rw (add-one, drop-cons functions f 0 more)
-        (anywhere o file others 0 next
+        (anywhere d file others 0 next
         ∙ ap bodiesStep
         (sym
-        (both-next {C = List Function} (λ s here. bodyOf o first s) (functionsOf o others)
+        (both-next {C = List Function} (λ s here. bodyOf d first s) (functionsOf d others)
         (λ x fs. record { parameters = first .parameters; result = first .result; body = x } ∷ fs)
         file 0 (sym told ∙ e))))
 
     pub body-stops : {why : Refusal} → step ≡ Refused why → bodiesStep step ≡ bodiesFrom file types functions f
     unfolding functionsOf
-    body-stops e = rw (e, drop-cons functions f 0 more, step-refused (bodyOf o first file) (sym told ∙ e))
+    body-stops e = rw (e, drop-cons functions f 0 more, step-refused (bodyOf d first file) (sym told ∙ e))
 
   pub bodies-done : length functions ≤ f → Next 0 ≡ bodiesFrom file types functions f
   unfolding functionsOf

@@ -8,7 +8,7 @@ use native.Mathlib.Omega.{arith}
 use borrow.Author.Tests.{lt-ltb}
 use Rattle.reach.specs.declared.Refusal.{Refusal}
 use Rattle.reach.specs.Reader.{Reader, _>>=_, give}
-use Rattle.reach.specs.RuleFile.{Outline, expressionBy, expression}
+use Rattle.reach.specs.RuleFile.{Declarations, expressionBy, expression}
 use Rattle.records.specs.declared.Step.the-variants.{Next, Refused}
 use Rattle.records.specs.Steps.{stepOf}
 use Rattle.records.proofs.Answers.{step-got, step-refused, step-mapped}
@@ -25,13 +25,13 @@ pub first-refused : {A B : Type 0} (m : Reader A) (k : A → Reader B) (s : List
 first-refused m k s at e = rw (step-refused (m s at) e)
 
 -- one level less is left below an expression
-pub below-is : (o : Outline) (left : ℕ) → 0 < left → belowIn o left ≡ expression o (left - 1)
+pub below-is : (d : Declarations) (left : ℕ) → 0 < left → belowIn d left ≡ expression d (left - 1)
 unfolding belowIn
-below-is o zero h = absurd (omega arith)
-below-is o (suc n) h = let z : suc n - 1 ≡ n = omega arith in rw z
+below-is d zero h = absurd (omega arith)
+below-is d (suc n) h = let z : suc n - 1 ≡ n = omega arith in rw z
 
 -- an expression at any nesting, as one step of the definition
-pub expression-is : (o : Outline) (left : ℕ) → expression o left ≡ expressionBy o (ltb 0 left) (belowIn o left)
+pub expression-is : (d : Declarations) (left : ℕ) → expression d left ≡ expressionBy d (ltb 0 left) (belowIn d left)
 unfolding expression belowIn
-expression-is o zero = refl
-expression-is o (suc n) = rw (lt-ltb 0 (suc n) (omega arith))
+expression-is d zero = refl
+expression-is d (suc n) = rw (lt-ltb 0 (suc n) (omega arith))

@@ -1,4 +1,4 @@
--- The third pass as its functions see it: the readers of crate reach over the outline that the places give, and what the tables must keep to.
+-- The third pass as its functions see it: the readers of crate reach over what the places declare, and what the tables must keep to.
 -- Rests on reach's RuleFile and Places and on the types of src/lib.rt.
 use Prim.Native.Nat.{ℕ, zero, suc, _+_, _≤_, _<_}
 use mathlib.Core.Path.{_≡_}
@@ -12,8 +12,8 @@ use Rattle.reach.specs.Base.{pick}
 use Rattle.reach.specs.Limits.{fieldLimit, parameterLimit, viewLimit}
 use Rattle.reach.specs.Syntax.{Expr, Exprs, Alternatives, Function, fieldTypes}
 use Rattle.reach.specs.Reader.{Got, Reader, _>>=_, _>>_, give, refuse, demand, byte}
-use Rattle.reach.specs.RuleFile.{Outline, Below, operandsOf, alternatives, variableExpr, callExpr, constructExpr, caseExpr, letExpr, targetExpr, expression, bodyOf, functionsOf}
-use Rattle.reach.specs.Places.{bytesAt, typeAt, headAt, outlineAt}
+use Rattle.reach.specs.RuleFile.{Declarations, Below, operandsOf, alternatives, variableExpr, callExpr, constructExpr, caseExpr, letExpr, targetExpr, expression, bodyOf, functionsOf}
+use Rattle.reach.specs.Places.{bytesAt, typeAt, headAt, declarationsAt}
 use Rattle.records.specs.declared.Step.{Step}
 use Rattle.records.specs.declared.Step.the-variants.{Next, Refused}
 use Rattle.bodies.specs.declared.View.{View}
@@ -44,37 +44,37 @@ abbrev pub BodiesThere : List ℕ → List ℕ → Type 0
 BodiesThere file functions = (f : ℕ) → f < length functions → BodyThere file (getD functions f 0)
 
 -- the reader of what stands one level below an expression
-unfoldable pub belowIn : Outline → ℕ → Below
-belowIn o zero = λ view t. refuse OutOfRange
-belowIn o (suc n) = expression o n
+unfoldable pub belowIn : Declarations → ℕ → Below
+belowIn d zero = λ view t. refuse OutOfRange
+belowIn d (suc n) = expression d n
 
--- a variable needs no outline, and nothing stands below it
+-- a variable needs no declarations, and nothing stands below it
 abbrev pub variableAt : ℕ → Below
-variableAt left = variableExpr (outlineAt [] [] [] 0) (ltb 0 left) (λ view t. refuse OutOfRange)
+variableAt left = variableExpr (declarationsAt [] [] []) (ltb 0 left) (λ view t. refuse OutOfRange)
 
 -- The readers of reach, with so many levels of nesting left.
 module _ (file types functions : List ℕ) where
-  -- the outline that the places give; bodies do not look at the goal
-  abbrev pub outlineOf : Outline
-  outlineOf = outlineAt file types functions 0
+  -- the types and the heads that the places give
+  abbrev pub declared : Declarations
+  declared = declarationsAt file types functions
 
   abbrev pub expressionAt : ℕ → Below
-  expressionAt left = expression outlineOf left
+  expressionAt left = expression declared left
 
   abbrev pub callAt : ℕ → Below
-  callAt left = callExpr outlineOf (ltb 0 left) (belowIn outlineOf left)
+  callAt left = callExpr declared (ltb 0 left) (belowIn declared left)
 
   abbrev pub constructAt : ℕ → Below
-  constructAt left = constructExpr outlineOf (ltb 0 left) (belowIn outlineOf left)
+  constructAt left = constructExpr declared (ltb 0 left) (belowIn declared left)
 
   abbrev pub caseAt : ℕ → Below
-  caseAt left = caseExpr outlineOf (ltb 0 left) (belowIn outlineOf left)
+  caseAt left = caseExpr declared (ltb 0 left) (belowIn declared left)
 
   abbrev pub letAt : ℕ → Below
-  letAt left = letExpr outlineOf (ltb 0 left) (belowIn outlineOf left)
+  letAt left = letExpr declared (ltb 0 left) (belowIn declared left)
 
   abbrev pub targetAt : ℕ → Below
-  targetAt left = targetExpr outlineOf (ltb 0 left) (belowIn outlineOf left)
+  targetAt left = targetExpr declared (ltb 0 left) (belowIn declared left)
 
   abbrev pub operandsAt : ℕ → List ℕ → List ℕ → Reader Exprs
   operandsAt left = operandsOf (expressionAt left)
@@ -91,11 +91,11 @@ module _ (file types functions : List ℕ) where
 
   -- the body of the function whose record stands at a place
   abbrev pub bodyAt : ℕ → Got Expr
-  bodyAt place = bodyOf outlineOf (headAt file place) file
+  bodyAt place = bodyOf declared (headAt file place) file
 
   -- all functions
   abbrev pub functionsAt : Got (List Function)
-  functionsAt = functionsOf outlineOf (map (headAt file) functions) file 0
+  functionsAt = functionsOf declared (map (headAt file) functions) file 0
 
 -- whether all was read, the place apart
 abbrev pub bodiesStep : Step → Step

@@ -22,7 +22,7 @@ use Rattle.machine.specs.Records.{Control, partIn, StateAt, inspecting-at}
 use Rattle.forks.specs.Untried.{untried}
 use Rattle.forks.proofs.Untried.{untried-all}
 use Rattle.steps.specs.declared.Registers.{Registers}
-use Rattle.steps.specs.Stepping.{outlineOf, controlIn, partKind}
+use Rattle.steps.specs.Stepping.{declarationsOf, controlIn, partKind}
 use Rattle.steps.proofs.Waiting.{inspects}
 use Rattle.choices.specs.Choices.{Setting, Given, choiceWord, reopened, Path, ChoiceAt, ChoicesAt, one-choice, Pushes}
 use Rattle.choices.proofs.Keeping.{Kept, path-kept, reopened-length, reopened-other, reopened-head, reopened-first, choices-kept}
@@ -35,16 +35,16 @@ lookingAt x r = record { kind = partKind; place = x; env = 0; frame = r .frame; 
 module _ {g : Setting} {w : List ℕ} {cells done binds : ℕ} {r : Registers} {e : Parts} {s : State} (path : Path g w cells done binds r e s) where
   module _ {q : Question} {x : ℕ} (asks : next (g .program) e s ≡ waits q) (cell-is : cellOf w (q .place) ≡ x) where
     looking :
-        StateAt (g .file) (outlineOf (g .file) (g .types) (g .functions)) w (g .base) (cellOf w) (controlIn r) (r .frame) s
-        → StateAt (g .file) (outlineOf (g .file) (g .types) (g .functions)) w (g .base) (cellOf w) (partIn x) (r .frame) s
+        StateAt (g .file) (declarationsOf (g .file) (g .types) (g .functions)) w (g .base) (cellOf w) (controlIn r) (r .frame) s
+        → StateAt (g .file) (declarationsOf (g .file) (g .types) (g .functions)) w (g .base) (cellOf w) (partIn x) (r .frame) s
     looking state-at =
         let (alts, env, fs, is) = inspects (g .program) e s q asks in
         rw is (by-state (rw is at state-at))
       where
         by-state :
             {fs : List Frame} {c : Control}
-            → StateAt (g .file) (outlineOf (g .file) (g .types) (g .functions)) w (g .base) (cellOf w) c (r .frame) (inspecting (q .place) fs)
-            → StateAt (g .file) (outlineOf (g .file) (g .types) (g .functions)) w (g .base) (cellOf w) (partIn x) (r .frame) (inspecting (q .place) fs)
+            → StateAt (g .file) (declarationsOf (g .file) (g .types) (g .functions)) w (g .base) (cellOf w) c (r .frame) (inspecting (q .place) fs)
+            → StateAt (g .file) (declarationsOf (g .file) (g .types) (g .functions)) w (g .base) (cellOf w) (partIn x) (r .frame) (inspecting (q .place) fs)
         by-state (inspecting-at is frames) = inspecting-at cell-is frames
 
     pub path-looking : Path g w cells done binds (lookingAt x r) e s

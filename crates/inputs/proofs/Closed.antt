@@ -15,7 +15,7 @@ use Rattle.reach.specs.Syntax.{Types, Program, fieldTypes, functionAt, sourceTy
 use Rattle.reach.specs.Parts.{Parts, end, opened, bound, width, prefix}
 use Rattle.reach.specs.Reader.{Got, got, refused, onGot, byte, atEnd}
 use Rattle.reach.specs.Input.{row, inputOf}
-use Rattle.reach.specs.Places.{bytesAt, typeAt, headAt, outlineAt}
+use Rattle.reach.specs.Places.{bytesAt, typeAt, headAt, declarationsAt, outlineAt}
 use Rattle.reach.proofs.Base.{clash, picked}
 use Rattle.reach.proofs.Encoding.{Outlined}
 use Rattle.reach.proofs.Limits.{IfFound, if-found-then}
@@ -42,7 +42,7 @@ found-at P (refused why) h e = absurd (clash (cc))
 pub placed :
     (p : Program) (file types functions : List ℕ) (goal : ℕ) → Outlined file p (outlineAt file types functions goal)
     → p .source ≡ getD file goal 0 → p .depth ≡ getD file (goal + 2) 0 → getD file goal 0 < length functions → Placed p file types functions goal
-unfolding outlineAt sourceTypes functionAt
+unfolding declarationsAt outlineAt sourceTypes functionAt
 placed p file types functions goal of-file source depth known =
     let there = of-file .function-of (getD file goal 0) (headAt file (getD functions (getD file goal 0) 0)) (found (headAt file) functions 0 (getD file goal 0) known) in
     record { types-there = of-file .types; source-there = rw (source, there .1) (there .2 .parameters); depth-there = depth }

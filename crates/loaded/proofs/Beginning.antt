@@ -29,7 +29,7 @@ use Rattle.machine.specs.Records.{Code, Holds, Wrote, EnvAt, empty-at, parts-at
 use Rattle.machine.proofs.Cells.{walk-part, kept-cells}
 use Rattle.machine.proofs.Records.{holds-kept}
 use Rattle.machine.proofs.Words.{records-same}
-use Rattle.steps.specs.Stepping.{outlineOf, Few, StandsFor}
+use Rattle.steps.specs.Stepping.{declarationsOf, Few, StandsFor}
 use Rattle.loaded.specs.Beginning.{GivenFile, Opened, startRegisters}
 
 -- At the start: the parameters' cells are open, record 0 is zeros, record 1 the group of the parameters, and the source's body is to be evaluated.
@@ -45,7 +45,7 @@ source-is p g h = rw h
 
 stands-start :
     {file types functions w₁ w₂ w₃ : List ℕ} (p : Program) (base i n : ℕ) (g : Function) → functionAt p (p .source) ≡ some g
-    → Code file (outlineOf file types functions) i (g .body) → n ≡ length (sourceTypes p) → n ≤ 255 → 5 * n ≤ base → base + 12 ≤ length w₁ → length w₁ ≤ 1000000
+    → Code file (declarationsOf file types functions) i (g .body) → n ≡ length (sourceTypes p) → n ≤ 255 → 5 * n ≤ base → base + 12 ≤ length w₁ → length w₁ ≤ 1000000
     → Cells (p .types) (sourceSlots p) w₁ n (allOpen n) → Wrote w₁ w₂ base 0 0 0 0 0 → Wrote w₂ w₃ base 1 0 n 0 0
     → StateIn (allOpen n) (start p) → Sound p (allOpen n) (start p)
     → StandsFor file types functions p w₃ base n (startRegisters i) (allOpen n) (start p)
@@ -77,7 +77,7 @@ stands-start {file} {types} {functions} {w₁} {w₂} {w₃} p base i n g source
     kept-zeros : Holds w₃ base 0 0 0 0 0
     kept-zeros = holds-kept w₂ w₃ base 1 (records-same (group .only-top)) (omega arith) (zeros .holds)
 
-    environment : EnvAt file (outlineOf file types functions) w₃ base (cellOf w₃) 1 (inputParts empty parameters (length (g .parameters)))
+    environment : EnvAt file (declarationsOf file types functions) w₃ base (cellOf w₃) 1 (inputParts empty parameters (length (g .parameters)))
     environment =
         let as-many : n ≡ length (g .parameters) = many ∙ ap length (source-is p g source) in
         parts-at {k = length (g .parameters)} {outer = empty} {row = parameters} (group .holds) (omega arith) (omega (arith, as-many)) empty-at (λ j below. walk-part w₃ 0 j)
@@ -126,10 +126,10 @@ module _ {file types functions : List ℕ} {goal : ℕ} {p : Program} (given : G
         deep-small = omega (arith, deep-is, accepted-keeps file p (given .checked) .depth-limit .1)
 
         -- the source's body
-        body : (g : Function) × (functionAt p (p .source) ≡ some g) × Code file (outlineOf file types functions) (head .body) (g .body)
+        body : (g : Function) × (functionAt p (p .source) ≡ some g) × Code file (declarationsOf file types functions) (head .body) (g .body)
         body =
             let found = given .file-of .function-there (p .source) (given .source-there) in
-            (found .0, found .1, subst (λ i. Code file (outlineOf file types functions) i (found .0 .body)) (sym (ap (λ (g : RuleFile.Head). g .body) head-is)) (found .2))
+            (found .0, found .1, subst (λ i. Code file (declarationsOf file types functions) i (found .0 .body)) (sym (ap (λ (g : RuleFile.Head). g .body) head-is)) (found .2))
 
         pub typed : Typed (p .types) (sourceTypes p) (allOpen (head .count))
         typed = rw many (open-typed (p .types) (sourceTypes p))

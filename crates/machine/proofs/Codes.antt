@@ -10,7 +10,7 @@ use lib.ListN.{length, getD, drop}
 use Rattle.reach.specs.Limits.{nestingLimit}
 use Rattle.reach.specs.Syntax.{Expr, variable, call, construct, case, bind, target, Exprs, []ₑ, _∷ₑ_, nthExpr, Alternatives, no-more, absent, present, Function}
 use Rattle.reach.specs.Reader.{byte}
-use Rattle.reach.specs.RuleFile.{Head, Outline}
+use Rattle.reach.specs.RuleFile.{Head, Declarations}
 use Rattle.reach.specs.Encoding.{encode, ByteAt, countAlternatives, nesting}
 use Rattle.reach.specs.Eval.{Env, Frame, State, evaluating, missing, choose}
 use Rattle.reach.proofs.Base.{clash}
@@ -35,7 +35,7 @@ coded-known k e a-case = omega arith
 coded-known k e a-let = omega arith
 coded-known k e a-target = omega arith
 
-module _ (file : List ℕ) (o : Outline) where
+module _ (file : List ℕ) (o : Declarations) where
   -- the place behind an expression is found by passing over it
   pub code-behind : (i : ℕ) (e : Expr) → Code file o i e → Behind file o i (i + length (encode e))
   code-behind i e code = skipped-finds o nestingLimit file i e (code .1) (code .0) (code .2)

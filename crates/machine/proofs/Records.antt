@@ -13,7 +13,7 @@ use borrow.Author.Tests.{ltb-true, ltb-false, lt-ltb, le-ltb}
 use Rattle.reach.specs.Base.{pick}
 use Rattle.reach.specs.Syntax.{Expr, Exprs, []ₑ, _∷ₑ_, count, nthExpr, Alternatives}
 use Rattle.reach.specs.Parts.{Parts, Place, at, There}
-use Rattle.reach.specs.RuleFile.{Outline}
+use Rattle.reach.specs.RuleFile.{Declarations}
 use Rattle.reach.specs.Eval.{Row, partOf, Env, empty, operands, inputParts, size, Closure, suspended, inputPart, suspend, lookup, Frame, waiting, State}
 use Rattle.reach.proofs.Base.{clash}
 use Rattle.reach.specs.States.{EnvIn, FramesIn, StateIn}
@@ -37,7 +37,7 @@ holds-kept w w′ base t same {r} below holds =
 -- Keeping: what records below t stand for stays while their words do, and the cells of the places that are there in e. All that a record speaks of
 -- stands in it and in earlier ones: with t one more than the record, nothing above it matters.
 module _
-    (file : List ℕ) (o : Outline) (w w′ : List ℕ) (base t : ℕ) (cell cell′ : Place → ℕ) (e : Parts) (same : Same w w′ base t) (cells : (q : Place) → There (at e q) → cell′ q ≡ cell q)
+    (file : List ℕ) (o : Declarations) (w w′ : List ℕ) (base t : ℕ) (cell cell′ : Place → ℕ) (e : Parts) (same : Same w w′ base t) (cells : (q : Place) → There (at e q) → cell′ q ≡ cell q)
   where
     pub env-kept : {r : ℕ} {env : Env} → r < t → EnvAt file o w base cell r env → EnvIn e env → EnvAt file o w′ base cell′ r env
     env-kept below empty-at there = empty-at
@@ -118,7 +118,7 @@ suspended-some (some e) inner x is = (e, refl, cc)
 part-some : (j k : ℕ) (row : Row) (x : Closure) → pick (ltb j k) (some (inputPart (partOf row j))) none ≡ some x → (j < k) × (inputPart (partOf row j) ≡ x)
 part-some j k row x is = by-group j k (λ below. (below, cc (lt-ltb j k below))) (λ past. absurd (clash (cc (le-ltb j k past))))
 
-module _ (file : List ℕ) (o : Outline) (w : List ℕ) (base : ℕ) (cell : Place → ℕ) where
+module _ (file : List ℕ) (o : Declarations) (w : List ℕ) (base : ℕ) (cell : Place → ℕ) where
   found-outside : {r a m i d : ℕ} {x : Closure} → Holds w base r a m i d → a < r → (n : ℕ) → n < recordWord w base a 1 → VariableAt file o w base cell n a x → VariableAt file o w base cell n r x
   found-outside {r} {x = x} holds a<r n below rest = outside {r = r} {x = x} (rw (holds .word-0) a<r) (rw (holds .word-0) below) (rw (holds .word-0) rest)
 

@@ -8,7 +8,7 @@ use Rattle.reach.specs.Limits.{nestingLimit}
 use Rattle.reach.specs.Syntax.{Expr, Exprs, count, Alternatives}
 use Rattle.reach.specs.Parts.{Place}
 use Rattle.reach.specs.Encoding.{Stands, StandsAll, StandsAlternatives, Arity, ArityAll, ArityAlternatives, nesting, nestingAll, nestingAlternatives}
-use Rattle.reach.specs.RuleFile.{Outline}
+use Rattle.reach.specs.RuleFile.{Declarations}
 use Rattle.reach.specs.Eval.{Row, partOf, Env, empty, operands, inputParts, size, Frame, waiting, State, evaluating, inspecting, missing}
 
 -- word k of record r
@@ -33,13 +33,13 @@ pub record Wrote (w w′ : List ℕ) (base top a b c d : ℕ) : Type 0 where
   pub holds : Holds w′ base top a b c d
 
 -- An expression of the file, at the place where its bytes stand; operands; alternatives.
-abbrev pub Code : List ℕ → Outline → ℕ → Expr → Type 0
+abbrev pub Code : List ℕ → Declarations → ℕ → Expr → Type 0
 Code file o i e = Stands file i e × Arity o e × (nesting e ≤ nestingLimit)
 
-abbrev pub CodeAll : List ℕ → Outline → ℕ → Exprs → Type 0
+abbrev pub CodeAll : List ℕ → Declarations → ℕ → Exprs → Type 0
 CodeAll file o i es = StandsAll file i es × ArityAll o es × (nestingAll es ≤ nestingLimit)
 
-abbrev pub CodeAlternatives : List ℕ → Outline → ℕ → Alternatives → Type 0
+abbrev pub CodeAlternatives : List ℕ → Declarations → ℕ → Alternatives → Type 0
 CodeAlternatives file o i alts = StandsAlternatives file i alts × ArityAlternatives o alts × (nestingAlternatives alts ≤ nestingLimit)
 
 -- What is being evaluated, in numbers: the expression at a place of the file, in the environment of a record; the input part of a cell; or
@@ -56,7 +56,7 @@ environmentOf (partIn x) = 0
 environmentOf nothingLeft = 0
 
 -- what a state's parts are in the words: `cell` gives the cell of a place
-module _ (file : List ℕ) (o : Outline) (w : List ℕ) (base : ℕ) (cell : Place → ℕ) where
+module _ (file : List ℕ) (o : Declarations) (w : List ℕ) (base : ℕ) (cell : Place → ℕ) where
   -- An environment is a record: the record of what is outside it, how many variables are in view, where its group begins, and 0 for a group of input
   -- parts or 1 more than the record of the environment in which the operands stand. Record 0 is the empty environment.
   pub data EnvAt : ℕ → Env → Type 0 where

@@ -9,12 +9,12 @@ use Rattle.reach.specs.Limits.{nestingLimit}
 use Rattle.reach.specs.Syntax.{Expr}
 use Rattle.reach.specs.Parts.{Place}
 use Rattle.reach.specs.Reader.{got}
-use Rattle.reach.specs.RuleFile.{Outline}
+use Rattle.reach.specs.RuleFile.{Declarations}
 use Rattle.reach.specs.Encoding.{ByteAt, skipped}
 use Rattle.reach.specs.Eval.{Env, Closure, suspended, inputPart, Frame, State, evaluating, missing}
 use Rattle.machine.specs.Records.{recordWord, Code, EnvAt}
 
-module _ (file : List ℕ) (o : Outline) where
+module _ (file : List ℕ) (o : Declarations) where
   -- passing over the expression at i leads to next
   abbrev pub Behind : ℕ → ℕ → Type 0
   Behind i next = skipped o nestingLimit file i ≡ got tt next
@@ -38,7 +38,7 @@ module _ (file : List ℕ) (o : Outline) where
 abbrev pub outsideOf : List ℕ → ℕ → ℕ → ℕ
 outsideOf w base r = recordWord w base (recordWord w base r 0) 1
 
-module _ (file : List ℕ) (o : Outline) (w : List ℕ) (base : ℕ) (cell : Place → ℕ) where
+module _ (file : List ℕ) (o : Declarations) (w : List ℕ) (base : ℕ) (cell : Place → ℕ) where
   -- The walk outward from record r to the group of variable n, and what the variable stands for: an input part, in the cell of its number in the
   -- group, or the operand of that number.
   pub data VariableAt (n : ℕ) : ℕ → Closure → Type 0 where

@@ -39,7 +39,7 @@ behindMark = do
   ts ← typesFrom 31
   fs ← functionsFrom 63
   g ← lastRecord
-  give (record { types = ts; heads = fs; goal = g })
+  give (record { declared = record { types = ts; heads = fs }; goal = g })
 
 module _ (s : List ℕ) where
   -- the outline is read in those parts
@@ -90,7 +90,7 @@ module _ (s : List ℕ) where
         pub goal-refused : {why : Refusal} → last ≡ Step.Refused why → outline s 0 ≡ refused why
         goal-refused e = marked ∙ rw (types, functions, step-refused (lastRecord s k) (sym ended ∙ e))
 
-        pub outlined : {next : ℕ} → last ≡ Step.Next next → outline s 0 ≡ got (record { types = ts; heads = fs; goal = goalAt s k }) next
+        pub outlined : {next : ℕ} → last ≡ Step.Next next → outline s 0 ≡ got (record { declared = record { types = ts; heads = fs }; goal = goalAt s k }) next
         outlined e =
             let (g, read) = step-got (lastRecord s k) (sym ended ∙ e) in
             marked ∙ rw (types, functions, read, (last-read k read) .0)

@@ -21,7 +21,7 @@ use Rattle.reach.specs.Syntax.{Expr, Types, Function, Program, functionA
 use Rattle.reach.specs.Parts.{Parts, depth}
 use Rattle.reach.specs.Types.{ValueOf, LeastDepth, leastDepths, shallow}
 use Rattle.reach.specs.Reader.{Got, got, refused, onGot}
-use Rattle.reach.specs.RuleFile.{Head, Outline, outline, numbersExist, bodyOf, functionsOf, programOf, noEmptyType, deepEnough}
+use Rattle.reach.specs.RuleFile.{Head, Declarations, Outline, outline, numbersExist, bodyOf, functionsOf, programOf, noEmptyType, deepEnough}
 use Rattle.reach.specs.Answers.{Checked, accepted, turnedBack, check}
 use Rattle.reach.specs.Conditions.{FileTooLong, FirstPassRefuses, of-parameter, AllNumbersExist, SomeNumberMissing, SecondPassRefuses, BodyReads, AllBodiesRead, SomeBodyRefused, ThirdPassRefuses, Passes}
 use Rattle.reach.specs.Conditions.{AllTypesInhabited, SomeTypeEmpty, Hollow, SourceParameter, AllParametersFit, SomeParameterTooDeep, Shallow, Acceptable, RefusedBy, by-size, by-first-pass, by-second-pass, by-third-pass, by-empty-type, by-depth}
@@ -36,57 +36,57 @@ use Rattle.reach.proofs.Refusals.{first-pass-gives, body-gives}
 
 -- ---- the third pass
 
-module _ (o : Outline) (s : List ℕ) where
+module _ (d : Declarations) (s : List ℕ) where
   -- the first body of these that is refused
   abbrev FirstRefused : List Head → Refusal → Type 0
   FirstRefused hs why =
-      (before : List Head) × (h : Head) × (after : List Head) × (hs ≡ before ++ (h ∷ after)) × ((k : Head) → k ∈ before → BodyReads s o k)
-      × (bodyOf o h s ≡ refused why)
+      (before : List Head) × (h : Head) × (after : List Head) × (hs ≡ before ++ (h ∷ after)) × ((k : Head) → k ∈ before → BodyReads s d k)
+      × (bodyOf d h s ≡ refused why)
 
   abbrev BodiesTell : List Head → Got (List Function) → Type 0
-  BodiesTell hs (got fs next) = All (BodyReads s o) hs
+  BodiesTell hs (got fs next) = All (BodyReads s d) hs
   BodiesTell hs (refused why) = FirstRefused hs why
 
   -- one more body that is read before these
-  one-more : (h : Head) (hs : List Head) → BodyReads s o h → (f : List Function → List Function) (g : Got (List Function)) → BodiesTell hs g
+  one-more : (h : Head) (hs : List Head) → BodyReads s d h → (f : List Function → List Function) (g : Got (List Function)) → BodiesTell hs g
       → BodiesTell (h ∷ hs) (onGot {B = Got (List Function)} (λ fs next. got (f fs) next) (λ why. refused why) g)
-  one-more h hs reads f (got fs next) all = all-more (BodyReads s o) h hs reads all
+  one-more h hs reads f (got fs next) all = all-more (BodyReads s d) h hs reads all
   one-more h hs reads f (refused why) (before, k, after, are, all, is) =
-      (h ∷ before, k, after, ap (λ ks. h ∷ ks) are, all-more (BodyReads s o) h before reads all, is)
+      (h ∷ before, k, after, ap (λ ks. h ∷ ks) are, all-more (BodyReads s d) h before reads all, is)
 
-  bodies-tell : (hs : List Head) (i : ℕ) → BodiesTell hs (functionsOf o hs s i)
+  bodies-tell : (hs : List Head) (i : ℕ) → BodiesTell hs (functionsOf d hs s i)
   unfolding functionsOf
   bodies-tell [] i = λ h m. absurd (List·Memᴰ·not-nil m)
-  bodies-tell (h ∷ hs) i = go (bodyOf o h s) refl (λ next. bodies-tell hs next)
+  bodies-tell (h ∷ hs) i = go (bodyOf d h s) refl (λ next. bodies-tell hs next)
     where
-      go : (g : Got Expr) → bodyOf o h s ≡ g → ((next : ℕ) → BodiesTell hs (functionsOf o hs s next))
+      go : (g : Got Expr) → bodyOf d h s ≡ g → ((next : ℕ) → BodiesTell hs (functionsOf d hs s next))
           → BodiesTell (h ∷ hs) (onGot {B = Got (List Function)} (λ e next.
           onGot {B = Got (List Function)} (λ fs behind. got (record { parameters = h .parameters; result = h .result; body = e } ∷ fs) behind) (λ why. refused why)
-          (functionsOf o hs s next)) (λ why. refused why) g)
-      go (got e next) is rest = one-more h hs (e, next, is) _ (functionsOf o hs s next) (rest next)
+          (functionsOf d hs s next)) (λ why. refused why) g)
+      go (got e next) is rest = one-more h hs (e, next, is) _ (functionsOf d hs s next) (rest next)
       go (refused why) is rest = ([], h, hs, refl, λ k m. absurd (List·Memᴰ·not-nil m), is)
 
   -- and that body ends the pass
-  refused-first : (before : List Head) (h : Head) (after : List Head) (why : Refusal) → All (BodyReads s o) before → bodyOf o h s ≡ refused why
-      → (i : ℕ) → functionsOf o (before ++ (h ∷ after)) s i ≡ refused why
+  refused-first : (before : List Head) (h : Head) (after : List Head) (why : Refusal) → All (BodyReads s d) before → bodyOf d h s ≡ refused why
+      → (i : ℕ) → functionsOf d (before ++ (h ∷ after)) s i ≡ refused why
   unfolding functionsOf
   refused-first [] h after why all is i = rw is
   refused-first (k ∷ before) h after why all is i =
       let (e, next, reads) = all k (List·Memᴰ·head refl) in
       rw (reads, refused-first before h after why (λ j m. all j (List·Memᴰ·tail m)) is next)
 
-  body-refused : (i : ℕ) (why : Refusal) → SomeBodyRefused s o why → functionsOf o (o .heads) s i ≡ refused why
-  body-refused i why (before, h, after, are, all, is) = ap (λ hs. functionsOf o hs s i) are ∙ refused-first before h after why all is i
+  body-refused : (i : ℕ) (why : Refusal) → SomeBodyRefused s d why → functionsOf d (d .heads) s i ≡ refused why
+  body-refused i why (before, h, after, are, all, is) = ap (λ hs. functionsOf d hs s i) are ∙ refused-first before h after why all is i
 
   -- where every body is read, the pass gives the functions
-  bodies-read : (i : ℕ) → AllBodiesRead s o → (fs : List Function) × (next : ℕ) × (functionsOf o (o .heads) s i ≡ got fs next)
-  bodies-read i all = go (functionsOf o (o .heads) s i) refl (bodies-tell (o .heads) i)
+  bodies-read : (i : ℕ) → AllBodiesRead s d → (fs : List Function) × (next : ℕ) × (functionsOf d (d .heads) s i ≡ got fs next)
+  bodies-read i all = go (functionsOf d (d .heads) s i) refl (bodies-tell (d .heads) i)
     where
-      go : (g : Got (List Function)) → functionsOf o (o .heads) s i ≡ g → BodiesTell (o .heads) g
-          → (fs : List Function) × (next : ℕ) × (functionsOf o (o .heads) s i ≡ got fs next)
+      go : (g : Got (List Function)) → functionsOf d (d .heads) s i ≡ g → BodiesTell (d .heads) g
+          → (fs : List Function) × (next : ℕ) × (functionsOf d (d .heads) s i ≡ got fs next)
       go (got fs next) is told = (fs, next, is)
       go (refused why) is (before, h, after, are, reads, by) =
-          let there : h ∈ o .heads = rw are (Memᴰ·append-right before (List·Memᴰ·head refl)) in
+          let there : h ∈ d .heads = rw are (Memᴰ·append-right before (List·Memᴰ·head refl)) in
           let (e, next, read) = all h there in
           absurd (clash (cc (read, by)))
 
@@ -133,34 +133,35 @@ above types t h = go (getD (leastDepths types) t 0) refl h
 nothing : (types : Types) (t : ℕ) → getD (leastDepths types) t 0 ≤ 0 → (v : Parts) → ¬ ValueOf types t v
 nothing types t h = no-value types t (omega (arith, h))
 
-module _ (o : Outline) where
-  table-long : length (leastDepths (o .types)) ≡ length (o .types)
+module _ (d : Declarations) where
+  table-long : length (leastDepths (d .types)) ≡ length (d .types)
   unfolding leastDepths
-  table-long = rounds-length (o .types) (length (o .types))
+  table-long = rounds-length (d .types) (length (d .types))
 
-  types-inhabited-tell : Tells (noEmptyType (leastDepths (o .types))) (AllTypesInhabited o) (SomeTypeEmpty o)
+  types-inhabited-tell : Tells (noEmptyType (leastDepths (d .types))) (AllTypesInhabited d) (SomeTypeEmpty d)
   types-inhabited-tell =
       tells-as
-      (λ all t h. let there = place-member (leastDepths (o .types)) t (omega (arith, h, table-long)) in
-      let ((v, value, deep), least) = above (o .types) t (all _ there) in (v, value))
-      (λ (d, m, zero-is). let (t, below, is) = member-place (leastDepths (o .types)) d m in
-      (t, omega (arith, below, table-long), nothing (o .types) t (omega (arith, is, zero-is))))
-      (filled-tells (leastDepths (o .types)))
+      (λ all t h. let there = place-member (leastDepths (d .types)) t (omega (arith, h, table-long)) in
+      let ((v, value, deep), least) = above (d .types) t (all _ there) in (v, value))
+      (λ (least, m, zero-is). let (t, below, is) = member-place (leastDepths (d .types)) least m in
+      (t, omega (arith, below, table-long), nothing (d .types) t (omega (arith, is, zero-is))))
+      (filled-tells (leastDepths (d .types)))
 
-  types-apart : AllTypesInhabited o → SomeTypeEmpty o → ⊥
+  types-apart : AllTypesInhabited d → SomeTypeEmpty d → ⊥
   types-apart all (t, below, empty) = let (v, value) = all t below in empty v value
 
+module _ (o : Outline) where
   parameters-apart : AllParametersFit o → SomeParameterTooDeep o → ⊥
   parameters-apart all (t, parameter, (d, (there, least), over)) =
       let (e, ((v, value, deep), least-too), fits) = all t parameter in
       omega (arith, least v value, deep, fits, over)
 
   -- the parameters of the source function are those of its head
-  module _ (file : List ℕ) (fs : List Function) (bodies : Bodies o file (o .heads) fs) where
+  module _ (file : List ℕ) (fs : List Function) (bodies : Bodies (o .declared) file (o .declared .heads) fs) where
     parameter-in : (t : ℕ) → SourceParameter o t → t ∈ sourceTypes (programOf o fs)
     unfolding sourceTypes functionAt programOf
     parameter-in t (h, is, m) =
-        let (g, g-is, body) = function-of o file (o .heads) fs bodies (o .goal .source) h is in
+        let (g, g-is, body) = function-of (o .declared) file (o .declared .heads) fs bodies (o .goal .source) h is in
         rw (g-is, body .parameters) m
 
     in-parameter : (t : ℕ) → t ∈ sourceTypes (programOf o fs) → SourceParameter o t
@@ -170,24 +171,24 @@ module _ (o : Outline) where
         go : (g : Option Function) → getElem? fs (o .goal .source) ≡ g → t ∈ parametersOf g → SourceParameter o t
         go none is m = absurd (List·Memᴰ·not-nil m)
         go (some g) is m =
-            let (h, h-is, body) = head-of o file (o .heads) fs bodies (o .goal .source) g is in
+            let (h, h-is, body) = head-of (o .declared) file (o .declared .heads) fs bodies (o .goal .source) g is in
             (h, h-is, subst (λ (ts : List ℕ). t ∈ ts) (body .parameters) m)
 
-    parameters-tell : AllNumbersExist o → AllTypesInhabited o → Tells (deepEnough (programOf o fs)) (AllParametersFit o) (SomeParameterTooDeep o)
+    parameters-tell : AllNumbersExist o → AllTypesInhabited (o .declared) → Tells (deepEnough (programOf o fs)) (AllParametersFit o) (SomeParameterTooDeep o)
     unfolding deepEnough programOf
     parameters-tell exist inhabited =
         tells-as
         (λ all t parameter. let (some-value, few) = all t (parameter-in t parameter) in
-        (getD (leastDepths (o .types)) t 0, above (o .types) t some-value, few))
+        (getD (leastDepths (o .declared .types)) t 0, above (o .declared .types) t some-value, few))
         (λ (t, m, deep). let parameter = in-parameter t m in (t, parameter, too-deep t parameter deep))
-        (shallow-tells (leastDepths (o .types)) (o .goal .depth) (sourceTypes (programOf o fs)))
+        (shallow-tells (leastDepths (o .declared .types)) (o .goal .depth) (sourceTypes (programOf o fs)))
       where
-        too-deep : (t : ℕ) → SourceParameter o t → DeepBy (leastDepths (o .types)) (o .goal .depth) t
-            → (d : ℕ) × LeastDepth (o .types) t d × (o .goal .depth < d)
+        too-deep : (t : ℕ) → SourceParameter o t → DeepBy (leastDepths (o .declared .types)) (o .goal .depth) t
+            → (d : ℕ) × LeastDepth (o .declared .types) t d × (o .goal .depth < d)
         too-deep t (h, is, m) (inl empty) =
-            let (v, value) = inhabited t (exist .0 t (of-parameter h (nth-member (o .heads) (o .goal .source) h is) m)) in
-            absurd (nothing (o .types) t empty v value)
-        too-deep t parameter (inr over) = (getD (leastDepths (o .types)) t 0, above (o .types) t (omega (arith, over)), over)
+            let (v, value) = inhabited t (exist .0 t (of-parameter h (nth-member (o .declared .heads) (o .goal .source) h is) m)) in
+            absurd (nothing (o .declared .types) t empty v value)
+        too-deep t parameter (inr over) = (getD (leastDepths (o .declared .types)) t 0, above (o .declared .types) t (omega (arith, over)), over)
 
 -- ---- the whole check
 
@@ -202,8 +203,9 @@ module _ (file : List ℕ) where
   Answered = (c : Checked) × (check file ≡ c) × Means c
 
   module _ (size : length file ≤ fileLimit) (o : Outline) (n : ℕ) (read : outline file 0 ≡ got o n) where
-    after-bodies : AllNumbersExist o → (fs : List Function) (m : ℕ) → functionsOf o (o .heads) file n ≡ got fs m → AllBodiesRead file o → Answered
-    after-bodies numbers fs m bodies all = by-types (types-inhabited-tell o)
+    after-bodies : AllNumbersExist o → (fs : List Function) (m : ℕ) → functionsOf (o .declared) (o .declared .heads) file n ≡ got fs m
+        → AllBodiesRead file (o .declared) → Answered
+    after-bodies numbers fs m bodies all = by-types (types-inhabited-tell (o .declared))
       where
         exist : numbersExist o ≡ true
         exist = (numbers-exist-exactly o) .1 numbers
@@ -211,25 +213,27 @@ module _ (file : List ℕ) where
         passed : Passes file o
         passed = record { outlined = (size, (n, read)); numbers = numbers; bodies = all }
 
-        by-parameters : noEmptyType (leastDepths (o .types)) ≡ true → AllTypesInhabited o
+        by-parameters : noEmptyType (leastDepths (o .declared .types)) ≡ true → AllTypesInhabited (o .declared)
             → Tells (deepEnough (programOf o fs)) (AllParametersFit o) (SomeParameterTooDeep o) → Answered
         by-parameters filled inhabited (passes deep fit) =
             (accepted (programOf o fs), file-accepted file size read exist bodies filled deep, (o, passed, inhabited, fit))
         by-parameters filled inhabited (fails deep over) =
             (turnedBack DepthTooSmall, depth-refused file size read exist bodies filled deep, by-depth refl (o, passed, inhabited, over))
 
-        by-types : Tells (noEmptyType (leastDepths (o .types))) (AllTypesInhabited o) (SomeTypeEmpty o) → Answered
+        by-types : Tells (noEmptyType (leastDepths (o .declared .types))) (AllTypesInhabited (o .declared)) (SomeTypeEmpty (o .declared)) → Answered
         by-types (passes filled inhabited) =
             by-parameters filled inhabited (parameters-tell o file fs (bodies-are file o n read n fs m bodies) numbers inhabited)
         by-types (fails filled empty) = (turnedBack EmptyType, empty-refused file size read exist bodies filled, by-empty-type refl (o, passed, empty))
 
-    after-numbers : AllNumbersExist o → (g : Got (List Function)) → functionsOf o (o .heads) file n ≡ g → BodiesTell o file (o .heads) g → Answered
+    after-numbers : AllNumbersExist o → (g : Got (List Function)) → functionsOf (o .declared) (o .declared .heads) file n ≡ g
+        → BodiesTell (o .declared) file (o .declared .heads) g → Answered
     after-numbers numbers (got fs m) is told = after-bodies numbers fs m is told
     after-numbers numbers (refused why) is told =
         (turnedBack why, bodies-refused file size read ((numbers-exist-exactly o) .1 numbers) is, by-third-pass (o, (size, (n, read)), numbers, told))
 
     after-outline : Tells (numbersExist o) (AllNumbersExist o) (SomeNumberMissing o) → Answered
-    after-outline (passes exist numbers) = after-numbers numbers (functionsOf o (o .heads) file n) refl (bodies-tell o file (o .heads) n)
+    after-outline (passes exist numbers) =
+        after-numbers numbers (functionsOf (o .declared) (o .declared .heads) file n) refl (bodies-tell (o .declared) file (o .declared .heads) n)
     after-outline (fails exist missing) = (turnedBack UnknownNumber, numbers-refused file size read exist, by-second-pass refl (o, (size, (n, read)), missing))
 
   after-size : length file ≤ fileLimit → (g : Got Outline) → outline file 0 ≡ g → Answered
@@ -248,8 +252,8 @@ module _ (file : List ℕ) where
   accepts (o, passed, inhabited, fit) =
       let (size, (n, read)) = passed .outlined in
       let exist = (numbers-exist-exactly o) .1 (passed .numbers) in
-      let (fs, m, bodies) = bodies-read o file n (passed .bodies) in
-      let filled = (passes-exactly (types-apart o) (types-inhabited-tell o)) .1 inhabited in
+      let (fs, m, bodies) = bodies-read (o .declared) file n (passed .bodies) in
+      let filled = (passes-exactly (types-apart (o .declared)) (types-inhabited-tell (o .declared))) .1 inhabited in
       let told = parameters-tell o file fs (bodies-are file o n read n fs m bodies) (passed .numbers) inhabited in
       (programOf o fs, file-accepted file size read exist bodies filled ((passes-exactly (parameters-apart o) told) .1 fit))
 
@@ -259,19 +263,19 @@ module _ (file : List ℕ) where
   turns-back why (by-second-pass is (o, (size, (n, read)), missing)) =
       numbers-refused file size read ((number-missing-exactly o) .1 missing) ∙ ap turnedBack (sym is)
   turns-back why (by-third-pass (o, (size, (n, read)), numbers, by)) =
-      bodies-refused file size read ((numbers-exist-exactly o) .1 numbers) (body-refused o file n why by)
+      bodies-refused file size read ((numbers-exist-exactly o) .1 numbers) (body-refused (o .declared) file n why by)
   turns-back why (by-empty-type is (o, passed, empty)) =
       let (size, (n, read)) = passed .outlined in
-      let (fs, m, bodies) = bodies-read o file n (passed .bodies) in
+      let (fs, m, bodies) = bodies-read (o .declared) file n (passed .bodies) in
       empty-refused file size read ((numbers-exist-exactly o) .1 (passed .numbers)) bodies
-      ((fails-exactly (types-apart o) (types-inhabited-tell o)) .1 empty)
+      ((fails-exactly (types-apart (o .declared)) (types-inhabited-tell (o .declared))) .1 empty)
       ∙ ap turnedBack (sym is)
   turns-back why (by-depth is (o, passed, inhabited, over)) =
       let (size, (n, read)) = passed .outlined in
-      let (fs, m, bodies) = bodies-read o file n (passed .bodies) in
+      let (fs, m, bodies) = bodies-read (o .declared) file n (passed .bodies) in
       let told = parameters-tell o file fs (bodies-are file o n read n fs m bodies) (passed .numbers) inhabited in
       depth-refused file size read ((numbers-exist-exactly o) .1 (passed .numbers)) bodies
-      ((passes-exactly (types-apart o) (types-inhabited-tell o)) .1 inhabited)
+      ((passes-exactly (types-apart (o .declared)) (types-inhabited-tell (o .declared))) .1 inhabited)
       ((fails-exactly (parameters-apart o) told) .1 over)
       ∙ ap turnedBack (sym is)
 
@@ -305,7 +309,7 @@ module _ (file : List ℕ) where
   first-gives why (size, is) = first-pass-gives file why is
 
   pub third-gives : (why : Refusal) → ThirdPassRefuses file why → numberOf why ∈ (1 ∷ 3 ∷ 4 ∷ 5 ∷ 6 ∷ 7 ∷ [])
-  third-gives why (o, found, exist, (before, h, after, are, all, is)) = body-gives o h file why is
+  third-gives why (o, found, exist, (before, h, after, are, all, is)) = body-gives (o .declared) h file why is
 
   not-first : {C : Type 0} (why : Refusal) → among (numberOf why) (1 ∷ 2 ∷ 3 ∷ 7 ∷ []) ≡ false → FirstPassRefuses file why → C
   not-first why out h = absurd (not-among _ _ out (first-gives why h))

@@ -18,7 +18,7 @@ use Rattle.reach.specs.Base.{pick, Each}
 use Rattle.reach.specs.Limits.{fileLimit, typeLimit, functionLimit, parameterLimit, bodyLimit, viewLimit, nestingLimit}
 use Rattle.reach.specs.Syntax.{Expr, variable, call, construct, case, bind, target, Exprs, []ₑ, _∷ₑ_, Alternatives, no-more, absent, present, count, Function, Program, fieldTypes, functionAt}
 use Rattle.reach.specs.Reader.{Got, got, refused, onGot, Reader, refuse, demand, byte, word, times, passed, atEnd}
-use Rattle.reach.specs.RuleFile.{Mark, TY, FN, GO, other, onMark, mark, counted, typeRecord, Head, functionRecord, goalRecord, moreTypes, moreFunctions, Outline, outline, Below, operandsOf, alternatives, variableExpr, callOf, callExpr, constructOf, constructExpr, caseOf, caseExpr, letExpr, targetExpr, expressionBy, expression, bodyOf, functionsOf, numbersExist, programOf, noEmptyType, deepEnough, sizeInLimit, ruleFile}
+use Rattle.reach.specs.RuleFile.{Mark, TY, FN, GO, other, onMark, mark, counted, typeRecord, Head, functionRecord, goalRecord, moreTypes, moreFunctions, Declarations, Outline, outline, Below, operandsOf, alternatives, variableExpr, callOf, callExpr, constructOf, constructExpr, caseOf, caseExpr, letExpr, targetExpr, expressionBy, expression, bodyOf, functionsOf, numbersExist, programOf, noEmptyType, deepEnough, sizeInLimit, ruleFile}
 use Rattle.reach.specs.Types.{leastDepths}
 use Rattle.reach.specs.Answers.{accepted, turnedBack, check}
 use Rattle.reach.specs.Encoding.{encode, encodeAll, encodeAlternatives, ByteAt, BytesAt, Stands, StandsAll, StandsAlternatives, countAlternatives, Arity, ArityAll, ArityAlternatives, nesting, nestingAll, nestingAlternatives, Skip, skippedAll, skippedAlternatives, skippedCall, skippedConstruct, skippedCase, skippedBy, skipped}
@@ -165,24 +165,24 @@ pick-finds :
 pick-finds P true a b s i passed failed = passed refl
 pick-finds P false a b s i passed failed = failed refl
 
-module _ (o : Outline) (n : ℕ) (s : List ℕ) where
-  -- an expression of this outline that stands from i up to next and nests at most n deep; and so for operands and alternatives
+module _ (d : Declarations) (n : ℕ) (s : List ℕ) where
+  -- an expression of these declarations that stands from i up to next and nests at most n deep; and so for operands and alternatives
   abbrev Found : ℕ → Expr → ℕ → Type 0
-  Found i e next = Reads s i (encode e) next × Arity o e × (nesting e ≤ n)
+  Found i e next = Reads s i (encode e) next × Arity d e × (nesting e ≤ n)
 
   abbrev FoundAll : ℕ → ℕ → Exprs → ℕ → Type 0
-  FoundAll k i es next = Reads s i (encodeAll es) next × ArityAll o es × (nestingAll es ≤ n) × (count es ≡ k)
+  FoundAll k i es next = Reads s i (encodeAll es) next × ArityAll d es × (nestingAll es ≤ n) × (count es ≡ k)
 
   abbrev FoundAlternatives : ℕ → ℕ → Alternatives → ℕ → Type 0
   FoundAlternatives k i alts next =
-      Reads s i (encodeAlternatives alts) next × ArityAlternatives o alts × (nestingAlternatives alts ≤ n) × (countAlternatives alts ≡ k)
+      Reads s i (encodeAlternatives alts) next × ArityAlternatives d alts × (nestingAlternatives alts ≤ n) × (countAlternatives alts ≡ k)
 
   -- whatever the reader finds is such an expression
   abbrev FindsExprs : Below → Type 0
   FindsExprs sub = (view : List ℕ) (t i : ℕ) → IfFound (Found i) (sub view t s i)
 
-module _ (o : Outline) (n : ℕ) (s : List ℕ) (sub : Below) (below : FindsExprs o n s sub) (view : List ℕ) where
-  operands-find : (ts : List ℕ) (i : ℕ) → IfFound (FoundAll o n s (length ts) i) (operandsOf sub view ts s i)
+module _ (d : Declarations) (n : ℕ) (s : List ℕ) (sub : Below) (below : FindsExprs d n s sub) (view : List ℕ) where
+  operands-find : (ts : List ℕ) (i : ℕ) → IfFound (FoundAll d n s (length ts) i) (operandsOf sub view ts s i)
   unfolding operandsOf encode nesting count
   operands-find [] i = (reads-none, tt, zero-le, refl)
   operands-find (t ∷ ts) i =
@@ -190,7 +190,7 @@ module _ (o : Outline) (n : ℕ) (s : List ℕ) (sub : Below) (below : FindsExpr
       (λ e k first. if-found-then _ _ _ (operandsOf sub view ts s k) (operands-find ts k)
       (λ es l others. (reads-then (first .0) (others .0), (first .1, others .1), omega arith, ap suc (others .3))))
 
-  alternatives-find : (t : ℕ) (cs : List (List ℕ)) (i : ℕ) → IfFound (FoundAlternatives o n s (length cs) i) (alternatives sub view t cs s i)
+  alternatives-find : (t : ℕ) (cs : List (List ℕ)) (i : ℕ) → IfFound (FoundAlternatives d n s (length cs) i) (alternatives sub view t cs s i)
   unfolding alternatives encode nesting countAlternatives
   alternatives-find t [] i = (reads-none, tt, zero-le, refl)
   alternatives-find t (us ∷ cs) i =
@@ -215,15 +215,15 @@ both-true false b e = e
 -- Each kind of expression behind its code: its numbers exist, and its operands stand behind them. It is nested only where its operands are
 -- one less deep.
 module _
-    (o : Outline) (nested : Bool) (n m : ℕ) (deeper : nested ≡ true → n < m) (s : List ℕ) (sub : Below) (below : FindsExprs o n s sub) (view : List ℕ) (t i : ℕ)
+    (d : Declarations) (nested : Bool) (n m : ℕ) (deeper : nested ≡ true → n < m) (s : List ℕ) (sub : Below) (below : FindsExprs d n s sub) (view : List ℕ) (t i : ℕ)
   where
     -- what is found where the expression's own nesting and view are within their limits
     limits-then :
-        (f : ℕ → Got Expr) (why : Refusal) (l : ℕ) → (n < m → IfFound (Found o m s i) (f l))
-        → IfFound (Found o m s i) (onGot (λ (u : Unit {0}) next. f next) (λ why. refused why) (pick (nested && leb (length view) viewLimit) (got tt l) (refused why)))
+        (f : ℕ → Got Expr) (why : Refusal) (l : ℕ) → (n < m → IfFound (Found d m s i) (f l))
+        → IfFound (Found d m s i) (onGot (λ (u : Unit {0}) next. f next) (λ why. refused why) (pick (nested && leb (length view) viewLimit) (got tt l) (refused why)))
     limits-then f why l then = demand-then _ f (nested && leb (length view) viewLimit) why l (λ b. then (deeper (both-true nested _ b)))
 
-    variable-finds : (k : ℕ) → Reads s i (0 ∷ []) k → IfFound (Found o m s i) (variableExpr o nested sub view t s k)
+    variable-finds : (k : ℕ) → Reads s i (0 ∷ []) k → IfFound (Found d m s i) (variableExpr d nested sub view t s k)
     unfolding variableExpr encode nesting
     variable-finds k code =
         if-found-then _ _ _ (byte s k) (byte-finds s k)
@@ -232,64 +232,64 @@ module _
         (λ room. demand-then _ _ (eqb (getD view v 0) t) _ l
         (λ typed. (reads-then code number, tt, omega arith)))))
 
-    call-finds : (k : ℕ) → Reads s i (1 ∷ []) k → IfFound (Found o m s i) (callExpr o nested sub view t s k)
+    call-finds : (k : ℕ) → Reads s i (1 ∷ []) k → IfFound (Found d m s i) (callExpr d nested sub view t s k)
     unfolding callExpr callOf encode nesting
-    call-finds k code = if-found-then _ _ _ (byte s k) (byte-finds s k) (λ f l number. go f l number (getElem? (o .heads) f) refl)
+    call-finds k code = if-found-then _ _ _ (byte s k) (byte-finds s k) (λ f l number. go f l number (getElem? (d .heads) f) refl)
       where
-        go : (f l : ℕ) → Reads s k (f ∷ []) l → (x : Option Head) → getElem? (o .heads) f ≡ x → IfFound (Found o m s i) (callOf o nested sub view t f x s l)
+        go : (f l : ℕ) → Reads s k (f ∷ []) l → (x : Option Head) → getElem? (d .heads) f ≡ x → IfFound (Found d m s i) (callOf d nested sub view t f x s l)
         go f l number none is = tt
         go f l number (some h) is =
             limits-then _ _ l
             (λ room. demand-then _ _ (eqb (h .result) t) _ l
-            (λ typed. if-found-then _ _ _ (operandsOf sub view (h .parameters) s l) (operands-find o n s sub below view (h .parameters) l)
+            (λ typed. if-found-then _ _ _ (operandsOf sub view (h .parameters) s l) (operands-find d n s sub below view (h .parameters) l)
             (λ es j others. (reads-then code (reads-then number (others .0)), (h, is, others .3, others .1), omega arith))))
 
-    construct-finds : (k : ℕ) → Reads s i (2 ∷ []) k → IfFound (Found o m s i) (constructExpr o nested sub view t s k)
+    construct-finds : (k : ℕ) → Reads s i (2 ∷ []) k → IfFound (Found d m s i) (constructExpr d nested sub view t s k)
     unfolding constructExpr constructOf encode nesting
     construct-finds k code =
         if-found-then _ _ _ (byte s k) (byte-finds s k)
         (λ u l type. if-found-then _ _ _ (byte s l) (byte-finds s l)
-        (λ c j number. go u c j (reads-then type number) (fieldTypes (o .types) u c) refl))
+        (λ c j number. go u c j (reads-then type number) (fieldTypes (d .types) u c) refl))
       where
-        go : (u c j : ℕ) → Reads s k (u ∷ c ∷ []) j → (x : Option (List ℕ)) → fieldTypes (o .types) u c ≡ x → IfFound (Found o m s i) (constructOf o nested sub view t u c x s j)
+        go : (u c j : ℕ) → Reads s k (u ∷ c ∷ []) j → (x : Option (List ℕ)) → fieldTypes (d .types) u c ≡ x → IfFound (Found d m s i) (constructOf d nested sub view t u c x s j)
         go u c j numbers none is = tt
         go u c j numbers (some us) is =
             limits-then _ _ j
             (λ room. demand-then _ _ (eqb u t) _ j
-            (λ typed. if-found-then _ _ _ (operandsOf sub view us s j) (operands-find o n s sub below view us j)
+            (λ typed. if-found-then _ _ _ (operandsOf sub view us s j) (operands-find d n s sub below view us j)
             (λ es h others. (reads-then code (reads-then numbers (others .0)), (us, is, others .3, others .1), omega arith))))
 
-    case-finds : (k : ℕ) → Reads s i (3 ∷ []) k → IfFound (Found o m s i) (caseExpr o nested sub view t s k)
+    case-finds : (k : ℕ) → Reads s i (3 ∷ []) k → IfFound (Found d m s i) (caseExpr d nested sub view t s k)
     unfolding caseExpr caseOf encode nesting
-    case-finds k code = if-found-then _ _ _ (byte s k) (byte-finds s k) (λ u l number. go u l number (getElem? (o .types) u) refl)
+    case-finds k code = if-found-then _ _ _ (byte s k) (byte-finds s k) (λ u l number. go u l number (getElem? (d .types) u) refl)
       where
-        go : (u l : ℕ) → Reads s k (u ∷ []) l → (x : Option (List (List ℕ))) → getElem? (o .types) u ≡ x → IfFound (Found o m s i) (caseOf o nested sub view t u x s l)
+        go : (u l : ℕ) → Reads s k (u ∷ []) l → (x : Option (List (List ℕ))) → getElem? (d .types) u ≡ x → IfFound (Found d m s i) (caseOf d nested sub view t u x s l)
         go u l number none is = tt
         go u l number (some cs) is =
             limits-then _ _ l
             (λ room. if-found-then _ _ _ (sub view u s l) (below view u l)
-            (λ e j first. if-found-then _ _ _ (alternatives sub view t cs s j) (alternatives-find o n s sub below view t cs j)
+            (λ e j first. if-found-then _ _ _ (alternatives sub view t cs s j) (alternatives-find d n s sub below view t cs j)
             (λ alts h others. (
               reads-then code (reads-then number (reads-then (first .0) (others .0))),
               (cs, is, others .3, first .1, others .1),
               omega arith,
             ))))
 
-    let-finds : (k : ℕ) → Reads s i (4 ∷ []) k → IfFound (Found o m s i) (letExpr o nested sub view t s k)
+    let-finds : (k : ℕ) → Reads s i (4 ∷ []) k → IfFound (Found d m s i) (letExpr d nested sub view t s k)
     unfolding letExpr encode nesting
     let-finds k code =
         if-found-then _ _ _ (byte s k) (byte-finds s k)
-        (λ u l number. demand-then _ _ (ltb u (length (o .types))) _ l
+        (λ u l number. demand-then _ _ (ltb u (length (d .types))) _ l
         (λ known. limits-then _ _ l
         (λ room. if-found-then _ _ _ (sub view u s l) (below view u l)
         (λ e j first. if-found-then _ _ _ (sub (view ++ (u ∷ [])) t s j) (below (view ++ (u ∷ [])) t j)
         (λ b h second. (
           reads-then code (reads-then number (reads-then (first .0) (second .0))),
-          (ltb-true u (length (o .types)) known, first .1, second .1),
+          (ltb-true u (length (d .types)) known, first .1, second .1),
           omega arith,
         ))))))
 
-    target-finds : (k : ℕ) → Reads s i (5 ∷ []) k → IfFound (Found o m s i) (targetExpr o nested sub view t s k)
+    target-finds : (k : ℕ) → Reads s i (5 ∷ []) k → IfFound (Found d m s i) (targetExpr d nested sub view t s k)
     unfolding targetExpr encode nesting
     target-finds k code =
         if-found-then _ _ _ (byte s k) (byte-finds s k)
@@ -297,7 +297,7 @@ module _
         (λ room. if-found-then _ _ _ (sub view t s j) (below view t j)
         (λ e h inner. (reads-then code (reads-then number (inner .0)), inner .1, omega arith))))
 
-    expressionBy-finds : IfFound (Found o m s i) (expressionBy o nested sub view t s i)
+    expressionBy-finds : IfFound (Found d m s i) (expressionBy d nested sub view t s i)
     unfolding expressionBy
     expressionBy-finds =
         if-found-then _ _ _ (byte s i) (byte-finds s i)
@@ -311,14 +311,14 @@ module _
         (omega (arith, leb-true code 5 small, eqb-false code 0 not0, eqb-false code 1 not1, eqb-false code 2 not2, eqb-false code 3 not3, eqb-false code 4 not4))))))))))
 
 -- whatever is read as an expression stands there, with its arities, and nests no deeper than was allowed
-expression-finds : (o : Outline) (n : ℕ) (s : List ℕ) → FindsExprs o n s (expression o n)
+expression-finds : (d : Declarations) (n : ℕ) (s : List ℕ) → FindsExprs d n s (expression d n)
 unfolding expression
-expression-finds o zero s view t i = expressionBy-finds o false 0 0 (λ e. absurd (clash (cc))) s _ (λ view t i. tt) view t i
-expression-finds o (suc n) s view t i = expressionBy-finds o true n (suc n) (λ e. omega arith) s (expression o n) (expression-finds o n s) view t i
+expression-finds d zero s view t i = expressionBy-finds d false 0 0 (λ e. absurd (clash (cc))) s _ (λ view t i. tt) view t i
+expression-finds d (suc n) s view t i = expressionBy-finds d true n (suc n) (λ e. omega arith) s (expression d n) (expression-finds d n s) view t i
 
-module _ (o : Outline) (n : ℕ) (view : List ℕ) (t : ℕ) (s : List ℕ) (i : ℕ) (e : Expr) (next : ℕ) (was-read : expression o n view t s i ≡ got e next) where
-  expression-found : Found o n s i e next
-  expression-found = subst (IfFound (Found o n s i)) was-read (expression-finds o n s view t i)
+module _ (d : Declarations) (n : ℕ) (view : List ℕ) (t : ℕ) (s : List ℕ) (i : ℕ) (e : Expr) (next : ℕ) (was-read : expression d n view t s i ≡ got e next) where
+  expression-found : Found d n s i e next
+  expression-found = subst (IfFound (Found d n s i)) was-read (expression-finds d n s view t i)
 
   -- what was read at a place is the encoding that stands there, and the place behind it is the end of those bytes
   pub expression-bytes : (drop i s ≡ encode e ++ drop next s) × (next ≡ i + length (encode e)) × (next ≤ length s)
@@ -327,7 +327,7 @@ module _ (o : Outline) (n : ℕ) (view : List ℕ) (t : ℕ) (s : List ℕ) (i :
       (reads .stand, reads .behind, omega (arith, reads .behind, places s i e (drop next s, reads .stand)))
 
   -- its numbers exist and it has the operands that they ask for
-  pub expression-arity : Arity o e
+  pub expression-arity : Arity d e
   expression-arity = expression-found .1
 
   -- it nests no deeper than was allowed
@@ -381,7 +381,7 @@ module _ (s : List ℕ) where
       (λ h l first. if-found-then _ _ _ (moreFunctions n s l) (heads-inside n l) (λ hs next others. (first, others))))
       tt)
 
-  pub outline-inside : (i : ℕ) → IfFound (λ o next. Each BodyInside (o .heads)) (outline s i)
+  pub outline-inside : (i : ℕ) → IfFound (λ o next. Each BodyInside (o .declared .heads)) (outline s i)
   unfolding outline
   outline-inside i =
       any-then _ _ (mark s i)
@@ -393,11 +393,11 @@ module _ (s : List ℕ) where
       (λ g r. any-then _ _ (atEnd TrailingBytes s r)
       (λ u next. (first, others))))))))
 
--- A body of an outline stands in the file at the place and with the length that its head tells.
-pub record BodyAt (o : Outline) (file : List ℕ) (h : Head) (g : Function) : Type 0 where
+-- A body of a file that declares these stands in the file at the place and with the length that its head tells.
+pub record BodyAt (d : Declarations) (file : List ℕ) (h : Head) (g : Function) : Type 0 where
   pub stands : drop (h .body) file ≡ encode (g .body) ++ drop (h .body + h .size) file
   pub size : length (encode (g .body)) ≡ h .size
-  pub arity : Arity o (g .body)
+  pub arity : Arity d (g .body)
   pub nests : nesting (g .body) ≤ nestingLimit
   pub parameters : g .parameters ≡ h .parameters
   pub result : g .result ≡ h .result
@@ -413,11 +413,11 @@ end-finds s why i = go (ltb i (length s)) refl
     go true t = tt
     go false t = ltb-false i (length s) t
 
-module _ (o : Outline) (s : List ℕ) where
+module _ (d : Declarations) (s : List ℕ) where
   -- what fills the bytes up to the body's end stands so in the file
   body-at :
-      (h : Head) (e : Expr) (k : ℕ) → BodyInside s h → Found o nestingLimit (take (h .body + h .size) s) (h .body) e k
-      → length (take (h .body + h .size) s) ≤ k → BodyAt o s h (functionOf h e)
+      (h : Head) (e : Expr) (k : ℕ) → BodyInside s h → Found d nestingLimit (take (h .body + h .size) s) (h .body) e k
+      → length (take (h .body + h .size) s) ≤ k → BodyAt d s h (functionOf h e)
   body-at h e k fits found over =
       let cut = take (h .body + h .size) s in
       let rest = drop (h .body + h .size) s in
@@ -432,11 +432,11 @@ module _ (o : Outline) (s : List ℕ) where
         result = refl;
       }
 
-  body-finds : (h : Head) → BodyInside s h → IfFound (λ e next. BodyAt o s h (functionOf h e)) (bodyOf o h s)
+  body-finds : (h : Head) → BodyInside s h → IfFound (λ e next. BodyAt d s h (functionOf h e)) (bodyOf d h s)
   unfolding bodyOf
   body-finds h fits =
       let cut = take (h .body + h .size) s in
-      if-found-then _ _ _ (expression o nestingLimit (h .parameters) (h .result) cut (h .body)) (expression-finds o nestingLimit cut (h .parameters) (h .result) (h .body))
+      if-found-then _ _ _ (expression d nestingLimit (h .parameters) (h .result) cut (h .body)) (expression-finds d nestingLimit cut (h .parameters) (h .result) (h .body))
       (λ e k found. if-found-then _ _ _ (atEnd TrailingBytes cut k) (end-finds cut TrailingBytes k) (λ u next over. body-at h e k fits found over))
 
   -- each function of the one list has the body that the head of the same number in the other list tells of
@@ -444,25 +444,25 @@ module _ (o : Outline) (s : List ℕ) where
   Bodies [] [] = Unit {0}
   Bodies [] (g ∷ gs) = ⊥
   Bodies (h ∷ hs) [] = ⊥
-  Bodies (h ∷ hs) (g ∷ gs) = BodyAt o s h g × Bodies hs gs
+  Bodies (h ∷ hs) (g ∷ gs) = BodyAt d s h g × Bodies hs gs
 
-  bodies-find : (hs : List Head) (i : ℕ) → Each (BodyInside s) hs → IfFound (λ fs next. Bodies hs fs) (functionsOf o hs s i)
+  bodies-find : (hs : List Head) (i : ℕ) → Each (BodyInside s) hs → IfFound (λ fs next. Bodies hs fs) (functionsOf d hs s i)
   unfolding functionsOf
   bodies-find [] i fit = tt
   bodies-find (h ∷ hs) i fit =
-      if-found-then _ _ _ (bodyOf o h s) (body-finds h (fit .0))
-      (λ e k first. if-found-then _ _ _ (functionsOf o hs s k) (bodies-find hs k (fit .1)) (λ fs next others. (first, others)))
+      if-found-then _ _ _ (bodyOf d h s) (body-finds h (fit .0))
+      (λ e k first. if-found-then _ _ _ (functionsOf d hs s k) (bodies-find hs k (fit .1)) (λ fs next others. (first, others)))
 
-  pub function-of : (hs : List Head) (gs : List Function) → Bodies hs gs → (f : ℕ) (h : Head) → getElem? hs f ≡ some h → (g : Function) × (getElem? gs f ≡ some g) × BodyAt o s h g
+  pub function-of : (hs : List Head) (gs : List Function) → Bodies hs gs → (f : ℕ) (h : Head) → getElem? hs f ≡ some h → (g : Function) × (getElem? gs f ≡ some g) × BodyAt d s h g
   function-of [] gs all f h is = absurd (clash (cc))
   function-of (k ∷ hs) [] all f h is = absurd all
-  function-of (k ∷ hs) (g ∷ gs) all zero h is = let z : k ≡ h = cc in (g, refl, subst (λ x. BodyAt o s x g) z (all .0))
+  function-of (k ∷ hs) (g ∷ gs) all zero h is = let z : k ≡ h = cc in (g, refl, subst (λ x. BodyAt d s x g) z (all .0))
   function-of (k ∷ hs) (g ∷ gs) all (suc f) h is = function-of hs gs (all .1) f h is
 
-  pub head-of : (hs : List Head) (gs : List Function) → Bodies hs gs → (f : ℕ) (g : Function) → getElem? gs f ≡ some g → (h : Head) × (getElem? hs f ≡ some h) × BodyAt o s h g
+  pub head-of : (hs : List Head) (gs : List Function) → Bodies hs gs → (f : ℕ) (g : Function) → getElem? gs f ≡ some g → (h : Head) × (getElem? hs f ≡ some h) × BodyAt d s h g
   head-of hs [] all f g is = absurd (clash (cc))
   head-of [] (k ∷ gs) all f g is = absurd all
-  head-of (h ∷ hs) (k ∷ gs) all zero g is = let z : k ≡ g = cc in (h, refl, subst (λ x. BodyAt o s h x) z (all .0))
+  head-of (h ∷ hs) (k ∷ gs) all zero g is = let z : k ≡ g = cc in (h, refl, subst (λ x. BodyAt d s h x) z (all .0))
   head-of (h ∷ hs) (k ∷ gs) all (suc f) g is = head-of hs gs (all .1) f g is
 
 -- what is found, was found
@@ -473,27 +473,28 @@ found-is (refused why) = tt
 -- the functions that were read have the bodies that the outline's heads tell of
 pub bodies-are :
     (file : List ℕ) (o : Outline) (n : ℕ) → outline file 0 ≡ got o n
-    → (i : ℕ) (fs : List Function) (next : ℕ) → functionsOf o (o .heads) file i ≡ got fs next → Bodies o file (o .heads) fs
+    → (i : ℕ) (fs : List Function) (next : ℕ) → functionsOf (o .declared) (o .declared .heads) file i ≡ got fs next
+    → Bodies (o .declared) file (o .declared .heads) fs
 bodies-are file o n is i fs next are =
-    let fit : Each (BodyInside file) (o .heads) = subst (IfFound (λ o next. Each (BodyInside file) (o .heads))) is (outline-inside file 0) in
-    subst (IfFound (λ fs next. Bodies o file (o .heads) fs)) are (bodies-find o file (o .heads) i fit)
+    let fit : Each (BodyInside file) (o .declared .heads) = subst (IfFound (λ o next. Each (BodyInside file) (o .declared .heads))) is (outline-inside file 0) in
+    subst (IfFound (λ fs next. Bodies (o .declared) file (o .declared .heads) fs)) are (bodies-find (o .declared) file (o .declared .heads) i fit)
 
 -- each body stands in the file at the place that its head tells
 pub body-bytes :
     (file : List ℕ) (o : Outline) (n : ℕ) → outline file 0 ≡ got o n
-    → (i : ℕ) (fs : List Function) (next : ℕ) → functionsOf o (o .heads) file i ≡ got fs next
-    → (f : ℕ) (h : Head) (g : Function) → getElem? (o .heads) f ≡ some h → getElem? fs f ≡ some g → BodyAt o file h g
+    → (i : ℕ) (fs : List Function) (next : ℕ) → functionsOf (o .declared) (o .declared .heads) file i ≡ got fs next
+    → (f : ℕ) (h : Head) (g : Function) → getElem? (o .declared .heads) f ≡ some h → getElem? fs f ≡ some g → BodyAt (o .declared) file h g
 body-bytes file o n is i fs next are f h g of-head of-function =
-    let found = function-of o file (o .heads) fs (bodies-are file o n is i fs next are) f h of-head in
+    let found = function-of (o .declared) file (o .declared .heads) fs (bodies-are file o n is i fs next are) f h of-head in
     let same : found .0 ≡ g = cc (found .1, of-function) in
-    subst (BodyAt o file h) same (found .2)
+    subst (BodyAt (o .declared) file h) same (found .2)
 
 -- What the program of an accepted file has from the file's outline: the types, and for each head the function whose body stands there.
 pub record Outlined (file : List ℕ) (p : Program) (o : Outline) : Type 0 where
   pub found : (n : ℕ) × (outline file 0 ≡ got o n)
-  pub types : p .types ≡ o .types
-  pub function-of : (f : ℕ) (h : Head) → getElem? (o .heads) f ≡ some h → (g : Function) × (functionAt p f ≡ some g) × BodyAt o file h g
-  pub head-of : (f : ℕ) (g : Function) → functionAt p f ≡ some g → (h : Head) × (getElem? (o .heads) f ≡ some h) × BodyAt o file h g
+  pub types : p .types ≡ o .declared .types
+  pub function-of : (f : ℕ) (h : Head) → getElem? (o .declared .heads) f ≡ some h → (g : Function) × (functionAt p f ≡ some g) × BodyAt (o .declared) file h g
+  pub head-of : (f : ℕ) (g : Function) → functionAt p f ≡ some g → (h : Head) × (getElem? (o .declared .heads) f ≡ some h) × BodyAt (o .declared) file h g
 
 file-finds : (file : List ℕ) → IfFound (λ p next. (o : Outline) × Outlined file p o) (ruleFile file 0)
 unfolding ruleFile sizeInLimit programOf functionAt
@@ -501,11 +502,18 @@ file-finds file =
     demand-then _ _ (leb (length file) fileLimit) _ 0
     (λ small. if-found-then _ _ _ (outline file 0) (found-is (outline file 0))
     (λ o n is. demand-then _ _ (numbersExist o) _ n
-    (λ exist. if-found-then _ _ _ (functionsOf o (o .heads) file n) (found-is (functionsOf o (o .heads) file n))
-    (λ fs k are. demand-then _ _ (noEmptyType (leastDepths (o .types))) _ k
+    (λ exist. if-found-then _ _ _ (functionsOf (o .declared) (o .declared .heads) file n) (found-is (functionsOf (o .declared) (o .declared .heads) file n))
+    (λ fs k are. demand-then _ _ (noEmptyType (leastDepths (o .declared .types))) _ k
     (λ filled. demand-then _ _ (deepEnough (programOf o fs)) _ k
-    (λ deep. let all = bodies-are file o n is n fs k are in
-    (o, record { found = (n, is); types = refl; function-of = function-of o file (o .heads) fs all; head-of = head-of o file (o .heads) fs all })))))))
+    (λ deep. let all = bodies-are file o n is n fs k are in (
+      o,
+      record {
+        found = (n, is);
+        types = refl;
+        function-of = function-of (o .declared) file (o .declared .heads) fs all;
+        head-of = head-of (o .declared) file (o .declared .heads) fs all;
+      },
+    )))))))
 
 -- an accepted file has an outline, and its program is from there
 pub accepted-outlined : (file : List ℕ) (p : Program) → check file ≡ accepted p → (o : Outline) × Outlined file p o
@@ -521,12 +529,12 @@ accepted-outlined file p is = go (ruleFile file 0) (file-finds file) is
 regroup : (x y r x′ y′ r′ : List ℕ) → x ++ y ++ r ≡ x′ ++ y′ ++ r′ → x ++ (y ++ r) ≡ x′ ++ (y′ ++ r′)
 regroup x y r x′ y′ r′ is = cc (append-assoc x y r, append-assoc x′ y′ r′)
 
-module _ (o : Outline) where
+module _ (d : Declarations) where
   mutual
     unfolding encode count countAlternatives
 
     -- bytes that begin with an encoding determine the expression and the rest: other kinds of expression begin with another code
-    unique : (e e′ : Expr) (r r′ : List ℕ) → Arity o e → Arity o e′ → encode e ++ r ≡ encode e′ ++ r′ → (e ≡ e′) × (r ≡ r′)
+    unique : (e e′ : Expr) (r r′ : List ℕ) → Arity d e → Arity d e′ → encode e ++ r ≡ encode e′ ++ r′ → (e ≡ e′) × (r ≡ r′)
     unique (variable n) (variable n′) r r′ a a′ is = (cc, cc)
     unique (variable n) (call f′ es′) r r′ a a′ is = (cc, cc)
     unique (variable n) (construct t′ c′ es′) r r′ a a′ is = (cc, cc)
@@ -576,7 +584,7 @@ module _ (o : Outline) where
         let inner = unique e e′ r r′ a a′ (cc) in
         (cc (inner .0), inner .1)
 
-    unique-all : (es es′ : Exprs) (r r′ : List ℕ) → ArityAll o es → ArityAll o es′ → count es ≡ count es′ → encodeAll es ++ r ≡ encodeAll es′ ++ r′ → (es ≡ es′) × (r ≡ r′)
+    unique-all : (es es′ : Exprs) (r r′ : List ℕ) → ArityAll d es → ArityAll d es′ → count es ≡ count es′ → encodeAll es ++ r ≡ encodeAll es′ ++ r′ → (es ≡ es′) × (r ≡ r′)
     unique-all []ₑ []ₑ r r′ a a′ many is = (refl, is)
     unique-all []ₑ (e′ ∷ₑ es′) r r′ a a′ many is = absurd (clash (cc))
     unique-all (e ∷ₑ es) []ₑ r r′ a a′ many is = absurd (clash (cc))
@@ -585,7 +593,7 @@ module _ (o : Outline) where
         let rest = unique-all es es′ r r′ (a .1) (a′ .1) (omega arith) (first .1) in
         (cc (first .0, rest .0), rest .1)
 
-    unique-alternatives : (alts alts′ : Alternatives) (r r′ : List ℕ) → ArityAlternatives o alts → ArityAlternatives o alts′ → countAlternatives alts ≡ countAlternatives alts′ → encodeAlternatives alts ++ r ≡ encodeAlternatives alts′ ++ r′ → (alts ≡ alts′) × (r ≡ r′)
+    unique-alternatives : (alts alts′ : Alternatives) (r r′ : List ℕ) → ArityAlternatives d alts → ArityAlternatives d alts′ → countAlternatives alts ≡ countAlternatives alts′ → encodeAlternatives alts ++ r ≡ encodeAlternatives alts′ ++ r′ → (alts ≡ alts′) × (r ≡ r′)
     unique-alternatives no-more no-more r r′ a a′ many is = (refl, is)
     unique-alternatives no-more (absent alts′) r r′ a a′ many is = absurd (clash (omega arith))
     unique-alternatives no-more (present e′ alts′) r r′ a a′ many is = absurd (clash (omega arith))
@@ -602,8 +610,8 @@ module _ (o : Outline) where
         (cc (first .0, rest .0), rest .1)
 
 -- what stands at a place is one expression
-pub stands-unique : (o : Outline) (s : List ℕ) (i : ℕ) (e e′ : Expr) → Arity o e → Arity o e′ → Stands s i e → Stands s i e′ → e ≡ e′
-stands-unique o s i e e′ a a′ there there′ = (unique o e e′ (there .0) (there′ .0) a a′ (cc (there .1, there′ .1))) .0
+pub stands-unique : (d : Declarations) (s : List ℕ) (i : ℕ) (e e′ : Expr) → Arity d e → Arity d e′ → Stands s i e → Stands s i e′ → e ≡ e′
+stands-unique d s i e e′ a a′ there there′ = (unique d e e′ (there .0) (there′ .0) a a′ (cc (there .1, there′ .1))) .0
 
 -- The place behind an expression.
 
@@ -611,10 +619,10 @@ byte-there : (s : List ℕ) (i b k : ℕ) → k ≡ suc i → ByteAt s i b → b
 unfolding byte
 byte-there s i b k is there = rw (lt-ltb i (length s) (there .0), there .1, is)
 
-module _ (o : Outline) (s : List ℕ) where
+module _ (d : Declarations) (s : List ℕ) where
   -- the reader passes over each expression that nests at most n deep
   abbrev Passes : ℕ → Skip → Type 0
-  Passes n sub = (e : Expr) (i : ℕ) → Arity o e → Stands s i e → nesting e ≤ n → sub s i ≡ got tt (i + length (encode e))
+  Passes n sub = (e : Expr) (i : ℕ) → Arity d e → Stands s i e → nesting e ≤ n → sub s i ≡ got tt (i + length (encode e))
 
   -- the readings of the code and of the number behind it
   code-there : (i b : ℕ) → ByteAt s i b → byte s i ≡ got b (i + 1)
@@ -625,7 +633,7 @@ module _ (o : Outline) (s : List ℕ) where
 
   module _ (n : ℕ) (sub : Skip) (below : Passes n sub) where
     pass-all :
-        (es : Exprs) (i : ℕ) → ArityAll o es → StandsAll s i es → nestingAll es ≤ n
+        (es : Exprs) (i : ℕ) → ArityAll d es → StandsAll s i es → nestingAll es ≤ n
         → skippedAll sub (count es) s i ≡ got tt (i + length (encodeAll es))
     unfolding skippedAll count encode nesting
     pass-all []ₑ i a there nests = ap (got tt) (omega arith)
@@ -636,7 +644,7 @@ module _ (o : Outline) (s : List ℕ) where
         rw (first, others) (ap (got tt) (omega (arith, length-append (encode e) (encodeAll es))))
 
     pass-alternatives :
-        (alts : Alternatives) (i : ℕ) → ArityAlternatives o alts → StandsAlternatives s i alts → nestingAlternatives alts ≤ n
+        (alts : Alternatives) (i : ℕ) → ArityAlternatives d alts → StandsAlternatives s i alts → nestingAlternatives alts ≤ n
         → skippedAlternatives sub (countAlternatives alts) s i ≡ got tt (i + length (encodeAlternatives alts))
     unfolding skippedAlternatives countAlternatives encode nesting
     pass-alternatives no-more i a there nests = ap (got tt) (omega arith)
@@ -650,7 +658,7 @@ module _ (o : Outline) (s : List ℕ) where
         let others = pass-alternatives alts (i + 1 + length (encode e)) (a .1) (parts .2) (omega arith) in
         rw (code-there i 1 (parts .0), first, others) (ap (got tt) (omega (arith, length-append (encode e) (encodeAlternatives alts))))
 
-    pass-by : Passes (suc n) (skippedBy o sub)
+    pass-by : Passes (suc n) (skippedBy d sub)
     unfolding skippedBy skippedCall skippedConstruct skippedCase encode nesting
     pass-by (variable v) i a there nests =
         let parts = stands-variable s i v there in
@@ -692,13 +700,13 @@ nested (target l e) = omega arith
 
 -- where an expression stands that nests at most n deep, the place behind it is found
 pub skipped-finds :
-    (o : Outline) (n : ℕ) (s : List ℕ) (i : ℕ) (e : Expr) → Arity o e → Stands s i e → nesting e ≤ n
-    → skipped o n s i ≡ got tt (i + length (encode e))
+    (d : Declarations) (n : ℕ) (s : List ℕ) (i : ℕ) (e : Expr) → Arity d e → Stands s i e → nesting e ≤ n
+    → skipped d n s i ≡ got tt (i + length (encode e))
 unfolding skipped
-skipped-finds o zero s i e a there nests = absurd (clash (omega (arith, nested e)))
-skipped-finds o (suc n) s i e a there nests = pass-by o s n (skipped o n) (λ e i. skipped-finds o n s i e) e i a there nests
+skipped-finds d zero s i e a there nests = absurd (clash (omega (arith, nested e)))
+skipped-finds d (suc n) s i e a there nests = pass-by d s n (skipped d n) (λ e i. skipped-finds d n s i e) e i a there nests
 
 -- of a body of an accepted file it is the place where the body's length ends
-pub body-skipped : (o : Outline) (file : List ℕ) (h : Head) (g : Function) → BodyAt o file h g → skipped o nestingLimit file (h .body) ≡ got tt (h .body + h .size)
-body-skipped o file h g at =
-    rw (← (at .size)) (skipped-finds o nestingLimit file (h .body) (g .body) (at .arity) (drop (h .body + h .size) file, at .stands) (at .nests))
+pub body-skipped : (d : Declarations) (file : List ℕ) (h : Head) (g : Function) → BodyAt d file h g → skipped d nestingLimit file (h .body) ≡ got tt (h .body + h .size)
+body-skipped d file h g at =
+    rw (← (at .size)) (skipped-finds d nestingLimit file (h .body) (g .body) (at .arity) (drop (h .body + h .size) file, at .stands) (at .nests))

@@ -17,7 +17,7 @@ use Rattle.reach.specs.Syntax.{Function, Program, fieldTypes, functionAt
 use Rattle.reach.specs.Types.{leastDepths}
 use Rattle.reach.specs.Reader.{Got, got, refused, onGot, Reader, _>>=_, _>>_, give, refuse, demand, byte, word, times, passed, atEnd}
 use Rattle.reach.specs.RuleFile.{Mark, TY, FN, GO, other, onMark, mark, counted, constructorRecord, typeRecord, Head, functionRecord, Goal, goalRecord}
-use Rattle.reach.specs.RuleFile.{moreTypes, moreFunctions, Outline, outline, numbersExist, bodyOf, functionsOf, programOf, noEmptyType, deepEnough, sizeInLimit, ruleFile}
+use Rattle.reach.specs.RuleFile.{moreTypes, moreFunctions, Declarations, Outline, outline, numbersExist, bodyOf, functionsOf, programOf, noEmptyType, deepEnough, sizeInLimit, ruleFile}
 use Rattle.reach.specs.Answers.{accepted, turnedBack, check}
 use Rattle.reach.specs.Base.{Each}
 use Rattle.reach.proofs.Base.{clash, picked, nth-member, each-member, each-getD}
@@ -167,10 +167,10 @@ more-functions (suc n) =
 
 -- an outline within the limits
 pub record OutlineKept (o : Outline) : Type 0 where
-  pub types-count : length (o .types) ≤ typeLimit
-  pub types-kept : Each TypeKept (o .types)
-  pub heads-count : length (o .heads) ≤ functionLimit
-  pub heads-kept : Each HeadKept (o .heads)
+  pub types-count : length (o .declared .types) ≤ typeLimit
+  pub types-kept : Each TypeKept (o .declared .types)
+  pub heads-count : length (o .declared .heads) ≤ functionLimit
+  pub heads-kept : Each HeadKept (o .declared .heads)
   pub goal : GoalKept (o .goal)
 
 pub outline-kept : Promises OutlineKept outline
@@ -196,13 +196,13 @@ abbrev FunctionKept : Function → Type 0
 FunctionKept f = length (f .parameters) ≤ parameterLimit
 
 -- the functions are no more than the heads, and have their parameters
-functions-kept : (o : Outline) (hs : List Head) → Each HeadKept hs
-    → Promises (λ fs. (length fs ≤ length hs) × Each FunctionKept fs) (functionsOf o hs)
+functions-kept : (d : Declarations) (hs : List Head) → Each HeadKept hs
+    → Promises (λ fs. (length fs ≤ length hs) × Each FunctionKept fs) (functionsOf d hs)
 unfolding functionsOf
-functions-kept o [] all = giving (zero-le, tt)
-functions-kept o (h ∷ hs) all =
-    then (anything (λ s here. bodyOf o h s))
-    (λ e u. then (functions-kept o hs (all .1))
+functions-kept d [] all = giving (zero-le, tt)
+functions-kept d (h ∷ hs) all =
+    then (anything (λ s here. bodyOf d h s))
+    (λ e u. then (functions-kept d hs (all .1))
     (λ fs ks. giving (suc-le-suc (ks .0), (all .0, ks .1))))
 
 -- What an accepted file keeps to.
@@ -223,14 +223,14 @@ parameters-of none fs i e all = zero-le
 parameters-of (some f) fs i e all = each-member FunctionKept all (nth-member fs i f e)
 
 program-kept :
-    (o : Outline) (fs : List Function) → OutlineKept o → length fs ≤ length (o .heads) → Each FunctionKept fs
-    → noEmptyType (leastDepths (o .types)) ≡ true → deepEnough (programOf o fs) ≡ true → Kept (programOf o fs)
+    (o : Outline) (fs : List Function) → OutlineKept o → length fs ≤ length (o .declared .heads) → Each FunctionKept fs
+    → noEmptyType (leastDepths (o .declared .types)) ≡ true → deepEnough (programOf o fs) ≡ true → Kept (programOf o fs)
 unfolding programOf fieldTypes sourceTypes functionAt
 program-kept o fs kept few all filled deep =
     record {
       types-limit = kept .types-count;
       constructors-limit = λ t. (type-at t) .0;
-      fields-limit = λ t c us e. each-member ConstructorKept ((type-at t) .1) (nth-member (getD (o .types) t []) c us e);
+      fields-limit = λ t c us e. each-member ConstructorKept ((type-at t) .1) (nth-member (getD (o .declared .types) t []) c us e);
       functions-limit = le-trans few (kept .heads-count);
       parameters-limit = parameters-of (getElem? fs (o .goal .source)) fs (o .goal .source) refl all;
       depth-limit = (kept .goal .0, kept .goal .1);
@@ -239,8 +239,8 @@ program-kept o fs kept few all filled deep =
       deep-enough = deep;
     }
   where
-    type-at : (t : ℕ) → TypeKept (getD (o .types) t [])
-    type-at t = each-getD TypeKept (o .types) t [] (kept .types-kept) (zero-le, tt)
+    type-at : (t : ℕ) → TypeKept (getD (o .declared .types) t [])
+    type-at t = each-getD TypeKept (o .declared .types) t [] (kept .types-kept) (zero-le, tt)
 
 file-kept : Promises Kept ruleFile
 unfolding ruleFile
@@ -248,8 +248,8 @@ file-kept =
     then-on (anything sizeInLimit)
     (λ x y. then outline-kept
     (λ o kept. then-on (anything (demand (numbersExist o) UnknownNumber))
-    (λ x y. then (functions-kept o (o .heads) (kept .heads-kept))
-    (λ fs ks. then-on (demanding (noEmptyType (leastDepths (o .types))) EmptyType)
+    (λ x y. then (functions-kept (o .declared) (o .declared .heads) (kept .heads-kept))
+    (λ fs ks. then-on (demanding (noEmptyType (leastDepths (o .declared .types))) EmptyType)
     (λ x filled. then-on (demanding (deepEnough (programOf o fs)) DepthTooSmall)
     (λ y deep. giving (program-kept o fs kept (ks .0) (ks .1) filled deep)))))))
 

@@ -43,17 +43,17 @@ module _ (n : ℕ) where
 
 module _ (o : Outline) where
   abbrev n : ℕ
-  n = length (o .types)
+  n = length (o .declared .types)
 
-  number-below : All (All (All (λ t. t < n))) (o .types) → All (HeadExists n) (o .heads) → (t : ℕ) → TypeNumber o t → t < n
+  number-below : All (All (All (λ t. t < n))) (o .declared .types) → All (HeadExists n) (o .declared .heads) → (t : ℕ) → TypeNumber (o .declared) t → t < n
   number-below fields heads t (of-field cs us there of-type here) = fields cs there us of-type t here
   number-below fields heads t (of-parameter h there here) = (heads h there) .0 t here
   number-below fields heads t (of-result h there is) = rw is ((heads h there) .1)
 
-  field-missing : Some (Some (Some (λ t. n ≤ t))) (o .types) → SomeNumberMissing o
+  field-missing : Some (Some (Some (λ t. n ≤ t))) (o .declared .types) → SomeNumberMissing o
   field-missing (cs, there, (us, of-type, (t, here, over))) = inl (t, of-field cs us there of-type here, over)
 
-  head-missing : Some (HeadMissing n) (o .heads) → SomeNumberMissing o
+  head-missing : Some (HeadMissing n) (o .declared .heads) → SomeNumberMissing o
   head-missing (h, there, (inl (t, here, over))) = inl (t, of-parameter h there here, over)
   head-missing (h, there, (inr over)) = inl (h .result, of-result h there refl, over)
 
@@ -61,7 +61,7 @@ module _ (o : Outline) where
   unfolding numbersExist
   numbers-tell =
       tells-as (λ all. (number-below (all .0 .0) (all .0 .1), all .1)) (⊎-elim (⊎-elim field-missing head-missing) inr)
-      (tells-both (tells-both (types-tell n (o .types)) (heads-tell n (o .heads))) (ltb-tells (o .goal .source) (length (o .heads))))
+      (tells-both (tells-both (types-tell n (o .declared .types)) (heads-tell n (o .declared .heads))) (ltb-tells (o .goal .source) (length (o .declared .heads))))
 
   numbers-apart : AllNumbersExist o → SomeNumberMissing o → ⊥
   numbers-apart all (inl (t, number, over)) = omega (arith, all .0 t number, over)

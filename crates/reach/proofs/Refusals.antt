@@ -17,7 +17,7 @@ use Rattle.reach.specs.Limits.{fileLimit, typeLimit, constructorLimit, f
 use Rattle.reach.specs.Syntax.{Program, fieldTypes}
 use Rattle.reach.specs.Types.{leastDepths}
 use Rattle.reach.specs.Reader.{Got, got, refused, onGot, Reader, _>>=_, _>>_, give, refuse, demand, byte, word, times, passed, atEnd}
-use Rattle.reach.specs.RuleFile.{Mark, TY, FN, GO, other, onMark, mark, counted, constructorRecord, typeRecord, Head, functionRecord, goalRecord, moreTypes, moreFunctions, Outline, outline}
+use Rattle.reach.specs.RuleFile.{Mark, TY, FN, GO, other, onMark, mark, counted, constructorRecord, typeRecord, Head, functionRecord, goalRecord, moreTypes, moreFunctions, Declarations, outline}
 use Rattle.reach.specs.RuleFile.{Below, operandsOf, alternatives, inLimits, variableExpr, callOf, callExpr, constructOf, constructExpr, caseOf, caseExpr, letExpr, targetExpr, expressionBy, expression}
 use Rattle.reach.specs.RuleFile.{bodyOf, functionsOf, numbersExist, programOf, noEmptyType, deepEnough, sizeInLimit, ruleFile}
 use Rattle.reach.specs.Answers.{accepted, turnedBack, check}
@@ -216,11 +216,11 @@ alternatives-refuse sub below view t (us ∷ cs) =
     (choosing (eqb b 0) (then (alternatives-refuse sub below view t cs) (λ rest. giving))
     (then (below (view ++ us) t) (λ e. then (alternatives-refuse sub below view t cs) (λ rest. giving)))))
 
-module _ (o : Outline) (nested : Bool) (sub : Below) (below : RefusesAll sub) (view : List ℕ) (expected : ℕ) where
+module _ (d : Declarations) (nested : Bool) (sub : Below) (below : RefusesAll sub) (view : List ℕ) (expected : ℕ) where
   limits-refuse : Refuses OfBody (inLimits nested view)
   limits-refuse = demanding (nested && leb (length view) viewLimit) OutOfRange body-range
 
-  variable-refuses : Refuses OfBody (variableExpr o nested sub view expected)
+  variable-refuses : Refuses OfBody (variableExpr d nested sub view expected)
   unfolding variableExpr
   variable-refuses =
       then (byte-refuses body-short)
@@ -228,7 +228,7 @@ module _ (o : Outline) (nested : Bool) (sub : Below) (below : RefusesAll sub) (v
       (then-on limits-refuse
       (then-on (demanding (eqb (getD view n 0) expected) TypeMismatch body-type) giving)))
 
-  call-refuses : (f : ℕ) (h : Option Head) → Refuses OfBody (callOf o nested sub view expected f h)
+  call-refuses : (f : ℕ) (h : Option Head) → Refuses OfBody (callOf d nested sub view expected f h)
   unfolding callOf
   call-refuses f none = refusing body-number
   call-refuses f (some h) =
@@ -236,7 +236,7 @@ module _ (o : Outline) (nested : Bool) (sub : Below) (below : RefusesAll sub) (v
       (then-on (demanding (eqb (h .result) expected) TypeMismatch body-type)
       (then (operands-refuse sub below view (h .parameters)) (λ es. giving)))
 
-  construct-refuses : (t c : ℕ) (us : Option (List ℕ)) → Refuses OfBody (constructOf o nested sub view expected t c us)
+  construct-refuses : (t c : ℕ) (us : Option (List ℕ)) → Refuses OfBody (constructOf d nested sub view expected t c us)
   unfolding constructOf
   construct-refuses t c none = refusing body-number
   construct-refuses t c (some us) =
@@ -244,7 +244,7 @@ module _ (o : Outline) (nested : Bool) (sub : Below) (below : RefusesAll sub) (v
       (then-on (demanding (eqb t expected) TypeMismatch body-type)
       (then (operands-refuse sub below view us) (λ es. giving)))
 
-  case-refuses : (t : ℕ) (cs : Option (List (List ℕ))) → Refuses OfBody (caseOf o nested sub view expected t cs)
+  case-refuses : (t : ℕ) (cs : Option (List (List ℕ))) → Refuses OfBody (caseOf d nested sub view expected t cs)
   unfolding caseOf
   case-refuses t none = refusing body-number
   case-refuses t (some cs) =
@@ -252,48 +252,48 @@ module _ (o : Outline) (nested : Bool) (sub : Below) (below : RefusesAll sub) (v
       (then (below view t)
       (λ e. then (alternatives-refuse sub below view expected cs) (λ alts. giving)))
 
-  let-refuses : Refuses OfBody (letExpr o nested sub view expected)
+  let-refuses : Refuses OfBody (letExpr d nested sub view expected)
   unfolding letExpr
   let-refuses =
       then (byte-refuses body-short)
-      (λ t. then-on (demanding (ltb t (length (o .types))) UnknownNumber body-number)
+      (λ t. then-on (demanding (ltb t (length (d .types))) UnknownNumber body-number)
       (then-on limits-refuse
       (then (below view t) (λ e. then (below (view ++ (t ∷ [])) expected) (λ b. giving)))))
 
-  target-refuses : Refuses OfBody (targetExpr o nested sub view expected)
+  target-refuses : Refuses OfBody (targetExpr d nested sub view expected)
   unfolding targetExpr
   target-refuses = then (byte-refuses body-short) (λ l. then-on limits-refuse (then (below view expected) (λ e. giving)))
 
-  by-refuses : Refuses OfBody (expressionBy o nested sub view expected)
+  by-refuses : Refuses OfBody (expressionBy d nested sub view expected)
   unfolding expressionBy callExpr constructExpr caseExpr
   by-refuses =
       then (byte-refuses body-short)
       (λ code. then-on (demanding (leb code 5) UnknownCode body-code)
       (choosing (eqb code 0) variable-refuses
-      (choosing (eqb code 1) (then (byte-refuses body-short) (λ f. call-refuses f (getElem? (o .heads) f)))
+      (choosing (eqb code 1) (then (byte-refuses body-short) (λ f. call-refuses f (getElem? (d .heads) f)))
       (choosing (eqb code 2)
-      (then (byte-refuses body-short) (λ t. then (byte-refuses body-short) (λ c. construct-refuses t c (fieldTypes (o .types) t c))))
-      (choosing (eqb code 3) (then (byte-refuses body-short) (λ t. case-refuses t (getElem? (o .types) t)))
+      (then (byte-refuses body-short) (λ t. then (byte-refuses body-short) (λ c. construct-refuses t c (fieldTypes (d .types) t c))))
+      (choosing (eqb code 3) (then (byte-refuses body-short) (λ t. case-refuses t (getElem? (d .types) t)))
       (choosing (eqb code 4) let-refuses target-refuses))))))
 
-expression-refuses : (o : Outline) (n : ℕ) → RefusesAll (expression o n)
+expression-refuses : (d : Declarations) (n : ℕ) → RefusesAll (expression d n)
 unfolding expression
-expression-refuses o zero view t = by-refuses o false (λ view t. refuse OutOfRange) (λ view t. refusing body-range) view t
-expression-refuses o (suc n) view t = by-refuses o true (expression o n) (expression-refuses o n) view t
+expression-refuses d zero view t = by-refuses d false (λ view t. refuse OutOfRange) (λ view t. refusing body-range) view t
+expression-refuses d (suc n) view t = by-refuses d true (expression d n) (expression-refuses d n) view t
 
-body-refuses : (o : Outline) (h : Head) → Refuses OfBody (λ s here. bodyOf o h s)
+body-refuses : (d : Declarations) (h : Head) → Refuses OfBody (λ s here. bodyOf d h s)
 unfolding bodyOf
-body-refuses o h =
-    let whole = then (expression-refuses o nestingLimit (h .parameters) (h .result)) (λ e. then-on (end-refuses body-tail) (giving {a = e})) in
+body-refuses d h =
+    let whole = then (expression-refuses d nestingLimit (h .parameters) (h .result)) (λ e. then-on (end-refuses body-tail) (giving {a = e})) in
     record { met = λ s i. whole .met (take (h .body + h .size) s) (h .body) }
 
-bodies-refuse : (o : Outline) (hs : List Head) → Refuses OfBody (functionsOf o hs)
+bodies-refuse : (d : Declarations) (hs : List Head) → Refuses OfBody (functionsOf d hs)
 unfolding functionsOf
-bodies-refuse o [] = giving
-bodies-refuse o (h ∷ hs) = then (body-refuses o h) (λ e. then (bodies-refuse o hs) (λ fs. giving))
+bodies-refuse d [] = giving
+bodies-refuse d (h ∷ hs) = then (body-refuses d h) (λ e. then (bodies-refuse d hs) (λ fs. giving))
 
-pub body-gives : (o : Outline) (h : Head) (file : List ℕ) (why : Refusal) → bodyOf o h file ≡ refused why → numberOf why ∈ (1 ∷ 3 ∷ 4 ∷ 5 ∷ 6 ∷ 7 ∷ [])
-body-gives o h file why is = subst (IfRefused OfBody) is ((body-refuses o h) .met file 0)
+pub body-gives : (d : Declarations) (h : Head) (file : List ℕ) (why : Refusal) → bodyOf d h file ≡ refused why → numberOf why ∈ (1 ∷ 3 ∷ 4 ∷ 5 ∷ 6 ∷ 7 ∷ [])
+body-gives d h file why is = subst (IfRefused OfBody) is ((body-refuses d h) .met file 0)
 
 -- The file.
 
@@ -315,8 +315,9 @@ file-refuses =
     then-on size-refuses
     (then (weakened (small _ (omega arith, (omega arith, (omega arith, (omega arith, tt))))) outline-refuses)
     (λ o. then-on (demanding (numbersExist o) UnknownNumber (omega arith))
-    (then (weakened (small _ (omega arith, (omega arith, (omega arith, (omega arith, (omega arith, (omega arith, tt))))))) (bodies-refuse o (o .heads)))
-    (λ fs. then-on (demanding (noEmptyType (leastDepths (o .types))) EmptyType (omega arith))
+    (then (weakened (small _ (omega arith, (omega arith, (omega arith, (omega arith, (omega arith, (omega arith, tt)))))))
+    (bodies-refuse (o .declared) (o .declared .heads)))
+    (λ fs. then-on (demanding (noEmptyType (leastDepths (o .declared .types))) EmptyType (omega arith))
     (then-on (demanding (deepEnough (programOf o fs)) DepthTooSmall (omega arith)) giving)))))
 
 -- a file that is turned back gets a number of 1 to 9

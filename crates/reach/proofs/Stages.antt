@@ -32,16 +32,16 @@ module _ (s : List ℕ) where
       numbers-refused e = rw (le-leb (length s) fileLimit size, read, e)
 
       module _ (exist : numbersExist o ≡ true) where
-        pub bodies-refused : {why : Refusal} → functionsOf o (o .heads) s n ≡ refused why → check s ≡ turnedBack why
+        pub bodies-refused : {why : Refusal} → functionsOf (o .declared) (o .declared .heads) s n ≡ refused why → check s ≡ turnedBack why
         unfolding check ruleFile sizeInLimit
         bodies-refused e = rw (le-leb (length s) fileLimit size, read, exist, e)
 
-        module _ {fs : List Function} {m : ℕ} (bodies : functionsOf o (o .heads) s n ≡ got fs m) where
-          pub empty-refused : noEmptyType (leastDepths (o .types)) ≡ false → check s ≡ turnedBack EmptyType
+        module _ {fs : List Function} {m : ℕ} (bodies : functionsOf (o .declared) (o .declared .heads) s n ≡ got fs m) where
+          pub empty-refused : noEmptyType (leastDepths (o .declared .types)) ≡ false → check s ≡ turnedBack EmptyType
           unfolding check ruleFile sizeInLimit
           empty-refused e = rw (le-leb (length s) fileLimit size, read, exist, bodies, e)
 
-          module _ (filled : noEmptyType (leastDepths (o .types)) ≡ true) where
+          module _ (filled : noEmptyType (leastDepths (o .declared .types)) ≡ true) where
             pub depth-refused : deepEnough (programOf o fs) ≡ false → check s ≡ turnedBack DepthTooSmall
             unfolding check ruleFile sizeInLimit
             depth-refused e = rw (le-leb (length s) fileLimit size, read, exist, bodies, filled, e)

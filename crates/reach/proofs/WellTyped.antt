@@ -19,7 +19,7 @@ use Rattle.reach.specs.Limits.{nestingLimit}
 use Rattle.reach.specs.Syntax.{Expr, Types, Function, Program, fieldTypes, functionAt}
 use Rattle.reach.specs.Types.{leastDepths}
 use Rattle.reach.specs.Reader.{Got, got, refused, onGot, Reader, demand, byte, atEnd}
-use Rattle.reach.specs.RuleFile.{Head, Outline, outline, numbersExist, Below, operandsOf, alternatives, inLimits, variableExpr, callOf, callExpr, constructOf, constructExpr, caseOf, caseExpr, letExpr, targetExpr, expressionBy, expression, bodyOf, functionsOf, programOf, noEmptyType, deepEnough, sizeInLimit, ruleFile}
+use Rattle.reach.specs.RuleFile.{Head, Declarations, Outline, outline, numbersExist, Below, operandsOf, alternatives, inLimits, variableExpr, callOf, callExpr, constructOf, constructExpr, caseOf, caseExpr, letExpr, targetExpr, expressionBy, expression, bodyOf, functionsOf, programOf, noEmptyType, deepEnough, sizeInLimit, ruleFile}
 use Rattle.reach.specs.Answers.{accepted, turnedBack, check}
 use Rattle.reach.specs.Conditions.{of-field, of-parameter, of-result}
 use Rattle.reach.proofs.Base.{clash, member-each}
@@ -74,16 +74,16 @@ either Q false m n s i x y = y
 abbrev headSignature : Head → Signature
 headSignature h = record { parameters = h .parameters; result = h .result }
 
-module _ (o : Outline) where
+module _ (d : Declarations) where
   abbrev headSignatures : List Signature
-  headSignatures = map headSignature (o .heads)
+  headSignatures = map headSignature (d .heads)
 
   -- whatever the reader of expressions finds has the type expected of it
   abbrev FindsTyped : Below → Type 0
-  FindsTyped sub = (view : List ℕ) (t : ℕ) (s : List ℕ) (i : ℕ) → IfFound (λ e next. HasType (o .types) headSignatures e view t) (sub view t s i)
+  FindsTyped sub = (view : List ℕ) (t : ℕ) (s : List ℕ) (i : ℕ) → IfFound (λ e next. HasType (d .types) headSignatures e view t) (sub view t s i)
 
   module _ (sub : Below) (below : FindsTyped sub) where
-    operands-typed : (view ts s : List ℕ) (i : ℕ) → IfFound (λ es next. HaveTypes (o .types) headSignatures es view ts) (operandsOf sub view ts s i)
+    operands-typed : (view ts s : List ℕ) (i : ℕ) → IfFound (λ es next. HaveTypes (d .types) headSignatures es view ts) (operandsOf sub view ts s i)
     unfolding operandsOf
     operands-typed view [] s i = tt
     operands-typed view (t ∷ ts) s i =
@@ -93,7 +93,7 @@ module _ (o : Outline) where
 
     alternatives-typed :
         (view : List ℕ) (t : ℕ) (cs : List (List ℕ)) (s : List ℕ) (i : ℕ)
-        → IfFound (λ alts next. Covers (o .types) headSignatures alts view cs t) (alternatives sub view t cs s i)
+        → IfFound (λ alts next. Covers (d .types) headSignatures alts view cs t) (alternatives sub view t cs s i)
     unfolding alternatives
     alternatives-typed view t [] s i = tt
     alternatives-typed view t (us ∷ cs) s i =
@@ -107,9 +107,9 @@ module _ (o : Outline) where
     -- each kind of expression, whatever the nesting
     module _ (nested : Bool) (view : List ℕ) (t : ℕ) where
       abbrev Expected : Expr → ℕ → Type 0
-      Expected e next = HasType (o .types) headSignatures e view t
+      Expected e next = HasType (d .types) headSignatures e view t
 
-      variable-typed : (s : List ℕ) (i : ℕ) → IfFound Expected (variableExpr o nested sub view t s i)
+      variable-typed : (s : List ℕ) (i : ℕ) → IfFound Expected (variableExpr d nested sub view t s i)
       unfolding variableExpr
       variable-typed s i =
           after-any _ _ (byte s i)
@@ -121,23 +121,23 @@ module _ (o : Outline) where
           typed : (n : ℕ) → (x : ℕ) × (getElem? view n ≡ some x) → getD view n 0 ≡ t → getElem? view n ≡ some t
           typed n found same = let z = (at-getD view n 0 (found .0) (found .1)) .1 in found .1 ∙ ap some (sym z ∙ same)
 
-      call-typed : (s : List ℕ) (i : ℕ) → IfFound Expected (callExpr o nested sub view t s i)
+      call-typed : (s : List ℕ) (i : ℕ) → IfFound Expected (callExpr d nested sub view t s i)
       unfolding callExpr callOf
-      call-typed s i = after-any _ _ (byte s i) (λ f k. by-head f (getElem? (o .heads) f) refl k)
+      call-typed s i = after-any _ _ (byte s i) (λ f k. by-head f (getElem? (d .heads) f) refl k)
         where
-          by-head : (f : ℕ) (h : Option Head) → getElem? (o .heads) f ≡ h → (k : ℕ) → IfFound Expected (callOf o nested sub view t f h s k)
+          by-head : (f : ℕ) (h : Option Head) → getElem? (d .heads) f ≡ h → (k : ℕ) → IfFound Expected (callOf d nested sub view t f h s k)
           by-head f none g k = tt
           by-head f (some h) g k =
               after-any _ _ (inLimits nested view s k)
               (λ u l. after-test _ _ (eqb (h .result) t) TypeMismatch s l
               (λ same. if-found-then _ _ _ (operandsOf sub view (h .parameters) s l) (operands-typed view (h .parameters) s l)
-              (λ es m hs. (headSignature h, at-map headSignature (o .heads) f h g, eqb-true (h .result) t same, hs))))
+              (λ es m hs. (headSignature h, at-map headSignature (d .heads) f h g, eqb-true (h .result) t same, hs))))
 
-      construct-typed : (s : List ℕ) (i : ℕ) → IfFound Expected (constructExpr o nested sub view t s i)
+      construct-typed : (s : List ℕ) (i : ℕ) → IfFound Expected (constructExpr d nested sub view t s i)
       unfolding constructExpr constructOf
-      construct-typed s i = after-any _ _ (byte s i) (λ u k. after-any _ _ (byte s k) (λ c l. by-fields u c (fieldTypes (o .types) u c) refl l))
+      construct-typed s i = after-any _ _ (byte s i) (λ u k. after-any _ _ (byte s k) (λ c l. by-fields u c (fieldTypes (d .types) u c) refl l))
         where
-          by-fields : (u c : ℕ) (us : Option (List ℕ)) → fieldTypes (o .types) u c ≡ us → (k : ℕ) → IfFound Expected (constructOf o nested sub view t u c us s k)
+          by-fields : (u c : ℕ) (us : Option (List ℕ)) → fieldTypes (d .types) u c ≡ us → (k : ℕ) → IfFound Expected (constructOf d nested sub view t u c us s k)
           by-fields u c none g k = tt
           by-fields u c (some us) g k =
               after-any _ _ (inLimits nested view s k)
@@ -145,37 +145,37 @@ module _ (o : Outline) where
               (λ same. if-found-then _ _ _ (operandsOf sub view us s l) (operands-typed view us s l)
               (λ es m hs. (us, g, eqb-true u t same, hs))))
 
-      case-typed : (s : List ℕ) (i : ℕ) → IfFound Expected (caseExpr o nested sub view t s i)
+      case-typed : (s : List ℕ) (i : ℕ) → IfFound Expected (caseExpr d nested sub view t s i)
       unfolding caseExpr caseOf
-      case-typed s i = after-any _ _ (byte s i) (λ u k. by-type u (getElem? (o .types) u) refl k)
+      case-typed s i = after-any _ _ (byte s i) (λ u k. by-type u (getElem? (d .types) u) refl k)
         where
-          by-type : (u : ℕ) (cs : Option (List (List ℕ))) → getElem? (o .types) u ≡ cs → (k : ℕ) → IfFound Expected (caseOf o nested sub view t u cs s k)
+          by-type : (u : ℕ) (cs : Option (List (List ℕ))) → getElem? (d .types) u ≡ cs → (k : ℕ) → IfFound Expected (caseOf d nested sub view t u cs s k)
           by-type u none g k = tt
           by-type u (some cs) g k =
-              let there = at-getD (o .types) u [] cs g in
+              let there = at-getD (d .types) u [] cs g in
               after-any _ _ (inLimits nested view s k)
               (λ v l. if-found-then _ _ _ (sub view u s l) (below view u s l)
               (λ e m h. if-found-then _ _ _ (alternatives sub view t cs s m) (alternatives-typed view t cs s m)
               (λ alts n hs. (there .0, h, rw (there .1) hs))))
 
-      let-typed : (s : List ℕ) (i : ℕ) → IfFound Expected (letExpr o nested sub view t s i)
+      let-typed : (s : List ℕ) (i : ℕ) → IfFound Expected (letExpr d nested sub view t s i)
       unfolding letExpr
       let-typed s i =
           after-any _ _ (byte s i)
-          (λ u k. after-test _ _ (ltb u (length (o .types))) UnknownNumber s k
+          (λ u k. after-test _ _ (ltb u (length (d .types))) UnknownNumber s k
           (λ there. after-any _ _ (inLimits nested view s k)
           (λ v l. if-found-then _ _ _ (sub view u s l) (below view u s l)
           (λ e m h. if-found-then _ _ _ (sub (view ++ (u ∷ [])) t s m) (below (view ++ (u ∷ [])) t s m)
-          (λ b n g. (ltb-true u (length (o .types)) there, h, g))))))
+          (λ b n g. (ltb-true u (length (d .types)) there, h, g))))))
 
-      target-typed : (s : List ℕ) (i : ℕ) → IfFound Expected (targetExpr o nested sub view t s i)
+      target-typed : (s : List ℕ) (i : ℕ) → IfFound Expected (targetExpr d nested sub view t s i)
       unfolding targetExpr
       target-typed s i =
           after-any _ _ (byte s i)
           (λ l k. after-any _ _ (inLimits nested view s k)
           (λ u m. if-found-then _ _ _ (sub view t s m) (below view t s m) (λ e n h. h)))
 
-      by-typed : (s : List ℕ) (i : ℕ) → IfFound Expected (expressionBy o nested sub view t s i)
+      by-typed : (s : List ℕ) (i : ℕ) → IfFound Expected (expressionBy d nested sub view t s i)
       unfolding expressionBy
       by-typed s i =
           after-any _ _ (byte s i)
@@ -186,10 +186,10 @@ module _ (o : Outline) where
           (either _ (eqb code 3) _ _ s k (case-typed s k)
           (either _ (eqb code 4) _ _ s k (let-typed s k) (target-typed s k)))))))
 
-  expression-typed : (n : ℕ) → FindsTyped (expression o n)
+  expression-typed : (n : ℕ) → FindsTyped (expression d n)
   unfolding expression
   expression-typed zero view t s i = by-typed (λ view t s here. refused OutOfRange) (λ view t s here. tt) false view t s i
-  expression-typed (suc n) view t s i = by-typed (expression o n) (expression-typed n) true view t s i
+  expression-typed (suc n) view t s i = by-typed (expression d n) (expression-typed n) true view t s i
 
 -- The second pass.
 
@@ -200,48 +200,50 @@ HeadExists types h = Each (Exists types) (h .parameters) × Exists types (h .res
 -- the types that TY and the heads name exist, and the source exists
 numbers-exist :
     (o : Outline) → numbersExist o ≡ true
-    → Each (Each (Each (Exists (o .types)))) (o .types) × Each (HeadExists (o .types)) (o .heads) × (o .goal .source < length (o .heads))
+    → Each (Each (Each (Exists (o .declared .types)))) (o .declared .types) × Each (HeadExists (o .declared .types)) (o .declared .heads)
+    × (o .goal .source < length (o .declared .heads))
 numbers-exist o h =
     let (exist, source) = (numbers-exist-exactly o) .0 h in (
-      member-each _ (o .types) (λ cs m. member-each _ cs (λ us k. member-each _ us (λ t l. exist t (of-field cs us m k l)))),
-      member-each _ (o .heads) (λ f m. (member-each _ (f .parameters) (λ t l. exist t (of-parameter f m l)), exist (f .result) (of-result f m refl))),
+      member-each _ (o .declared .types) (λ cs m. member-each _ cs (λ us k. member-each _ us (λ t l. exist t (of-field cs us m k l)))),
+      member-each _ (o .declared .heads) (λ f m. (member-each _ (f .parameters) (λ t l. exist t (of-parameter f m l)), exist (f .result) (of-result f m refl))),
       source,
     )
 
 -- The whole file.
 
-module _ (o : Outline) where
+module _ (d : Declarations) where
   abbrev AllTyped : List Function → Type 0
-  AllTyped fs = (f : ℕ) (g : Function) → getElem? fs f ≡ some g → FunctionTyped (o .types) (headSignatures o) g
+  AllTyped fs = (f : ℕ) (g : Function) → getElem? fs f ≡ some g → FunctionTyped (d .types) (headSignatures d) g
 
-  body-typed : (h : Head) (s : List ℕ) → IfFound (λ e next. HasType (o .types) (headSignatures o) e (h .parameters) (h .result)) (bodyOf o h s)
+  body-typed : (h : Head) (s : List ℕ) → IfFound (λ e next. HasType (d .types) (headSignatures d) e (h .parameters) (h .result)) (bodyOf d h s)
   unfolding bodyOf
   body-typed h s =
       let inside = take (h .body + h .size) s in
-      if-found-then _ _ _ (expression o nestingLimit (h .parameters) (h .result) inside (h .body)) (expression-typed o nestingLimit (h .parameters) (h .result) inside (h .body))
+      if-found-then _ _ _ (expression d nestingLimit (h .parameters) (h .result) inside (h .body)) (expression-typed d nestingLimit (h .parameters) (h .result) inside (h .body))
       (λ e k typed. after-any _ _ (atEnd TrailingBytes inside k) (λ u l. typed))
 
   -- the functions have the heads' signatures, and bodies of their types
   functions-read :
-      (hs : List Head) → Each (HeadExists (o .types)) hs → (s : List ℕ) (i : ℕ)
-      → IfFound (λ fs next. (map signatureOf fs ≡ map headSignature hs) × AllTyped fs) (functionsOf o hs s i)
+      (hs : List Head) → Each (HeadExists (d .types)) hs → (s : List ℕ) (i : ℕ)
+      → IfFound (λ fs next. (map signatureOf fs ≡ map headSignature hs) × AllTyped fs) (functionsOf d hs s i)
   unfolding functionsOf
   functions-read [] all s i = (refl, λ f g e. absurd (clash (cc)))
   functions-read (h ∷ hs) all s i =
-      if-found-then _ _ _ (bodyOf o h s) (body-typed h s)
-      (λ e k typed. if-found-then _ _ _ (functionsOf o hs s k) (functions-read hs (all .1) s k)
-      (λ fs l rest. (ap (_∷_ (headSignature h)) (rest .0), at-cons (FunctionTyped (o .types) (headSignatures o)) _ fs (all .0 .0, all .0 .1, typed) (rest .1))))
+      if-found-then _ _ _ (bodyOf d h s) (body-typed h s)
+      (λ e k typed. if-found-then _ _ _ (functionsOf d hs s k) (functions-read hs (all .1) s k)
+      (λ fs l rest. (ap (_∷_ (headSignature h)) (rest .0), at-cons (FunctionTyped (d .types) (headSignatures d)) _ fs (all .0 .0, all .0 .1, typed) (rest .1))))
 
-  program-typed :
-      (fs : List Function) → numbersExist o ≡ true → map signatureOf fs ≡ headSignatures o → AllTyped fs → WellTyped (programOf o fs)
-  unfolding programOf functionAt
-  program-typed fs exist same all =
-      let exists = numbers-exist o exist in
-      record {
-        fields-exist = exists .0;
-        functions-typed = λ f g e. rw same (all f g e);
-        source-exists = omega (arith, exists .2, length-map fs signatureOf, length-map (o .heads) headSignature, ap length same);
-      }
+program-typed :
+    (o : Outline) (fs : List Function) → numbersExist o ≡ true → map signatureOf fs ≡ headSignatures (o .declared) → AllTyped (o .declared) fs
+    → WellTyped (programOf o fs)
+unfolding programOf functionAt
+program-typed o fs exist same all =
+    let exists = numbers-exist o exist in
+    record {
+      fields-exist = exists .0;
+      functions-typed = λ f g e. rw same (all f g e);
+      source-exists = omega (arith, exists .2, length-map fs signatureOf, length-map (o .declared .heads) headSignature, ap length same);
+    }
 
 file-typed : (s : List ℕ) (i : ℕ) → IfFound (λ p next. WellTyped p) (ruleFile s i)
 unfolding ruleFile
@@ -249,8 +251,9 @@ file-typed s i =
     after-any _ _ (sizeInLimit s i)
     (λ u k. after-any _ _ (outline s k)
     (λ o l. after-test _ _ (numbersExist o) UnknownNumber s l
-    (λ exist. if-found-then _ _ _ (functionsOf o (o .heads) s l) (functions-read o (o .heads) ((numbers-exist o exist) .1) s l)
-    (λ fs m read. after-any _ _ (demand (noEmptyType (leastDepths (o .types))) EmptyType s m)
+    (λ exist. if-found-then _ _ _ (functionsOf (o .declared) (o .declared .heads) s l)
+    (functions-read (o .declared) (o .declared .heads) ((numbers-exist o exist) .1) s l)
+    (λ fs m read. after-any _ _ (demand (noEmptyType (leastDepths (o .declared .types))) EmptyType s m)
     (λ v h. after-any _ _ (demand (deepEnough (programOf o fs)) DepthTooSmall s h)
     (λ w j. program-typed o fs exist (read .0) (read .1)))))))
 

@@ -16,7 +16,7 @@ use Rattle.reach.specs.Syntax.{Expr}
 use Rattle.reach.specs.Parts.{Parts}
 use Rattle.reach.specs.Types.{ValueOf, LeastDepth}
 use Rattle.reach.specs.Reader.{got, refused}
-use Rattle.reach.specs.RuleFile.{Head, Outline, outline, bodyOf}
+use Rattle.reach.specs.RuleFile.{Head, Declarations, Outline, outline, bodyOf}
 
 -- 01: "File size is tested first." Refusal 3: "file size [..] is beyond its limit".
 abbrev pub FileTooLong : List ℕ → Type 0
@@ -32,70 +32,70 @@ FirstPassRefuses file why = (length file ≤ fileLimit) × (outline file 0 ≡ r
 
 -- 01: "A second takes type and function numbers in TY, FN heads and GO." A type number that stands in a TY record or in the head of an FN record: the type
 -- of a field, of a parameter or of a result.
-pub data TypeNumber (o : Outline) (t : ℕ) : Type 0 where
-  of-field : (constructors : List (List ℕ)) (fields : List ℕ) → constructors ∈ o .types → fields ∈ constructors → t ∈ fields → TypeNumber o t
-  of-parameter : (h : Head) → h ∈ o .heads → t ∈ h .parameters → TypeNumber o t
-  of-result : (h : Head) → h ∈ o .heads → t ≡ h .result → TypeNumber o t
+pub data TypeNumber (d : Declarations) (t : ℕ) : Type 0 where
+  of-field : (constructors : List (List ℕ)) (fields : List ℕ) → constructors ∈ d .types → fields ∈ constructors → t ∈ fields → TypeNumber d t
+  of-parameter : (h : Head) → h ∈ d .heads → t ∈ h .parameters → TypeNumber d t
+  of-result : (h : Head) → h ∈ d .heads → t ≡ h .result → TypeNumber d t
 
 -- the types are numbered from 0 on, and so are the functions, of which the goal names one
 abbrev pub AllNumbersExist : Outline → Type 0
-AllNumbersExist o = ((t : ℕ) → TypeNumber o t → t < length (o .types)) × (o .goal .source < length (o .heads))
+AllNumbersExist o = ((t : ℕ) → TypeNumber (o .declared) t → t < length (o .declared .types)) × (o .goal .source < length (o .declared .heads))
 
 -- Refusal 4: "a type, constructor, function or variable number does not exist".
 abbrev pub SomeNumberMissing : Outline → Type 0
-SomeNumberMissing o = ((t : ℕ) × TypeNumber o t × (length (o .types) ≤ t)) ⊎ (length (o .heads) ≤ o .goal .source)
+SomeNumberMissing o = ((t : ℕ) × TypeNumber (o .declared) t × (length (o .declared .types) ≤ t)) ⊎ (length (o .declared .heads) ≤ o .goal .source)
 
 abbrev pub SecondPassRefuses : List ℕ → Type 0
 SecondPassRefuses file = (o : Outline) × FirstPassFinds file o × SomeNumberMissing o
 
 -- 01: "A third takes bodies in file order, each followed by its tail". The body of this head is read, with nothing behind its expression.
-abbrev pub BodyReads : List ℕ → Outline → Head → Type 0
-BodyReads file o h = (e : Expr) × (behind : ℕ) × (bodyOf o h file ≡ got e behind)
+abbrev pub BodyReads : List ℕ → Declarations → Head → Type 0
+BodyReads file d h = (e : Expr) × (behind : ℕ) × (bodyOf d h file ≡ got e behind)
 
-abbrev pub AllBodiesRead : List ℕ → Outline → Type 0
-AllBodiesRead file o = (h : Head) → h ∈ o .heads → BodyReads file o h
+abbrev pub AllBodiesRead : List ℕ → Declarations → Type 0
+AllBodiesRead file d = (h : Head) → h ∈ d .heads → BodyReads file d h
 
 -- some body is refused, and all before it in the file are read
-abbrev pub SomeBodyRefused : List ℕ → Outline → Refusal → Type 0
-SomeBodyRefused file o why =
-    (before : List Head) × (h : Head) × (after : List Head) × (o .heads ≡ before ++ (h ∷ after)) × ((k : Head) → k ∈ before → BodyReads file o k)
-    × (bodyOf o h file ≡ refused why)
+abbrev pub SomeBodyRefused : List ℕ → Declarations → Refusal → Type 0
+SomeBodyRefused file d why =
+    (before : List Head) × (h : Head) × (after : List Head) × (d .heads ≡ before ++ (h ∷ after)) × ((k : Head) → k ∈ before → BodyReads file d k)
+    × (bodyOf d h file ≡ refused why)
 
 abbrev pub ThirdPassRefuses : List ℕ → Refusal → Type 0
-ThirdPassRefuses file why = (o : Outline) × FirstPassFinds file o × AllNumbersExist o × SomeBodyRefused file o why
+ThirdPassRefuses file why = (o : Outline) × FirstPassFinds file o × AllNumbersExist o × SomeBodyRefused file (o .declared) why
 
 -- All three passes found nothing.
 pub record Passes (file : List ℕ) (o : Outline) : Type 0 where
   pub outlined : FirstPassFinds file o
   pub numbers : AllNumbersExist o
-  pub bodies : AllBodiesRead file o
+  pub bodies : AllBodiesRead file (o .declared)
 
 -- 01: "After them 8, 9". Refusal 8: "a type has no closed value".
-abbrev pub AllTypesInhabited : Outline → Type 0
-AllTypesInhabited o = (t : ℕ) → t < length (o .types) → (v : Parts) × ValueOf (o .types) t v
+abbrev pub AllTypesInhabited : Declarations → Type 0
+AllTypesInhabited d = (t : ℕ) → t < length (d .types) → (v : Parts) × ValueOf (d .types) t v
 
-abbrev pub SomeTypeEmpty : Outline → Type 0
-SomeTypeEmpty o = (t : ℕ) × (t < length (o .types)) × ((v : Parts) → ¬ ValueOf (o .types) t v)
+abbrev pub SomeTypeEmpty : Declarations → Type 0
+SomeTypeEmpty d = (t : ℕ) × (t < length (d .types)) × ((v : Parts) → ¬ ValueOf (d .types) t v)
 
 abbrev pub Hollow : List ℕ → Type 0
-Hollow file = (o : Outline) × Passes file o × SomeTypeEmpty o
+Hollow file = (o : Outline) × Passes file o × SomeTypeEmpty (o .declared)
 
 -- Refusal 9: "a source parameter's least depth exceeds D". The type of a parameter of the source.
 abbrev pub SourceParameter : Outline → ℕ → Type 0
-SourceParameter o t = (h : Head) × (getElem? (o .heads) (o .goal .source) ≡ some h) × (t ∈ h .parameters)
+SourceParameter o t = (h : Head) × (getElem? (o .declared .heads) (o .goal .source) ≡ some h) × (t ∈ h .parameters)
 
 abbrev pub AllParametersFit : Outline → Type 0
-AllParametersFit o = (t : ℕ) → SourceParameter o t → (d : ℕ) × LeastDepth (o .types) t d × (d ≤ o .goal .depth)
+AllParametersFit o = (t : ℕ) → SourceParameter o t → (d : ℕ) × LeastDepth (o .declared .types) t d × (d ≤ o .goal .depth)
 
 abbrev pub SomeParameterTooDeep : Outline → Type 0
-SomeParameterTooDeep o = (t : ℕ) × SourceParameter o t × ((d : ℕ) × LeastDepth (o .types) t d × (o .goal .depth < d))
+SomeParameterTooDeep o = (t : ℕ) × SourceParameter o t × ((d : ℕ) × LeastDepth (o .declared .types) t d × (o .goal .depth < d))
 
 abbrev pub Shallow : List ℕ → Type 0
-Shallow file = (o : Outline) × Passes file o × AllTypesInhabited o × SomeParameterTooDeep o
+Shallow file = (o : Outline) × Passes file o × AllTypesInhabited (o .declared) × SomeParameterTooDeep o
 
 -- A file that passes every test.
 abbrev pub Acceptable : List ℕ → Type 0
-Acceptable file = (o : Outline) × Passes file o × AllTypesInhabited o × AllParametersFit o
+Acceptable file = (o : Outline) × Passes file o × AllTypesInhabited (o .declared) × AllParametersFit o
 
 -- The test that turns a file back, with the refusal that it gives: 01, "Turned back", sentence by sentence.
 pub data RefusedBy (file : List ℕ) (why : Refusal) : Type 0 where

@@ -10,7 +10,7 @@ use Rattle.reach.specs.declared.Refusal.the-variants.{OutOfRange, Unknow
 use Rattle.reach.specs.Base.{pick}
 use Rattle.reach.specs.Syntax.{Expr, variable, call, construct, case, bind, target, Exprs, []ₑ, _∷ₑ_, Alternatives, no-more, absent, present, count, fieldTypes}
 use Rattle.reach.specs.Reader.{Reader, _>>=_, _>>_, give, refuse, byte}
-use Rattle.reach.specs.RuleFile.{Head, Outline}
+use Rattle.reach.specs.RuleFile.{Head, Declarations}
 
 -- 01, "Rule file": the bytes of an expression; its code, its numbers, and its operands in order
 unfoldable mutual
@@ -57,14 +57,14 @@ countAlternatives (absent alts) = suc (countAlternatives alts)
 countAlternatives (present e alts) = suc (countAlternatives alts)
 
 -- The functions, types and constructors of an expression exist, and it has as many operands as they ask for.
-module _ (o : Outline) where
+module _ (d : Declarations) where
   abbrev mutual
     pub Arity : Expr → Type 0
     Arity (variable n) = Unit {0}
-    Arity (call f es) = (h : Head) × (getElem? (o .heads) f ≡ some h) × (count es ≡ length (h .parameters)) × ArityAll es
-    Arity (construct t c es) = (us : List ℕ) × (fieldTypes (o .types) t c ≡ some us) × (count es ≡ length us) × ArityAll es
-    Arity (case t e alts) = (cs : List (List ℕ)) × (getElem? (o .types) t ≡ some cs) × (countAlternatives alts ≡ length cs) × Arity e × ArityAlternatives alts
-    Arity (bind t e b) = (t < length (o .types)) × Arity e × Arity b
+    Arity (call f es) = (h : Head) × (getElem? (d .heads) f ≡ some h) × (count es ≡ length (h .parameters)) × ArityAll es
+    Arity (construct t c es) = (us : List ℕ) × (fieldTypes (d .types) t c ≡ some us) × (count es ≡ length us) × ArityAll es
+    Arity (case t e alts) = (cs : List (List ℕ)) × (getElem? (d .types) t ≡ some cs) × (countAlternatives alts ≡ length cs) × Arity e × ArityAlternatives alts
+    Arity (bind t e b) = (t < length (d .types)) × Arity e × Arity b
     Arity (target l e) = Arity e
 
     pub ArityAll : Exprs → Type 0
@@ -117,22 +117,22 @@ abbrev pub onKnown : {A : Type 0} → (A → Skip) → Option A → Skip
 onKnown f none = refuse UnknownNumber
 onKnown f (some a) = f a
 
-module _ (o : Outline) (sub : Skip) where
+module _ (d : Declarations) (sub : Skip) where
   unfoldable pub skippedCall : Skip
   skippedCall = do
     f ← byte
-    onKnown (λ h. skippedAll sub (length (h .parameters))) (getElem? (o .heads) f)
+    onKnown (λ h. skippedAll sub (length (h .parameters))) (getElem? (d .heads) f)
 
   unfoldable pub skippedConstruct : Skip
   skippedConstruct = do
     t ← byte
     c ← byte
-    onKnown (λ us. skippedAll sub (length us)) (fieldTypes (o .types) t c)
+    onKnown (λ us. skippedAll sub (length us)) (fieldTypes (d .types) t c)
 
   unfoldable pub skippedCase : Skip
   skippedCase = do
     t ← byte
-    onKnown (λ cs. sub >> skippedAlternatives sub (length cs)) (getElem? (o .types) t)
+    onKnown (λ cs. sub >> skippedAlternatives sub (length cs)) (getElem? (d .types) t)
 
   -- the code, its numbers, and its operands, which the other reader passes over
   unfoldable pub skippedBy : Skip
@@ -145,6 +145,6 @@ module _ (o : Outline) (sub : Skip) where
         (pick (eqb code 4) (byte >> (sub >> sub)) (byte >> sub)))))
 
 -- the place behind an expression that nests at most so many deep, itself included
-unfoldable pub skipped : Outline → ℕ → Skip
-skipped o zero = refuse OutOfRange
-skipped o (suc n) = skippedBy o (skipped o n)
+unfoldable pub skipped : Declarations → ℕ → Skip
+skipped d zero = refuse OutOfRange
+skipped d (suc n) = skippedBy d (skipped d n)

@@ -4,7 +4,7 @@
 use Prim.Native.Nat.{ℕ, zero, suc, _+_, _*_}
 use mathlib.Core.List.{List, [], _∷_, map}
 use lib.ListN.{getD}
-use Rattle.reach.specs.RuleFile.{Head, Goal, Outline}
+use Rattle.reach.specs.RuleFile.{Head, Goal, Declarations, Outline}
 
 -- the n bytes from place i on; past the end they are 0
 unfoldable pub bytesAt : List ℕ → ℕ → ℕ → List ℕ
@@ -38,6 +38,10 @@ headAt s i =
 unfoldable pub goalAt : List ℕ → ℕ → Goal
 goalAt s i = record { source = getD s i 0; label = getD s (i + 1) 0; depth = getD s (i + 2) 0; steps = wordAt s (i + 3) }
 
+-- what a file declares whose types and functions stand at these places
+unfoldable pub declarationsAt : List ℕ → List ℕ → List ℕ → Declarations
+declarationsAt s types functions = record { types = map (typeAt s) types; heads = map (headAt s) functions }
+
 -- the outline of a file whose records stand at these places
 unfoldable pub outlineAt : List ℕ → List ℕ → List ℕ → ℕ → Outline
-outlineAt s types functions goal = record { types = map (typeAt s) types; heads = map (headAt s) functions; goal = goalAt s goal }
+outlineAt s types functions goal = record { declared = declarationsAt s types functions; goal = goalAt s goal }

@@ -110,10 +110,14 @@ moreFunctions (suc n) = do
   m ← mark
   onMark (refuse UnexpectedMark) (functionRecord >>= λ f. moreFunctions n >>= λ fs. give (f ∷ fs)) (give []) (refuse UnexpectedMark) m
 
--- A file as the first pass leaves it: no number in it has been looked up, no body read.
-pub record Outline : Type 0 where
+-- What expressions need of a file: its types and the heads of its functions.
+pub record Declarations : Type 0 where
   pub types : Types
   pub heads : List Head
+
+-- A file as the first pass leaves it: no number in it has been looked up, no body read.
+pub record Outline : Type 0 where
+  pub declared : Declarations
   pub goal : Goal
 
 unfoldable pub outline : Reader Outline
@@ -125,7 +129,7 @@ outline = do
   fs ← moreFunctions (pred functionLimit)
   g ← goalRecord
   atEnd TrailingBytes
-  give (record { types = t ∷ ts; heads = f ∷ fs; goal = g })
+  give (record { declared = record { types = t ∷ ts; heads = f ∷ fs }; goal = g })
 
 -- The second pass: type and function numbers in TY, FN heads and GO.
 
@@ -147,8 +151,8 @@ headsExist n (h ∷ hs) = (allBelow n (h .parameters) && ltb (h .result) n) && h
 
 unfoldable pub numbersExist : Outline → Bool
 numbersExist o =
-    (typesExist (length (o .types)) (o .types) && headsExist (length (o .types)) (o .heads))
-    && ltb (o .goal .source) (length (o .heads))
+    (typesExist (length (o .declared .types)) (o .declared .types) && headsExist (length (o .declared .types)) (o .declared .heads))
+    && ltb (o .goal .source) (length (o .declared .heads))
 
 -- The third pass: bodies. A reader of an expression is told the types of the variables in view and the type expected of it.
 abbrev pub Below : Type 0
@@ -175,7 +179,7 @@ alternatives sub view t (us ∷ cs) = do
 abbrev pub inLimits : Bool → List ℕ → Reader (Unit {0})
 inLimits nested view = demand (nested && leb (length view) viewLimit) OutOfRange
 
-module _ (o : Outline) (nested : Bool) (sub : Below) (view : List ℕ) (expected : ℕ) where
+module _ (d : Declarations) (nested : Bool) (sub : Below) (view : List ℕ) (expected : ℕ) where
   unfoldable pub variableExpr : Reader Expr
   variableExpr = do
     n ← byte
@@ -195,7 +199,7 @@ module _ (o : Outline) (nested : Bool) (sub : Below) (view : List ℕ) (expected
   unfoldable pub callExpr : Reader Expr
   callExpr = do
     f ← byte
-    callOf f (getElem? (o .heads) f)
+    callOf f (getElem? (d .heads) f)
 
   unfoldable pub constructOf : ℕ → ℕ → Option (List ℕ) → Reader Expr
   constructOf t c none = refuse UnknownNumber
@@ -209,7 +213,7 @@ module _ (o : Outline) (nested : Bool) (sub : Below) (view : List ℕ) (expected
   constructExpr = do
     t ← byte
     c ← byte
-    constructOf t c (fieldTypes (o .types) t c)
+    constructOf t c (fieldTypes (d .types) t c)
 
   unfoldable pub caseOf : ℕ → Option (List (List ℕ)) → Reader Expr
   caseOf t none = refuse UnknownNumber
@@ -222,12 +226,12 @@ module _ (o : Outline) (nested : Bool) (sub : Below) (view : List ℕ) (expected
   unfoldable pub caseExpr : Reader Expr
   caseExpr = do
     t ← byte
-    caseOf t (getElem? (o .types) t)
+    caseOf t (getElem? (d .types) t)
 
   unfoldable pub letExpr : Reader Expr
   letExpr = do
     t ← byte
-    demand (ltb t (length (o .types))) UnknownNumber
+    demand (ltb t (length (d .types))) UnknownNumber
     inLimits nested view
     e ← sub view t
     b ← sub (view ++ (t ∷ [])) expected
@@ -252,30 +256,30 @@ module _ (o : Outline) (nested : Bool) (sub : Below) (view : List ℕ) (expected
         (pick (eqb code 4) letExpr targetExpr))))
 
 -- an expression that may nest so many deep, itself included
-unfoldable pub expression : Outline → ℕ → Below
-expression o zero = expressionBy o false (λ view t. refuse OutOfRange)
-expression o (suc n) = expressionBy o true (expression o n)
+unfoldable pub expression : Declarations → ℕ → Below
+expression d zero = expressionBy d false (λ view t. refuse OutOfRange)
+expression d (suc n) = expressionBy d true (expression d n)
 
 -- a body is read inside its own length, and nothing follows its expression there
-unfoldable pub bodyOf : Outline → Head → List ℕ → Got Expr
-bodyOf o h s =
-    (expression o nestingLimit (h .parameters) (h .result) >>= λ e. atEnd TrailingBytes >> give e)
+unfoldable pub bodyOf : Declarations → Head → List ℕ → Got Expr
+bodyOf d h s =
+    (expression d nestingLimit (h .parameters) (h .result) >>= λ e. atEnd TrailingBytes >> give e)
     (take (h .body + h .size) s)
     (h .body)
 
 -- the functions, their bodies read in file order
-unfoldable pub functionsOf : Outline → List Head → Reader (List Function)
-functionsOf o [] = give []
-functionsOf o (h ∷ hs) = do
-  e ← λ s here. bodyOf o h s
-  fs ← functionsOf o hs
+unfoldable pub functionsOf : Declarations → List Head → Reader (List Function)
+functionsOf d [] = give []
+functionsOf d (h ∷ hs) = do
+  e ← λ s here. bodyOf d h s
+  fs ← functionsOf d hs
   give (record { parameters = h .parameters; result = h .result; body = e } ∷ fs)
 
 -- The tests of depth, and the whole.
 
 unfoldable pub programOf : Outline → List Function → Program
 programOf o fs =
-    record { types = o .types; functions = fs; source = o .goal .source; label = o .goal .label; depth = o .goal .depth; steps = o .goal .steps }
+    record { types = o .declared .types; functions = fs; source = o .goal .source; label = o .goal .label; depth = o .goal .depth; steps = o .goal .steps }
 
 -- every type has a closed value
 unfoldable pub noEmptyType : List ℕ → Bool
@@ -296,7 +300,7 @@ ruleFile = do
   sizeInLimit
   o ← outline
   demand (numbersExist o) UnknownNumber
-  fs ← functionsOf o (o .heads)
-  demand (noEmptyType (leastDepths (o .types))) EmptyType
+  fs ← functionsOf (o .declared) (o .declared .heads)
+  demand (noEmptyType (leastDepths (o .declared .types))) EmptyType
   demand (deepEnough (programOf o fs)) DepthTooSmall
   give (programOf o fs)

@@ -12,7 +12,7 @@ use Rattle.reach.specs.declared.Refusal.the-variants.{UnknownNumber, EmptyType,
 use Rattle.reach.specs.Limits.{fileLimit, typeLimit, functionLimit}
 use Rattle.reach.specs.Types.{leastDepths}
 use Rattle.reach.specs.RuleFile.{Outline, outline, numbersExist, programOf, noEmptyType, deepEnough}
-use Rattle.reach.specs.Places.{typeAt, outlineAt}
+use Rattle.reach.specs.Places.{typeAt, goalAt, declarationsAt, outlineAt}
 use Rattle.reach.specs.Answers.{turnedBack, check}
 use Rattle.records.specs.declared.Step.{Step}
 use Rattle.records.specs.declared.Step.the-variants.{Next, Refused}
@@ -24,9 +24,10 @@ use Rattle.depths.specs.Table.{padded}
 use Rattle.depths.proofs.Rounds.{least-front}
 use Rattle.rulefile.specs.declared.Checked.{Checked}
 use Rattle.rulefile.specs.declared.Checked.the-variants as Checked
+use Rattle.rulefile.specs.declared.Goal.{Goal}
 use Rattle.rulefile.specs.declared.Loaded.{Loaded}
 use Rattle.rulefile.specs.Answering.{checkedOf}
-use Rattle.rulefile.specs.Loading.{typesIn, functionsIn, Outlines, Reads, sourceShallow, LoadsAs}
+use Rattle.rulefile.specs.Loading.{typesIn, functionsIn, goalOf, Outlines, Reads, sourceShallow, LoadsAs}
 use Rattle.reach.proofs.Stages.{numbers-refused, bodies-refused, empty-refused, depth-refused, file-accepted}
 use Rattle.rulefile.proofs.Passes as Passes
 use Rattle.rulefile.proofs.Tabled.{depth-tested}
@@ -83,13 +84,14 @@ module _ (s : List ℕ) (o : Outlined) where
 
     module _ (passed : not r ≡ false) {b : Step} (told : bodiesStep b ≡ bodiesStep (stepOf (functionsAt s (typesIn o) (functionsIn o)))) where
       pub body-refused : {why : Refusal} → b ≡ Refused why → check s ≡ turnedBack why
+      unfolding outlineAt
       body-refused e =
           bodies-refused s (out .size) (out .read) (exist passed)
-          (Passes.bodies-refused s (typesIn o) (functionsIn o) (o .«goal_at») (out .behind) told e)
+          (Passes.bodies-refused s (typesIn o) (functionsIn o) (out .behind) told e)
 
       pub bodies-passed : {n : ℕ} → b ≡ Next n → Reads s o
       bodies-passed e =
-          let (fs, end, read) = Passes.bodies-got s (typesIn o) (functionsIn o) (o .«goal_at») (out .behind) told e in
+          let (fs, end, read) = Passes.bodies-got s (typesIn o) (functionsIn o) (out .behind) told e in
           record {
             outlined = out;
             functions = fs;
@@ -99,53 +101,60 @@ module _ (s : List ℕ) (o : Outlined) where
   -- the tests of depth, on the array of least depths
   module _ (reads : Reads s o) {least : List ℕ} (are : least ≡ padded (leastDepths (map (typeAt s) (typesIn o)))) where
     module _ {r : Bool} (tested : r ≡ noEmptyType (take (o .types) least)) where
-      none-empty-is : noEmptyType (leastDepths (whole .types)) ≡ r
-      unfolding outlineAt
+      none-empty-is : noEmptyType (leastDepths (whole .declared .types)) ≡ r
+      unfolding declarationsAt outlineAt
       none-empty-is = sym (tested ∙ rw are (ap noEmptyType (rw (types-count (reads .outlined)) at (least-front s (typesIn o)))))
 
       pub type-empty : not r ≡ true → check s ≡ turnedBack EmptyType
+      unfolding outlineAt
       type-empty e =
           empty-refused s (reads .outlined .size) (reads .passed .read) (reads .passed .exist) (reads .passed .bodies)
           (none-empty-is ∙ not-true r e)
 
-      module _ (filled : not r ≡ false) {d : Bool} (deep : d ≡ sourceShallow s (functionsIn o) (o .«goal_at») least) where
-        deep-is : deepEnough (programOf whole (reads .functions)) ≡ d
-        deep-is = sym (deep ∙ rw are (depth-tested (reads .passed)))
+      module _
+          (filled : not r ≡ false) {g : Goal} (goal-is : goalOf g ≡ goalAt s (o .«goal_at»)) {d : Bool}
+          (deep : d ≡ sourceShallow s (functionsIn o) (goalOf g) least)
+        where
+          deep-is : deepEnough (programOf whole (reads .functions)) ≡ d
+          deep-is = sym (deep ∙ rw (are, goal-is) (depth-tested (reads .passed)))
 
-        pub depth-small : not d ≡ true → check s ≡ turnedBack DepthTooSmall
-        depth-small e =
-            depth-refused s (reads .outlined .size) (reads .passed .read) (reads .passed .exist) (reads .passed .bodies)
-            (none-empty-is ∙ not-false r filled) (deep-is ∙ not-true d e)
+          pub depth-small : not d ≡ true → check s ≡ turnedBack DepthTooSmall
+          unfolding outlineAt
+          depth-small e =
+              depth-refused s (reads .outlined .size) (reads .passed .read) (reads .passed .exist) (reads .passed .bodies)
+              (none-empty-is ∙ not-false r filled) (deep-is ∙ not-true d e)
 
-        -- the file is accepted, and this is what is handed on
-        abbrev loaded : Loaded
-        loaded =
+          -- the file is accepted, and this is what is handed on
+          abbrev loaded : Loaded
+          loaded =
+              record {
+                answer = Checked.Accepted;
+                types = o .types;
+                «type_at» = o .«type_at»;
+                functions = o .functions;
+                «function_at» = o .«function_at»;
+                «goal_at» = o .«goal_at»;
+                goal = g;
+                least = least;
+              }
+
+          pub all-passed : not d ≡ false → LoadsAs s loaded Checked.Accepted
+          unfolding programOf declarationsAt outlineAt
+          all-passed e = (
+            programOf whole (reads .functions),
+            file-accepted s (reads .outlined .size) (reads .passed .read) (reads .passed .exist) (reads .passed .bodies)
+                (none-empty-is ∙ not-false r filled) (deep-is ∙ not-false d e),
             record {
-              answer = Checked.Accepted;
-              types = o .types;
-              «type_at» = o .«type_at»;
-              functions = o .functions;
-              «function_at» = o .«function_at»;
-              «goal_at» = o .«goal_at»;
-              least = least;
-            }
-
-        pub all-passed : not d ≡ false → LoadsAs s loaded Checked.Accepted
-        unfolding programOf outlineAt
-        all-passed e = (
-          programOf whole (reads .functions),
-          file-accepted s (reads .outlined .size) (reads .passed .read) (reads .passed .exist) (reads .passed .bodies)
-              (none-empty-is ∙ not-false r filled) (deep-is ∙ not-false d e),
-          record {
-            size = reads .outlined .size;
-            types-limit = reads .outlined .types-limit;
-            types-count = types-count (reads .outlined);
-            functions-limit = reads .outlined .functions-limit;
-            functions-count = functions-count (reads .outlined);
-            goal-inside = reads .outlined .goal-inside;
-            functions = reads .functions;
-            passed = reads .passed;
-            program = refl;
-            depths = are;
-          },
-        )
+              size = reads .outlined .size;
+              types-limit = reads .outlined .types-limit;
+              types-count = types-count (reads .outlined);
+              functions-limit = reads .outlined .functions-limit;
+              functions-count = functions-count (reads .outlined);
+              goal-inside = reads .outlined .goal-inside;
+              goal-there = goal-is;
+              functions = reads .functions;
+              passed = reads .passed;
+              program = refl;
+              depths = are;
+            },
+          )

@@ -52,8 +52,8 @@ module _ (file : List ℕ) (r : Checked) (call : Promised file r) where
   -- (these are `Passes`), every type has a closed value, and every parameter of the source has a least depth of at most D.
   pub accepted-exactly :
       (r ≡ Checked.Accepted)
-      ↔ ((o : Outline) × Passes file o × ((t : ℕ) → t < length (o .types) → (v : Parts) × ValueOf (o .types) t v)
-      × ((t : ℕ) → SourceParameter o t → (d : ℕ) × LeastDepth (o .types) t d × (d ≤ o .goal .depth)))
+      ↔ ((o : Outline) × Passes file o × ((t : ℕ) → t < length (o .declared .types) → (v : Parts) × ValueOf (o .declared .types) t v)
+      × ((t : ℕ) → SourceParameter o t → (d : ℕ) × LeastDepth (o .declared .types) t d × (d ≤ o .goal .depth)))
   accepted-exactly = rw (call .answer-is) (Iff·trans (accepted-shows (Answers.check file)) (Conditions.accepted-exactly file))
 
   -- A file is refused exactly by the test that it fails first, in the order of 01, "Turned back": the cases of `RefusedBy`.
@@ -94,14 +94,14 @@ module _ (file : List ℕ) (r : Checked) (call : Promised file r) where
   -- 8: "a type has no closed value". The passes found nothing.
   pub hollow-exactly :
       (r ≡ Checked.Refused EmptyType)
-      ↔ ((o : Outline) × Passes file o × ((t : ℕ) × (t < length (o .types)) × ((v : Parts) → ¬ ValueOf (o .types) t v)))
+      ↔ ((o : Outline) × Passes file o × ((t : ℕ) × (t < length (o .declared .types)) × ((v : Parts) → ¬ ValueOf (o .declared .types) t v)))
   hollow-exactly = Iff·trans (refused-exactly EmptyType) (Conditions.hollow-by file)
 
   -- 9: "a source parameter's least depth exceeds D". The passes found nothing, and every type has a closed value.
   pub shallow-exactly :
       (r ≡ Checked.Refused DepthTooSmall)
-      ↔ ((o : Outline) × Passes file o × ((t : ℕ) → t < length (o .types) → (v : Parts) × ValueOf (o .types) t v)
-      × ((t : ℕ) × SourceParameter o t × ((d : ℕ) × LeastDepth (o .types) t d × (o .goal .depth < d))))
+      ↔ ((o : Outline) × Passes file o × ((t : ℕ) → t < length (o .declared .types) → (v : Parts) × ValueOf (o .declared .types) t v)
+      × ((t : ℕ) × SourceParameter o t × ((d : ℕ) × LeastDepth (o .declared .types) t d × (o .goal .depth < d))))
   shallow-exactly = Iff·trans (refused-exactly DepthTooSmall) (Conditions.shallow-by file)
 
   -- 10, 11 and 12 are never given.

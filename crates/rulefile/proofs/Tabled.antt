@@ -9,8 +9,8 @@ use lib.ListN.{length, getD, getElem?, length-map}
 use native.Mathlib.Omega.{arith}
 use Rattle.reach.specs.Syntax.{Function, Program, functionAt, sourceTypes}
 use Rattle.reach.specs.Types.{leastDepths}
-use Rattle.reach.specs.RuleFile.{Head, Outline, programOf, deepEnough}
-use Rattle.reach.specs.Places.{typeAt, headAt, goalAt, outlineAt}
+use Rattle.reach.specs.RuleFile.{Head, Declarations, Outline, programOf, deepEnough}
+use Rattle.reach.specs.Places.{typeAt, headAt, goalAt, declarationsAt, outlineAt}
 use Rattle.reach.proofs.Base.{clash}
 use Rattle.reach.proofs.Numbers.{numbers-exist-exactly}
 use Rattle.reach.proofs.Encoding.{BodyAt, Bodies, function-of, bodies-are}
@@ -18,53 +18,57 @@ use Rattle.lookups.proofs.Tables.{found, missing}
 use Rattle.depths.specs.Table.{padded}
 use Rattle.depths.proofs.Padded.{padded-lookup, padded-shallow}
 use Rattle.rulefile.specs.declared.Loaded.{Loaded}
-use Rattle.rulefile.specs.Loading.{Passed, sourceShallow, typePlaces, functionPlaces, Tabled}
+use Rattle.rulefile.specs.Loading.{Passed, goalOf, sourceShallow, typePlaces, functionPlaces, Tabled}
 
 -- ---- tables of places that passed
 
 -- where there is no head, there is no function
-no-function : (o : Outline) (s : List ℕ) (hs : List Head) (gs : List Function) → Bodies o s hs gs → (f : ℕ) → getElem? hs f ≡ none → getElem? gs f ≡ none
-no-function o s [] [] all f e = refl
-no-function o s [] (g ∷ gs) all f e = absurd all
-no-function o s (h ∷ hs) [] all f e = absurd all
-no-function o s (h ∷ hs) (g ∷ gs) all zero e = absurd (clash (cc))
-no-function o s (h ∷ hs) (g ∷ gs) all (suc f) e = no-function o s hs gs (all .1) f e
+no-function : (d : Declarations) (s : List ℕ) (hs : List Head) (gs : List Function) → Bodies d s hs gs → (f : ℕ) → getElem? hs f ≡ none → getElem? gs f ≡ none
+no-function d s [] [] all f e = refl
+no-function d s [] (g ∷ gs) all f e = absurd all
+no-function d s (h ∷ hs) [] all f e = absurd all
+no-function d s (h ∷ hs) (g ∷ gs) all zero e = absurd (clash (cc))
+no-function d s (h ∷ hs) (g ∷ gs) all (suc f) e = no-function d s hs gs (all .1) f e
 
 module _ {s types functions : List ℕ} {goal : ℕ} {fs : List Function} (passed : Passed s types functions goal fs) where
+  abbrev declared : Declarations
+  declared = declarationsAt s types functions
+
   abbrev whole : Outline
   whole = outlineAt s types functions goal
 
   -- the source is one of the functions
   pub source-there : (goalAt s goal) .source < length functions
-  unfolding outlineAt
+  unfolding declarationsAt outlineAt
   source-there = omega (arith, (numbers-exist-exactly whole .0 (passed .exist)) .1, length-map functions (headAt s))
 
-  all-bodies : Bodies whole s (whole .heads) fs
+  all-bodies : Bodies declared s (declared .heads) fs
+  unfolding outlineAt
   all-bodies = bodies-are s whole (passed .behind) (passed .read) (passed .behind) fs (passed .end) (passed .bodies)
 
   -- each place has its function, with the head's parameters and result and the body that stands behind the head; there are no others
-  pub function-found : (f : ℕ) → f < length functions → (g : Function) × (getElem? fs f ≡ some g) × BodyAt whole s (headAt s (getD functions f 0)) g
-  unfolding outlineAt
-  function-found f h = function-of whole s (whole .heads) fs all-bodies f (headAt s (getD functions f 0)) (found (headAt s) functions 0 f h)
+  pub function-found : (f : ℕ) → f < length functions → (g : Function) × (getElem? fs f ≡ some g) × BodyAt declared s (headAt s (getD functions f 0)) g
+  unfolding declarationsAt
+  function-found f h = function-of declared s (declared .heads) fs all-bodies f (headAt s (getD functions f 0)) (found (headAt s) functions 0 f h)
 
   pub function-missing : (f : ℕ) → length functions ≤ f → getElem? fs f ≡ none
-  unfolding outlineAt
-  function-missing f h = no-function whole s (whole .heads) fs all-bodies f (missing (headAt s) functions f h)
+  unfolding declarationsAt
+  function-missing f h = no-function declared s (declared .heads) fs all-bodies f (missing (headAt s) functions f h)
 
   source-parameters : sourceTypes (programOf whole fs) ≡ (headAt s (getD functions ((goalAt s goal) .source) 0)) .parameters
   unfolding sourceTypes functionAt programOf outlineAt
   source-parameters = let g = function-found ((goalAt s goal) .source) source-there in rw (g .1) (g .2 .parameters)
 
   -- the test of depth on the padded table is the one of the definition
-  pub depth-tested : sourceShallow s functions goal (padded (leastDepths (map (typeAt s) types))) ≡ deepEnough (programOf whole fs)
-  unfolding deepEnough programOf outlineAt goalAt
-  depth-tested = rw source-parameters (padded-shallow (leastDepths (map (typeAt s) types)) (getD s (goal + 2) 0) _)
+  pub depth-tested : sourceShallow s functions (goalAt s goal) (padded (leastDepths (map (typeAt s) types))) ≡ deepEnough (programOf whole fs)
+  unfolding deepEnough programOf declarationsAt outlineAt
+  depth-tested = rw source-parameters (padded-shallow (leastDepths (map (typeAt s) types)) ((goalAt s goal) .depth) _)
 
 -- ---- the program of a loaded file
 
 module _ {s : List ℕ} {r : Loaded} {p : Program} (t : Tabled s r p) where
   pub program-types : p .types ≡ map (typeAt s) (typePlaces r)
-  unfolding programOf outlineAt
+  unfolding programOf declarationsAt outlineAt
   program-types = ap (λ q. q .types) (t .program)
 
   pub types-many : length (p .types) ≡ r .types
@@ -87,13 +91,17 @@ module _ {s : List ℕ} {r : Loaded} {p : Program} (t : Tabled s r p) where
   unfolding programOf outlineAt
   program-steps = sym (ap (λ q. q .steps) (t .program))
 
+  -- and so is the goal that is handed on
+  pub program-goal : goalOf (r .goal) ≡ record { source = p .source; label = p .label; depth = p .depth; steps = p .steps }
+  program-goal = t .goal-there ∙ rw (← program-source, ← program-label, ← program-depth, ← program-steps)
+
   -- the functions, by their places
   functions-are : p .functions ≡ t .functions
   unfolding programOf
   functions-are = ap (λ q. q .functions) (t .program)
 
   pub program-function : (f : ℕ) → f < r .functions
-      → (g : Function) × (functionAt p f ≡ some g) × BodyAt (outlineAt s (typePlaces r) (functionPlaces r) (r .«goal_at»)) s (headAt s (getD (functionPlaces r) f 0)) g
+      → (g : Function) × (functionAt p f ≡ some g) × BodyAt (declarationsAt s (typePlaces r) (functionPlaces r)) s (headAt s (getD (functionPlaces r) f 0)) g
   unfolding functionAt
   program-function f h = let g = function-found (t .passed) f (omega (arith, t .functions-count)) in (g .0, rw functions-are (g .1), g .2)
 

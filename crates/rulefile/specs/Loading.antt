@@ -1,6 +1,6 @@
 -- What a loaded file holds, in terms of reach's `check`.
 -- Rests on reach's Answers, RuleFile, Places, on depths' Table and on the types of src/lib.rt.
-use Prim.Native.Nat.{ℕ, _+_, _≤_}
+use Prim.Native.Nat.{ℕ, _≤_}
 use mathlib.Core.Path.{_≡_}
 use mathlib.Core.Bool.{Bool, true}
 use mathlib.Core.List.{List}
@@ -9,13 +9,15 @@ use Rattle.reach.specs.Limits.{fileLimit, typeLimit, functionLimit}
 use Rattle.reach.specs.Syntax.{Function, Program}
 use Rattle.reach.specs.Types.{leastDepths, shallow}
 use Rattle.reach.specs.Reader.{got}
-use Rattle.reach.specs.RuleFile.{Outline, outline, numbersExist, functionsOf, programOf}
-use Rattle.reach.specs.Places.{headAt, outlineAt}
+use Rattle.reach.specs.RuleFile as RuleFile
+use Rattle.reach.specs.RuleFile.{outline, numbersExist, functionsOf, programOf}
+use Rattle.reach.specs.Places.{headAt, goalAt, declarationsAt, outlineAt}
 use Rattle.reach.specs.Answers as Answers
 use Rattle.outline.specs.declared.Outlined.{Outlined}
 use Rattle.depths.specs.Table.{padded}
 use Rattle.rulefile.specs.declared.Checked.{Checked}
 use Rattle.rulefile.specs.declared.Checked.the-variants.{Accepted, Refused}
+use Rattle.rulefile.specs.declared.Goal.{Goal}
 use Rattle.rulefile.specs.declared.Loaded.{Loaded}
 
 -- Tables of places as the three passes leave them: each pass over the records that stand there found nothing.
@@ -24,7 +26,7 @@ pub record Passed (s types functions : List ℕ) (goal : ℕ) (fs : List Functio
   pub read : outline s 0 ≡ got (outlineAt s types functions goal) behind
   pub exist : numbersExist (outlineAt s types functions goal) ≡ true
   pub end : ℕ
-  pub bodies : functionsOf (outlineAt s types functions goal) ((outlineAt s types functions goal) .heads) s behind ≡ got fs end
+  pub bodies : functionsOf (declarationsAt s types functions) ((declarationsAt s types functions) .heads) s behind ≡ got fs end
 
 -- the places of the records, as the first pass leaves them
 abbrev pub typesIn : Outlined → List ℕ
@@ -50,10 +52,13 @@ pub record Reads (s : List ℕ) (o : Outlined) : Type 0 where
   pub functions : List Function
   pub passed : Passed s (typesIn o) (functionsIn o) (o .«goal_at») functions
 
+-- a goal that was looked up, as the goal that it is
+abbrev pub goalOf : Goal → RuleFile.Goal
+goalOf g = record { source = g .source; label = g .label; depth = g .depth; steps = g .steps }
+
 -- each parameter of the source has a closed value that is at most D deep, by the table
-abbrev pub sourceShallow : List ℕ → List ℕ → ℕ → List ℕ → Bool
-sourceShallow s functions goal least =
-    shallow least (getD s (goal + 2) 0) ((headAt s (getD functions (getD s goal 0) 0)) .parameters)
+abbrev pub sourceShallow : List ℕ → List ℕ → RuleFile.Goal → List ℕ → Bool
+sourceShallow s functions goal least = shallow least (goal .depth) ((headAt s (getD functions (goal .source) 0)) .parameters)
 
 -- the places of the records of a loaded file
 abbrev pub typePlaces : Loaded → List ℕ
@@ -70,6 +75,7 @@ pub record Tabled (s : List ℕ) (r : Loaded) (p : Program) : Type 0 where
   pub functions-limit : r .functions ≤ functionLimit
   pub functions-count : length (functionPlaces r) ≡ r .functions
   pub goal-inside : r .«goal_at» ≤ length s
+  pub goal-there : goalOf (r .goal) ≡ goalAt s (r .«goal_at»)
   pub functions : List Function
   pub passed : Passed s (typePlaces r) (functionPlaces r) (r .«goal_at») functions
   pub program : p ≡ programOf (outlineAt s (typePlaces r) (functionPlaces r) (r .«goal_at»)) functions

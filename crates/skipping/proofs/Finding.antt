@@ -10,7 +10,7 @@ use borrow.Author.Tests.{eq-eqb, ne-eqb}
 use Rattle.reach.specs.Syntax.{Expr}
 use Rattle.reach.specs.Encoding.{ByteAt}
 use Rattle.reach.specs.Eval.{Env, Frame, State}
-use Rattle.reach.specs.Places.{outlineAt}
+use Rattle.reach.specs.Places.{declarationsAt}
 use Rattle.machine.specs.Records.{Code}
 use Rattle.machine.specs.Walks.{OperandAt, this-operand, later-operand, ChosenAt, none-chosen, this-chosen, past-absent, past-present}
 use Rattle.skipping.specs.Ends.{passedOperands, passedAlternative, passedAlternatives, Ends}
@@ -54,14 +54,14 @@ module _ (file ends : List ℕ) where
 
 module _ (file types functions ends : List ℕ) (filled : Ends file types functions ends) where
   -- the operand of number j stands j entries on
-  pub operand-found : (i j : ℕ) (x : Expr) → OperandAt file (outlineAt file types functions 0) i j x → Code file (outlineAt file types functions 0) (passedOperands ends j i) x
+  pub operand-found : (i j : ℕ) (x : Expr) → OperandAt file (declarationsAt file types functions) i j x → Code file (declarationsAt file types functions) (passedOperands ends j i) x
   unfolding passedOperands
   operand-found i j x (this-operand code) = code
   operand-found i j x (later-operand {j = k} y code rest) = operand-found (getD ends i 0) k x (rest (getD ends i 0) (filled i y code))
 
   -- the alternative of constructor c stands c alternatives on
-  pub alternative-found : (new : Env) (fs : List Frame) (i c : ℕ) (s : State) → ChosenAt file (outlineAt file types functions 0) new fs i c s
-      → ChosenAt file (outlineAt file types functions 0) new fs (passedAlternatives file ends c i) 0 s
+  pub alternative-found : (new : Env) (fs : List Frame) (i c : ℕ) (s : State) → ChosenAt file (declarationsAt file types functions) new fs i c s
+      → ChosenAt file (declarationsAt file types functions) new fs (passedAlternatives file ends c i) 0 s
   unfolding passedAlternatives
   alternative-found new fs i c s (none-chosen b) = none-chosen b
   alternative-found new fs i c s (this-chosen e b code) = this-chosen e b code

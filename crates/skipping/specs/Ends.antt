@@ -8,7 +8,7 @@ use lib.ListN.{length, getD}
 use Rattle.reach.specs.Base.{pick}
 use Rattle.reach.specs.Syntax.{Expr}
 use Rattle.reach.specs.Encoding.{encode}
-use Rattle.reach.specs.Places.{outlineAt}
+use Rattle.reach.specs.Places.{declarationsAt}
 use Rattle.machine.specs.Records.{Code}
 use Rattle.machine.specs.Walks.{Behind}
 
@@ -29,11 +29,11 @@ passedAlternatives file ends (suc n) i = passedAlternatives file ends n (passedA
 -- The table of the ends of expressions: where an expression stands, its entry is the place behind it, found by passing over it.
 abbrev pub Ends : List ℕ → List ℕ → List ℕ → List ℕ → Type 0
 Ends file types functions ends =
-    (i : ℕ) (x : Expr) → Code file (outlineAt file types functions 0) i x → Behind file (outlineAt file types functions 0) i (getD ends i 0)
+    (i : ℕ) (x : Expr) → Code file (declarationsAt file types functions) i x → Behind file (declarationsAt file types functions) i (getD ends i 0)
 
 -- where an expression stands at i, its bytes end before this place
 abbrev pub EndAt : List ℕ → List ℕ → List ℕ → ℕ → ℕ → Type 0
-EndAt file types functions i end = (x : Expr) → Code file (outlineAt file types functions 0) i x → end ≡ i + length (encode x)
+EndAt file types functions i end = (x : Expr) → Code file (declarationsAt file types functions) i x → end ≡ i + length (encode x)
 
 -- the entries from a place on are filled
 abbrev pub EndsFrom : List ℕ → List ℕ → List ℕ → List ℕ → ℕ → Type 0

@@ -20,7 +20,7 @@ use Rattle.steps.specs.declared.Alternative.{Alternative}
 use Rattle.steps.specs.declared.Alternative.the-variants as Alternative
 use Rattle.steps.specs.declared.Next.the-variants as Next
 use Rattle.lookups.specs.Fields.{FieldCount}
-use Rattle.steps.specs.Stepping.{outlineOf, controlIn, FileOf, StandsFor, Standing, Ready, Follows, Stepped, StepMeans, Found, Chose, chose-none, chose-one, missingKind, expressionKind}
+use Rattle.steps.specs.Stepping.{declarationsOf, controlIn, FileOf, StandsFor, Standing, Ready, Follows, Stepped, StepMeans, Found, Chose, chose-none, chose-one, missingKind, expressionKind}
 use Rattle.machine.proofs.Words.{nothing-written}
 use Rattle.steps.proofs.Words.{few-kept}
 use Rattle.steps.proofs.Which.{when-construct, when-missing, when-no-frame, when-waiting}
@@ -30,16 +30,16 @@ use Rattle.steps.proofs.Kept.{Met, shown, state-of, frames-there, opera
 pub record Pending (file types functions w : List ℕ) (base : ℕ) (r : Registers) (e : Parts) (alts : Alternatives) (outer : Env) (rest : List Frame) : Type 0 where
   pub env-before : recordWord w base (r .frame) 2 < r .frame
   pub next-before : recordWord w base (r .frame) 3 < r .frame
-  pub code : CodeAlternatives file (outlineOf file types functions) (recordWord w base (r .frame) 0) alts
-  pub env-at : EnvAt file (outlineOf file types functions) w base (cellOf w) (recordWord w base (r .frame) 2) outer
-  pub frames-at : FramesAt file (outlineOf file types functions) w base (cellOf w) (recordWord w base (r .frame) 3) rest
+  pub code : CodeAlternatives file (declarationsOf file types functions) (recordWord w base (r .frame) 0) alts
+  pub env-at : EnvAt file (declarationsOf file types functions) w base (cellOf w) (recordWord w base (r .frame) 2) outer
+  pub frames-at : FramesAt file (declarationsOf file types functions) w base (cellOf w) (recordWord w base (r .frame) 3) rest
   pub env-in : EnvIn e outer
   pub frames-in : FramesIn e rest
 
 -- what is to be shown of the frames is shown of a waiting case
 pub pending :
     {file types functions w : List ℕ} {base : ℕ} {r : Registers} {e : Parts} {fs : List Frame} (G : List Frame → Type 0) → (r .frame ≡ 0 → ⊥)
-    → FramesAt file (outlineOf file types functions) w base (cellOf w) (r .frame) fs → FramesIn e fs
+    → FramesAt file (declarationsOf file types functions) w base (cellOf w) (r .frame) fs → FramesIn e fs
     → ((alts : Alternatives) (outer : Env) (rest : List Frame) → Pending file types functions w base r e alts outer rest → G (waiting alts outer ∷ rest)) → G fs
 pending {e = e} G there frames frames-in show =
     when-waiting (λ fs. FramesIn e fs → G fs) there frames
@@ -51,9 +51,9 @@ pending {e = e} G there frames frames-in show =
 pub pending-there :
     {file types functions w : List ℕ} {base c : ℕ} {r : Registers} {p : Program} {e : Parts} {alts : Alternatives} {outer new : Env} {rest : List Frame} {t : ℕ}
     → Pending file types functions w base r e alts outer rest → Chooses p t c alts outer new
-    → ChosenAt file (outlineOf file types functions) new rest (recordWord w base (r .frame) 0) c (choose alts c new rest)
+    → ChosenAt file (declarationsOf file types functions) new rest (recordWord w base (r .frame) 0) c (choose alts c new rest)
 pending-there {file} {types} {functions} {c = c} {alts = alts} {new = new} {rest = rest} here chooses =
-    chosen-at file (outlineOf file types functions) new rest _ c alts (here .code) (chooses .within-alternatives)
+    chosen-at file (declarationsOf file types functions) new rest _ c alts (here .code) (chooses .within-alternatives)
 
 pub chose-only :
     {file types functions w w′ : List ℕ} {base c k first inner : ℕ} {r r′ : Registers} → Chose file types functions w w′ base r c k first inner r′ → OnlyTop w w′ base (r .records)
@@ -85,8 +85,8 @@ module _
     {alts : Alternatives} {outer new : Env} {rest : List Frame}
     (stands : StandsFor file types functions p w base cells r e s) (here : Pending file types functions w base r e alts outer rest) (small : k ≤ 255)
     (env-new : Wrote w w′ base (r .records) (recordWord w base (r .frame) 2) (recordWord w base (recordWord w base (r .frame) 2) 1 + k) first inner
-    → EnvAt file (outlineOf file types functions) w′ base (cellOf w′) (r .records) new)
-    (there : ChosenAt file (outlineOf file types functions) new rest (recordWord w base (r .frame) 0) c (choose alts c new rest))
+    → EnvAt file (declarationsOf file types functions) w′ base (cellOf w′) (r .records) new)
+    (there : ChosenAt file (declarationsOf file types functions) new rest (recordWord w base (r .frame) 0) c (choose alts c new rest))
   where
     pub chosen :
         {r′ : Registers} → Chose file types functions w w′ base r c k first inner r′
@@ -147,19 +147,19 @@ module _ (file types functions w : List ℕ) (base i env : ℕ) (r : Registers) 
     -- what is to be shown is shown of a construction that a case waits for
     constructed :
         (p : Program) (cells : ℕ) (e : Parts) (s : State) (G : State → Type 0) → StandsFor file types functions p w base cells r e s
-        → ((t : ℕ) (es : Exprs) (env′ : Env) (alts : Alternatives) (outer : Env) (rest : List Frame) → Code file (outlineOf file types functions) i (construct t c es)
-        → EnvAt file (outlineOf file types functions) w base (cellOf w) env env′ → EnvIn e env′ → Pending file types functions w base r e alts outer rest
+        → ((t : ℕ) (es : Exprs) (env′ : Env) (alts : Alternatives) (outer : Env) (rest : List Frame) → Code file (declarationsOf file types functions) i (construct t c es)
+        → EnvAt file (declarationsOf file types functions) w base (cellOf w) env env′ → EnvIn e env′ → Pending file types functions w base r e alts outer rest
         → Chooses p t c alts outer (operands outer es env′) → G (Eval.evaluating (construct t c es) env′ (waiting alts outer ∷ rest)))
         → G s
     constructed p cells e s G stands show =
         shown file types functions w base i env r p e G ready stands
         (λ x env′ fs coded met. when-construct (λ y. Met file types functions w base i env r p e y env′ fs → G (Eval.evaluating y env′ fs)) coded
         (λ t c′ es met′.
-        let bytes = code-construct file (outlineOf file types functions) i t c′ es (met′ .code) in
+        let bytes = code-construct file (declarationsOf file types functions) i t c′ es (met′ .code) in
         let same : c′ ≡ c = sym (is-c ∙ bytes .2 .1) in
         pending (λ fs′. Sound p e (Eval.evaluating (construct t c′ es) env′ fs′) → G (Eval.evaluating (construct t c′ es) env′ fs′)) some-frame (met′ .frames-at) (met′ .frames-in)
         (λ alts outer rest here sound.
-        subst (λ (d : ℕ). Code file (outlineOf file types functions) i (construct t d es) → Chooses p t d alts outer (operands outer es env′) → G (Eval.evaluating (construct t d es) env′ (waiting alts outer ∷ rest))) (sym same)
+        subst (λ (d : ℕ). Code file (declarationsOf file types functions) i (construct t d es) → Chooses p t d alts outer (operands outer es env′) → G (Eval.evaluating (construct t d es) env′ (waiting alts outer ∷ rest))) (sym same)
         (λ code chooses. show t es env′ alts outer rest code (met′ .env-at) (met′ .env-in) here chooses) (met′ .code) (sound .1)) (met′ .sound)) met)
 
     pub construct-chooses : Standing file types functions w base r → recordWord w base (r .frame) 2 < r .records
@@ -176,9 +176,9 @@ module _ (file types functions w : List ℕ) (base i env : ℕ) (r : Registers) 
       steps = λ p sought cells e s file-of stands.
           constructed p cells e s (λ s′. StepMeans file types functions w w′ base r p e s′ (Next.Goes r′)) stands
           (λ t es env′ alts outer rest code env-at env-in here chooses.
-          let bytes = code-construct file (outlineOf file types functions) i t c es code in
+          let bytes = code-construct file (declarationsOf file types functions) i t c es code in
           let size-is = counted file-of fields (is-t ∙ bytes .1 .1) refl chooses in
-          let many = count-word file (outlineOf file types functions) w base (cellOf w) (stands .zeros) (here .env-at) in (
+          let many = count-word file (declarationsOf file types functions) w base (cellOf w) (stands .zeros) (here .env-at) in (
             choose alts c (operands outer es env′) rest,
             construct-next p e t c es env′ outer alts rest,
             chosen stands here (fields .1)

@@ -17,7 +17,7 @@ use Rattle.machine.proofs.Records.{count-word, parts-added}
 use Rattle.steps.specs.declared.Registers.{Registers}
 use Rattle.steps.specs.declared.Next.the-variants as Next
 use Rattle.lookups.specs.Fields.{FieldCount}
-use Rattle.steps.specs.Stepping.{outlineOf, controlIn, StandsFor, Standing, Stepped, StepMeans, Chose}
+use Rattle.steps.specs.Stepping.{declarationsOf, controlIn, StandsFor, Standing, Stepped, StepMeans, Chose}
 use Rattle.machine.proofs.Words.{records-same, nothing-written}
 use Rattle.steps.proofs.Words.{cells-same}
 use Rattle.steps.proofs.Which.{when-part, when-no-frame}
@@ -47,7 +47,7 @@ module _ (file types functions w : List ℕ) (base cell : ℕ) (r : Registers) (
   -- what is to be shown is shown of the part that is in the cell
   inspected :
       (p : Program) (cells : ℕ) (e : Parts) (s : State) (G : State → Type 0) → StandsFor file types functions p w base cells r e s
-      → ((q : Place) (fs : List Frame) → cellOf w q ≡ cell → FramesAt file (outlineOf file types functions) w base (cellOf w) (r .frame) fs
+      → ((q : Place) (fs : List Frame) → cellOf w q ≡ cell → FramesAt file (declarationsOf file types functions) w base (cellOf w) (r .frame) fs
       → There (at e q) → FramesIn e fs → Sound p e (Eval.inspecting q fs) → G (Eval.inspecting q fs))
       → G s
   inspected p cells e s G stands show =
@@ -111,11 +111,11 @@ module _ (file types functions w : List ℕ) (base cell : ℕ) (r : Registers) (
           → (q : Place) (alts : Alternatives) (outer : Env) (rest : List Frame) (k n : ℕ) → cellOf w q ≡ cell → at e q ≡ has (head - 1) k
           → Pending file types functions w base r e alts outer rest → n ≡ size outer + k
           → Wrote w w′ base (r .records) (recordWord w base (r .frame) 2) n (cellWord w cell 1) 0
-          → EnvAt file (outlineOf file types functions) w′ base (cellOf w′) (r .records) (inputParts outer (fieldsOf q) k)
+          → EnvAt file (declarationsOf file types functions) w′ base (cellOf w′) (r .records) (inputParts outer (fieldsOf q) k)
       unfolding partOf
       fields-there p cells e s w′ stands q alts outer rest k n is bound here many wrote =
           let same = cells-same (wrote .only-top) stands in
-          parts-added file (outlineOf file types functions) w w′ base (r .records) (cellOf w) (cellOf w′) e (records-same (wrote .only-top)) (same .0)
+          parts-added file (declarationsOf file types functions) w w′ base (r .records) (cellOf w) (cellOf w′) e (records-same (wrote .only-top)) (same .0)
           (wrote .holds) (omega (arith, here .env-before, stands .space .frame-below)) many (here .env-at) (here .env-in)
           (λ j below. same .0 (partOf (fieldsOf q) j) (field-there e q (head - 1) k j bound below) ∙ (walk-field w q j ∙ ap (λ (x : ℕ). cellWord w x 1 + j) is))
 
@@ -131,7 +131,7 @@ module _ (file types functions w : List ℕ) (base cell : ℕ) (r : Registers) (
             (λ q alts outer rest m t is there bound here has-type chooses.
             let type-is = (stands .input .slot q _ there (has-type .1)) .0 in
             let size-is = counted file-of fields (is-t ∙ (ap (λ (x : ℕ). cellWord w x 2) (sym is) ∙ type-is)) refl chooses in
-            let many = count-word file (outlineOf file types functions) w base (cellOf w) (stands .zeros) (here .env-at) in (
+            let many = count-word file (declarationsOf file types functions) w base (cellOf w) (stands .zeros) (here .env-at) in (
               choose alts (head - 1) (inputParts outer (fieldsOf q) m) rest,
               bound-next p e q alts outer rest (head - 1) m bound,
               chosen stands here (fields .1)

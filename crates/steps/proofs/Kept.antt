@@ -17,7 +17,7 @@ use Rattle.machine.proofs.Records.{env-kept, frames-kept, operands-added, waiti
 use Rattle.steps.specs.declared.Registers.{Registers}
 use Rattle.steps.specs.declared.Next.{Next}
 use Rattle.steps.specs.declared.Next.the-variants as Next
-use Rattle.steps.specs.Stepping.{outlineOf, controlIn, Few, StandsFor, Standing, Ready, StepMeans, Leads, Stepped}
+use Rattle.steps.specs.Stepping.{declarationsOf, controlIn, Few, StandsFor, Standing, Ready, StepMeans, Leads, Stepped}
 use Rattle.machine.proofs.Words.{records-same}
 use Rattle.steps.proofs.Words.{cells-same, few-more}
 use Rattle.steps.proofs.Which.{when-expression}
@@ -26,16 +26,16 @@ use Rattle.steps.proofs.Which.{when-expression}
 pub state-of :
     {file types functions w : List ℕ} {base cells : ℕ} {p : Program} {r : Registers} {e : Parts} {s : State} {c : Control}
     → StandsFor file types functions p w base cells r e s → controlIn r ≡ c
-    → StateAt file (outlineOf file types functions) w base (cellOf w) c (r .frame) s
+    → StateAt file (declarationsOf file types functions) w base (cellOf w) c (r .frame) s
 state-of {file} {types} {functions} {w} {base} {r = r} {s = s} stands is =
-    subst (λ (c : Control). StateAt file (outlineOf file types functions) w base (cellOf w) c (r .frame) s) is (stands .state)
+    subst (λ (c : Control). StateAt file (declarationsOf file types functions) w base (cellOf w) c (r .frame) s) is (stands .state)
 
 -- An expression that is being evaluated, and all that is known of it: where it stands, its environment and frames in the words, and what it meets.
 module _ (file types functions w : List ℕ) (base i env : ℕ) (r : Registers) (p : Program) (e : Parts) where
   pub record Met (x : Expr) (env′ : Env) (fs : List Frame) : Type 0 where
-    pub code : Code file (outlineOf file types functions) i x
-    pub env-at : EnvAt file (outlineOf file types functions) w base (cellOf w) env env′
-    pub frames-at : FramesAt file (outlineOf file types functions) w base (cellOf w) (r .frame) fs
+    pub code : Code file (declarationsOf file types functions) i x
+    pub env-at : EnvAt file (declarationsOf file types functions) w base (cellOf w) env env′
+    pub frames-at : FramesAt file (declarationsOf file types functions) w base (cellOf w) (r .frame) fs
     pub env-in : EnvIn e env′
     pub frames-in : FramesIn e fs
     pub sound : Sound p e (Eval.evaluating x env′ fs)
@@ -47,7 +47,7 @@ module _ (file types functions w : List ℕ) (base i env : ℕ) (r : Registers) 
   shown G ready stands show =
       when-expression (λ s. StateIn e s → Sound p e s → G s) (state-of stands (ready .control-is))
       (λ x env′ fs code env-at frames-at there sound.
-      show x env′ fs (rw (ready .code-is) at ((code-kind file (outlineOf file types functions) i x code) .1))
+      show x env′ fs (rw (ready .code-is) at ((code-kind file (declarationsOf file types functions) i x code) .1))
       (record { code = code; env-at = env-at; frames-at = frames-at; env-in = there .0; frames-in = there .1; sound = sound }))
       (stands .there) (stands .sound)
 
@@ -70,7 +70,7 @@ module _ (file types functions w : List ℕ) (base i env : ℕ) (r : Registers) 
   kind : (i < length file) × ((x : Expr) × Coded (getD file i 0) x)
   kind =
       when-expression (λ s. (i < length file) × ((x : Expr) × Coded (getD file i 0) x)) (state-of (standing .stands) is)
-      (λ x env′ fs code env-at frames-at. let found = code-kind file (outlineOf file types functions) i x code in (found .0, (x, found .1)))
+      (λ x env′ fs code env-at frames-at. let found = code-kind file (declarationsOf file types functions) i x code in (found .0, (x, found .1)))
 
   pub code-known : getD file i 0 ≤ 5
   code-known = coded-known (getD file i 0) (kind .1 .0) (kind .1 .1)
@@ -97,37 +97,37 @@ module _
     (stands : StandsFor file types functions p w base cells r e s) (only : OnlyTop w w′ base (r .records))
   where
     pub env-there :
-        {a : ℕ} {env : Env} → a < r .records → EnvAt file (outlineOf file types functions) w base (cellOf w) a env → EnvIn e env
-        → EnvAt file (outlineOf file types functions) w′ base (cellOf w′) a env
+        {a : ℕ} {env : Env} → a < r .records → EnvAt file (declarationsOf file types functions) w base (cellOf w) a env → EnvIn e env
+        → EnvAt file (declarationsOf file types functions) w′ base (cellOf w′) a env
     env-there below at there =
-        env-kept file (outlineOf file types functions) w w′ base (r .records) (cellOf w) (cellOf w′) e (records-same only) ((cells-same only stands) .0) below at there
+        env-kept file (declarationsOf file types functions) w w′ base (r .records) (cellOf w) (cellOf w′) e (records-same only) ((cells-same only stands) .0) below at there
 
     pub frames-there :
-        {f : ℕ} {fs : List Frame} → f < r .records → FramesAt file (outlineOf file types functions) w base (cellOf w) f fs → FramesIn e fs
-        → FramesAt file (outlineOf file types functions) w′ base (cellOf w′) f fs
+        {f : ℕ} {fs : List Frame} → f < r .records → FramesAt file (declarationsOf file types functions) w base (cellOf w) f fs → FramesIn e fs
+        → FramesAt file (declarationsOf file types functions) w′ base (cellOf w′) f fs
     frames-there below at there =
-        frames-kept file (outlineOf file types functions) w w′ base (r .records) (cellOf w) (cellOf w′) e (records-same only) ((cells-same only stands) .0) below at there
+        frames-kept file (declarationsOf file types functions) w w′ base (r .records) (cellOf w) (cellOf w′) e (records-same only) ((cells-same only stands) .0) below at there
 
     -- the record at the top is a group of operands
     pub operands-there :
         {a b i n : ℕ} {outer inner : Env} {es : Exprs} → Holds w′ base (r .records) a n i (b + 1) → a < r .records → b < r .records → n ≡ size outer + count es
-        → EnvAt file (outlineOf file types functions) w base (cellOf w) a outer → EnvIn e outer
-        → EnvAt file (outlineOf file types functions) w base (cellOf w) b inner → EnvIn e inner → CodeAll file (outlineOf file types functions) i es
-        → EnvAt file (outlineOf file types functions) w′ base (cellOf w′) (r .records) (operands outer es inner)
+        → EnvAt file (declarationsOf file types functions) w base (cellOf w) a outer → EnvIn e outer
+        → EnvAt file (declarationsOf file types functions) w base (cellOf w) b inner → EnvIn e inner → CodeAll file (declarationsOf file types functions) i es
+        → EnvAt file (declarationsOf file types functions) w′ base (cellOf w′) (r .records) (operands outer es inner)
     operands-there {a} {b} {i} {n} holds a<t b<t many outer outer-in inner inner-in code =
         let z : b + 1 ≡ suc b = omega arith in
-        operands-added file (outlineOf file types functions) w w′ base (r .records) (cellOf w) (cellOf w′) e (records-same only) ((cells-same only stands) .0)
+        operands-added file (declarationsOf file types functions) w w′ base (r .records) (cellOf w) (cellOf w′) e (records-same only) ((cells-same only stands) .0)
         (subst (λ (k : ℕ). Holds w′ base (r .records) a n i k) z holds) a<t b<t many outer outer-in inner inner-in code
 
     -- or a waiting case
     pub waiting-there :
         {i a f : ℕ} {alts : Alternatives} {env : Env} {fs : List Frame} → Holds w′ base (r .records) i 0 a f → a < r .records → f < r .records
-        → CodeAlternatives file (outlineOf file types functions) i alts
-        → EnvAt file (outlineOf file types functions) w base (cellOf w) a env → EnvIn e env
-        → FramesAt file (outlineOf file types functions) w base (cellOf w) f fs → FramesIn e fs
-        → FramesAt file (outlineOf file types functions) w′ base (cellOf w′) (r .records) (waiting alts env ∷ fs)
+        → CodeAlternatives file (declarationsOf file types functions) i alts
+        → EnvAt file (declarationsOf file types functions) w base (cellOf w) a env → EnvIn e env
+        → FramesAt file (declarationsOf file types functions) w base (cellOf w) f fs → FramesIn e fs
+        → FramesAt file (declarationsOf file types functions) w′ base (cellOf w′) (r .records) (waiting alts env ∷ fs)
     waiting-there holds a<t f<t code env env-in frames frames-in =
-        waiting-added file (outlineOf file types functions) w w′ base (r .records) (cellOf w) (cellOf w′) e (records-same only) ((cells-same only stands) .0)
+        waiting-added file (declarationsOf file types functions) w w′ base (r .records) (cellOf w) (cellOf w′) e (records-same only) ((cells-same only stands) .0)
         holds a<t f<t code env env-in frames frames-in
 
 -- the counts after a record with such a count was added

@@ -15,7 +15,7 @@ use Rattle.machine.specs.Cells.{Cells, cellOf, Unmoved}
 use Rattle.machine.specs.Records.{OnlyTop}
 use Rattle.machine.proofs.Records.{Same, holds-kept, state-kept}
 use Rattle.steps.specs.declared.Registers.{Registers}
-use Rattle.steps.specs.Stepping.{outlineOf, StandsFor, Follows}
+use Rattle.steps.specs.Stepping.{declarationsOf, StandsFor, Follows}
 use Rattle.machine.proofs.Words.{records-same}
 use Rattle.steps.proofs.Words.{cells-same}
 
@@ -52,7 +52,7 @@ stands-below {file} {types} {functions} {w} {w′} {base = base} {r = r} {e = e}
   apart = apart;
   zeros = holds-kept w w′ base (r .records) same (stands .space .some-record) (stands .zeros);
   state =
-      state-kept file (outlineOf file types functions) w w′ base (r .records) (cellOf w) (cellOf w′) e same unmoved
+      state-kept file (declarationsOf file types functions) w w′ base (r .records) (cellOf w) (cellOf w′) e same unmoved
       (stands .space .environment-below) (stands .space .frame-below) (stands .state) (stands .there);
   there = there;
   sound = sound;

@@ -14,7 +14,7 @@ use Rattle.reach.specs.Parts.{Parts}
 use Rattle.reach.specs.Eval as Eval
 use Rattle.reach.specs.Eval.{Env, empty, operands, size, Frame, waiting, State, enter, view, answer, next}
 use Rattle.reach.specs.RuleFile.{Head}
-use Rattle.reach.specs.Places.{headAt, outlineAt}
+use Rattle.reach.specs.Places.{headAt, declarationsAt}
 use Rattle.lookups.specs.declared.Head as Looked
 use Rattle.lookups.specs.Heads.{headOf}
 use Rattle.lookups.proofs.Tables.{parameters-many}
@@ -25,7 +25,7 @@ use Rattle.machine.proofs.Records.{count-word}
 use Rattle.steps.specs.declared.Registers.{Registers}
 use Rattle.steps.specs.declared.Next.{Next}
 use Rattle.steps.specs.declared.Next.the-variants as Next
-use Rattle.steps.specs.Stepping.{outlineOf, FileOf, StandsFor, Ready, Leads, Stepped, StepMeans, PassedOver, expressionKind}
+use Rattle.steps.specs.Stepping.{declarationsOf, FileOf, StandsFor, Ready, Leads, Stepped, StepMeans, PassedOver, expressionKind}
 use Rattle.machine.proofs.Words.{nothing-written}
 use Rattle.steps.proofs.Which.{when-call, when-let, when-case, when-target}
 use Rattle.steps.proofs.Kept.{Met, StepsAt, steps-by, env-there, frames-there, operands-there, waiting-there, few-added}
@@ -41,9 +41,9 @@ mapped f (x ∷ xs) d (suc n) y is = let rest = mapped f xs d n y is in (omega (
 module _ (file types functions : List ℕ) where
   -- a called function is one of the table, and takes as many operands as its record says
   called :
-      (f : ℕ) (es : Exprs) (h : Head) → getElem? ((outlineOf file types functions) .heads) f ≡ some h → count es ≡ length (h .parameters)
+      (f : ℕ) (es : Exprs) (h : Head) → getElem? ((declarationsOf file types functions) .heads) f ≡ some h → count es ≡ length (h .parameters)
       → (f < length functions) × (count es ≡ length ((headAt file (getD functions f 0)) .parameters))
-  unfolding outlineAt
+  unfolding declarationsAt
   called f es h is many =
       let known = mapped (headAt file) functions 0 f h is in
       (known .0, many ∙ ap (λ (g : Head). length (g .parameters)) (sym (known .1)))
@@ -68,7 +68,7 @@ module _
         → StepMeans file types functions w w′ base r p e (Eval.evaluating (call f es) env′ fs) (Next.Goes call-after)
     unfolding size call-after
     call-follows types p cells e s file-of stands f es env′ fs met =
-        let bytes = code-call file (outlineOf file types functions) i f es (met .code) in
+        let bytes = code-call file (declarationsOf file types functions) i f es (met .code) in
         let arity = met .code .1 in
         let known = called file types functions f es (arity .0) (arity .1) (arity .2) in
         let there = file-of .function-there f (known .0) in
@@ -78,7 +78,7 @@ module _
           Eval.evaluating (there .0 .body) (operands empty es env′) fs,
           call-next p e f es env′ fs (there .0) (there .1),
           record {
-            state = evaluating-at (subst (λ (k : ℕ). Code file (outlineOf file types functions) k (there .0 .body)) body (there .2))
+            state = evaluating-at (subst (λ (k : ℕ). Code file (declarationsOf file types functions) k (there .0 .body)) body (there .2))
                 (operands-there stands (wrote .only-top) (wrote .holds) (ready .space .some-record) (ready .environment-there) (omega arith) empty-at tt (met .env-at) (met .env-in) (bytes .2))
                 (frames-there stands (wrote .only-top) (ready .space .frame-below) (met .frames-at) (met .frames-in));
             environment-below = omega arith;
@@ -122,14 +122,14 @@ module _
         → StepMeans file types functions w w′ base r p e (Eval.evaluating (bind t y b) env′ fs) (Next.Goes let-after)
     unfolding count let-after
     let-follows p cells e s stands t y b env′ fs met =
-        let at = code-let file (outlineOf file types functions) i t y b (met .code) in
-        let many = count-word file (outlineOf file types functions) w base (cellOf w) (stands .zeros) (met .env-at) in (
+        let at = code-let file (declarationsOf file types functions) i t y b (met .code) in
+        let many = count-word file (declarationsOf file types functions) w base (cellOf w) (stands .zeros) (met .env-at) in (
           Eval.evaluating b (operands env′ (y ∷ₑ []ₑ) env′) fs,
           let-next p e t y b env′ fs,
           record {
             state = evaluating-at (at .3 body (found y (at .2)))
                 (operands-there stands (wrote .only-top) (wrote .holds) (ready .environment-there) (ready .environment-there) (omega (arith, is-seen, many)) (met .env-at) (met .env-in) (met .env-at) (met .env-in)
-                (code-one file (outlineOf file types functions) (i + 2) y (at .2)))
+                (code-one file (declarationsOf file types functions) (i + 2) y (at .2)))
                 (frames-there stands (wrote .only-top) (ready .space .frame-below) (met .frames-at) (met .frames-in));
             environment-below = omega arith;
             frame-below = omega (arith, ready .space .frame-below);
@@ -169,7 +169,7 @@ module _
         → StepMeans file types functions w w′ base r p e (Eval.evaluating (case t y alts) env′ fs) (Next.Goes case-after)
     unfolding case-after
     case-follows p cells e s stands t y alts env′ fs met =
-        let at = code-case file (outlineOf file types functions) i t y alts (met .code) in (
+        let at = code-case file (declarationsOf file types functions) i t y alts (met .code) in (
           Eval.evaluating y env′ (waiting alts env′ ∷ fs),
           case-next p e t y alts env′ fs,
           record {
@@ -217,7 +217,7 @@ module _ (file types functions w : List ℕ) (base label i env : ℕ) (r : Regis
   pub target-demands : getD file (i + 1) 0 ≡ label → Stepped file types functions w w base label r Next.Demands
   unfolding answer
   target-demands is = target-steps Next.Demands (λ p e sought l y env′ fs met.
-      let at = code-target file (outlineOf file types functions) i l y (met .code) in
+      let at = code-target file (declarationsOf file types functions) i l y (met .code) in
       let same : l ≡ p .label = cc (at .1 .1) in
       rw (target-next, eq-eqb l (p .label) same))
 
@@ -226,7 +226,7 @@ module _ (file types functions w : List ℕ) (base label i env : ℕ) (r : Regis
       → Stepped file types functions w w base label r (Next.Goes (record { kind = expressionKind; place = i + 2; env = env; frame = r .frame; records = r .records }))
   unfolding answer
   target-goes other = target-steps (Next.Goes (record { kind = expressionKind; place = i + 2; env = env; frame = r .frame; records = r .records })) (λ p e sought l y env′ fs met.
-      let at = code-target file (outlineOf file types functions) i l y (met .code) in (
+      let at = code-target file (declarationsOf file types functions) i l y (met .code) in (
         Eval.evaluating y env′ fs,
         rw (target-next, ne-eqb l (p .label) (λ same. other (at .1 .1 ∙ (same ∙ sym sought)))),
         record {

@@ -18,7 +18,7 @@ use Rattle.machine.proofs.Records.{variable-at, variable-part, variable-operand
 use Rattle.steps.specs.declared.Registers.{Registers}
 use Rattle.steps.specs.declared.Next.{Next}
 use Rattle.steps.specs.declared.Next.the-variants as Next
-use Rattle.steps.specs.Stepping.{outlineOf, StandsFor, Standing, Ready, Leads, VariableThere, Group, OperandIn, partKind, expressionKind}
+use Rattle.steps.specs.Stepping.{declarationsOf, StandsFor, Standing, Ready, Leads, VariableThere, Group, OperandIn, partKind, expressionKind}
 use Rattle.machine.proofs.Words.{nothing-written}
 use Rattle.steps.proofs.Which.{when-variable}
 use Rattle.steps.proofs.Kept.{Met, shown, StepsAt, steps-by}
@@ -41,12 +41,12 @@ module _ (file types functions w : List ℕ) (base i env : ℕ) (r : Registers) 
   found :
       (p : Program) (cells : ℕ) (e : Parts) (s : State) → StandsFor file types functions p w base cells r e s → (m : ℕ) (env′ : Env) (fs : List Frame)
       → Met file types functions w base i env r p e (variable m) env′ fs
-      → (x : Closure) × (lookup env′ m ≡ some x) × VariableAt file (outlineOf file types functions) w base (cellOf w) n env x
+      → (x : Closure) × (lookup env′ m ≡ some x) × VariableAt file (declarationsOf file types functions) w base (cellOf w) n env x
   found p cells e s stands m env′ fs met =
-      let bytes = code-variable file (outlineOf file types functions) i m (met .code) in
+      let bytes = code-variable file (declarationsOf file types functions) i m (met .code) in
       let same : n ≡ m = is-n ∙ bytes .1 .1 in
       let (x, is) = met .sound in
-      (x, is, rw same (variable-at file (outlineOf file types functions) w base (cellOf w) (stands .zeros) m x (met .env-at) is))
+      (x, is, rw same (variable-at file (declarationsOf file types functions) w base (cellOf w) (stands .zeros) m x (met .env-at) is))
 
   pub variable-there : Standing file types functions w base r → VariableThere w base n env
   variable-there standing =
@@ -55,7 +55,7 @@ module _ (file types functions w : List ℕ) (base i env : ℕ) (r : Registers) 
       shown file types functions w base i env r p e (λ s. VariableThere w base n env) ready (standing .stands)
       (λ x env′ fs coded met. when-variable (λ y. Met file types functions w base i env r p e y env′ fs → VariableThere w base n env) coded
       (λ m met′. let there = found p (standing .cells) e (standing .state) (standing .stands) m env′ fs met′ in
-      (file, outlineOf file types functions, cellOf w, there .0, there .2)) met)
+      (file, declarationsOf file types functions, cellOf w, there .0, there .2)) met)
 
   -- what is right at every variable is right
   variable-leads :
@@ -79,8 +79,8 @@ module _ (file types functions w : List ℕ) (base i env : ℕ) (r : Registers) 
           inner ≡ 0 → Leads file types functions w w base r (record { kind = partKind; place = first + (n - outside); env = 0; frame = r .frame; records = r .records })
       part-leads mark = variable-leads (record { kind = partKind; place = first + (n - outside); env = 0; frame = r .frame; records = r .records }) (λ p cells e s stands m env′ fs met.
           let there = found p cells e s stands m env′ fs met in
-          let at-group = group-is .outward file (outlineOf file types functions) (cellOf w) (there .0) (there .2) in
-          let part = variable-part file (outlineOf file types functions) w base (cellOf w) n group (there .0) at-group (group-is .inside) (sym is-inner ∙ mark) in (
+          let at-group = group-is .outward file (declarationsOf file types functions) (cellOf w) (there .0) (there .2) in
+          let part = variable-part file (declarationsOf file types functions) w base (cellOf w) n group (there .0) at-group (group-is .inside) (sym is-inner ∙ mark) in (
             Eval.inspecting (part .0) fs,
             part-next p e m env′ fs (part .0) (there .1 ∙ ap some (part .1)),
             record {
@@ -99,12 +99,12 @@ module _ (file types functions w : List ℕ) (base i env : ℕ) (r : Registers) 
           → Leads file types functions w w base r (record { kind = expressionKind; place = place; env = inner - 1; frame = r .frame; records = r .records })
       operand-leads {place} other placed = variable-leads (record { kind = expressionKind; place = place; env = inner - 1; frame = r .frame; records = r .records }) (λ p cells e s stands m env′ fs met.
           let there = found p cells e s stands m env′ fs met in
-          let at-group = group-is .outward file (outlineOf file types functions) (cellOf w) (there .0) (there .2) in
-          let (y, env″, is, before, env-at, operand) = variable-operand file (outlineOf file types functions) w base (cellOf w) n group (there .0) at-group (group-is .inside) (λ zero-mark. other (is-inner ∙ zero-mark)) in (
+          let at-group = group-is .outward file (declarationsOf file types functions) (cellOf w) (there .0) (there .2) in
+          let (y, env″, is, before, env-at, operand) = variable-operand file (declarationsOf file types functions) w base (cellOf w) n group (there .0) at-group (group-is .inside) (λ zero-mark. other (is-inner ∙ zero-mark)) in (
             Eval.evaluating y env″ fs,
             operand-next p e m env′ fs y env″ (there .1 ∙ ap some is),
             record {
-              state = evaluating-at (placed y (rw (is-first, is-outside) operand)) (subst (λ (k : ℕ). EnvAt file (outlineOf file types functions) w base (cellOf w) (k - 1) env″) (sym is-inner) env-at) (met .frames-at);
+              state = evaluating-at (placed y (rw (is-first, is-outside) operand)) (subst (λ (k : ℕ). EnvAt file (declarationsOf file types functions) w base (cellOf w) (k - 1) env″) (sym is-inner) env-at) (met .frames-at);
               environment-below = omega (arith, is-inner, before, group-is .no-later, ready .environment-there);
               frame-below = ready .space .frame-below;
               no-fewer = omega arith;

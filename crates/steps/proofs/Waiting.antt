@@ -10,13 +10,13 @@ use Rattle.reach.specs.Base.{pick}
 use Rattle.reach.specs.Syntax.{variable, call, construct, case, bind, target, Alternatives, Program}
 use Rattle.reach.specs.Parts.{Parts, Place}
 use Rattle.reach.specs.Eval.{State, evaluating, inspecting, missing, stuck, Env, Frame, waiting, Question, Next, demands, stops, goes, waits, view, next}
-use Rattle.reach.specs.RuleFile.{Outline}
+use Rattle.reach.specs.RuleFile.{Declarations}
 use Rattle.reach.proofs.Base.{clash}
 use Rattle.reach.proofs.Evaluation.{answer-waits}
 use Rattle.machine.specs.Cells.{cellOf}
 use Rattle.machine.specs.Records.{Control, partIn, StateAt, inspecting-at, FramesAt, waiting-at}
 use Rattle.steps.specs.declared.Registers.{Registers}
-use Rattle.steps.specs.Stepping.{outlineOf, controlIn, StandsFor}
+use Rattle.steps.specs.Stepping.{declarationsOf, controlIn, StandsFor}
 
 -- the state of a case that waits on the part of a question
 abbrev pub Inspects : State → Question → Type 0
@@ -54,12 +54,12 @@ inspects p e s q h = view-waits p s q ((answer-waits e (view p s) q h) .0)
 
 -- the control is the part, and there is a frame
 looks-at :
-    {file : List ℕ} {o : Outline} {w : List ℕ} {base : ℕ} {cell : Place → ℕ} {c : Control} {f : ℕ} {q : Place} {alts : Alternatives} {env : Env} {fs : List Frame}
+    {file : List ℕ} {o : Declarations} {w : List ℕ} {base : ℕ} {cell : Place → ℕ} {c : Control} {f : ℕ} {q : Place} {alts : Alternatives} {env : Env} {fs : List Frame}
     → StateAt file o w base cell c f (inspecting q (waiting alts env ∷ fs)) → (c ≡ partIn (cell q)) × (f ≡ 0 → ⊥)
 looks-at (inspecting-at is frames) = (ap partIn (sym is), framed frames)
   where
     framed :
-        {file : List ℕ} {o : Outline} {w : List ℕ} {base : ℕ} {cell : Place → ℕ} {f : ℕ} {alts : Alternatives} {env : Env} {fs : List Frame}
+        {file : List ℕ} {o : Declarations} {w : List ℕ} {base : ℕ} {cell : Place → ℕ} {f : ℕ} {alts : Alternatives} {env : Env} {fs : List Frame}
         → FramesAt file o w base cell f (waiting alts env ∷ fs) → f ≡ 0 → ⊥
     framed (waiting-at holds a<f next<f code env rest) is = absurd (clash (omega arith))
 
@@ -68,4 +68,4 @@ pub waits-control :
     → StandsFor file types functions p w base cells r e s → next p e s ≡ waits q → (controlIn r ≡ partIn (cellOf w (q .place))) × (r .frame ≡ 0 → ⊥)
 waits-control {file} {types} {functions} {p} {w} {base} {r = r} {e} {s} {q} stands asks =
     let (alts, env, fs, is) = inspects p e s q asks in
-    looks-at (subst (λ (y : State). StateAt file (outlineOf file types functions) w base (cellOf w) (controlIn r) (r .frame) y) is (stands .state))
+    looks-at (subst (λ (y : State). StateAt file (declarationsOf file types functions) w base (cellOf w) (controlIn r) (r .frame) y) is (stands .state))

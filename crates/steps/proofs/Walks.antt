@@ -11,7 +11,7 @@ use Rattle.machine.specs.Records.{recordWord}
 use Rattle.machine.proofs.Codes.{chosen-missing, chosen-present}
 use Rattle.machine.specs.Walks.{outsideOf}
 use Rattle.machine.proofs.Records.{variable-outer, variable-outside}
-use Rattle.steps.specs.Stepping.{outlineOf, Outward, VariableThere, PassedOver, OperandIn, Found}
+use Rattle.steps.specs.Stepping.{declarationsOf, Outward, VariableThere, PassedOver, OperandIn, Found}
 use Rattle.steps.specs.declared.Alternative.the-variants as Alternative
 
 -- What the table of ends gives: the place behind an expression, an operand, and an alternative, missing or with its expression.
@@ -25,11 +25,11 @@ module _ (file types functions ends : List ℕ) (filled : Ends file types functi
   module _ (i c : ℕ) {place : ℕ} (is : place ≡ passedAlternatives file ends c i) where
     pub found-absent : getD file place 0 ≡ 0 → Found file types functions i c Alternative.Absent
     found-absent none new fs s there =
-        chosen-missing file (outlineOf file types functions) new fs place 0 s (rw is (alternative-found file types functions ends filled new fs i c s there)) refl none
+        chosen-missing file (declarationsOf file types functions) new fs place 0 s (rw is (alternative-found file types functions ends filled new fs i c s there)) refl none
 
     pub found-present : (getD file place 0 ≡ 0 → ⊥) → Found file types functions i c (Alternative.Present (place + 1))
     found-present other new fs s there =
-        chosen-present file (outlineOf file types functions) new fs place 0 s (rw is (alternative-found file types functions ends filled new fs i c s there)) refl other
+        chosen-present file (declarationsOf file types functions) new fs place 0 s (rw is (alternative-found file types functions ends filled new fs i c s there)) refl other
 
 -- The walk outward.
 module _ (w : List ℕ) (base n env : ℕ) where

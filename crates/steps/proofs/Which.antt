@@ -8,7 +8,7 @@ use native.Mathlib.Omega.{arith}
 use Rattle.reach.specs.Syntax.{Expr, variable, call, construct, case, bind, target, Exprs, Alternatives}
 use Rattle.reach.specs.Parts.{Place}
 use Rattle.reach.specs.Eval.{Env, Frame, waiting, State, evaluating, inspecting, missing}
-use Rattle.reach.specs.RuleFile.{Outline}
+use Rattle.reach.specs.RuleFile.{Declarations}
 use Rattle.reach.proofs.Base.{clash}
 use Rattle.machine.specs.Records.{recordWord, Code, CodeAlternatives, expressionAt, partIn, nothingLeft, EnvAt, FramesAt, none-at, waiting-at, StateAt, evaluating-at, inspecting-at, missing-at}
 use Rattle.steps.specs.Stepping.{controlOf}
@@ -26,7 +26,7 @@ control-expression zero place env some other = absurd (some refl)
 control-expression (suc zero) place env some other = absurd (other refl)
 control-expression (suc (suc n)) place env some other = refl
 
-module _ {file : List ℕ} {o : Outline} {w : List ℕ} {base : ℕ} {cell : Place → ℕ} (G : State → Type 0) where
+module _ {file : List ℕ} {o : Declarations} {w : List ℕ} {base : ℕ} {cell : Place → ℕ} (G : State → Type 0) where
   pub when-expression :
       {i r f : ℕ} {s : State} → StateAt file o w base cell (expressionAt i r) f s
       → ((x : Expr) (env : Env) (fs : List Frame) → Code file o i x → EnvAt file o w base cell r env → FramesAt file o w base cell f fs → G (evaluating x env fs))
@@ -61,7 +61,7 @@ module _ (G : Expr → Type 0) where
   when-target a-target show = show _ _
 
 -- record 0 is no frame, and any other is a waiting case
-module _ {file : List ℕ} {o : Outline} {w : List ℕ} {base : ℕ} {cell : Place → ℕ} (G : List Frame → Type 0) where
+module _ {file : List ℕ} {o : Declarations} {w : List ℕ} {base : ℕ} {cell : Place → ℕ} (G : List Frame → Type 0) where
   pub when-no-frame : {f : ℕ} {fs : List Frame} → f ≡ 0 → FramesAt file o w base cell f fs → G [] → G fs
   when-no-frame is none-at show = show
   when-no-frame is (waiting-at holds a<f next<f code env rest) show = absurd (clash (omega arith))

@@ -10,8 +10,8 @@ use Rattle.reach.specs.Parts.{Parts, Place}
 use Rattle.reach.specs.Types.{sourceSlots}
 use Rattle.reach.specs.Eval as Eval
 use Rattle.reach.specs.Eval.{State, Question, Env, Frame, Closure}
-use Rattle.reach.specs.RuleFile.{Outline}
-use Rattle.reach.specs.Places.{typeAt, headAt, outlineAt}
+use Rattle.reach.specs.RuleFile.{Declarations}
+use Rattle.reach.specs.Places.{typeAt, headAt, declarationsAt}
 use Rattle.reach.specs.States.{StateIn, Sound}
 use Rattle.machine.specs.Cells.{Cells, cellOf}
 use Rattle.machine.specs.Records.{Code, Holds, OnlyTop, Wrote, recordWord, Control, environmentOf, StateAt, expressionAt, partIn, nothingLeft}
@@ -22,9 +22,9 @@ use Rattle.steps.specs.declared.Alternative.the-variants as Alternative
 use Rattle.steps.specs.declared.Next.{Next}
 use Rattle.steps.specs.declared.Next.the-variants as Next
 
--- the outline whose types and functions stand at these places
-abbrev pub outlineOf : List ℕ → List ℕ → List ℕ → Outline
-outlineOf file types functions = outlineAt file types functions 0
+-- what a file declares whose types and functions stand at these places
+abbrev pub declarationsOf : List ℕ → List ℕ → List ℕ → Declarations
+declarationsOf file types functions = declarationsAt file types functions
 
 -- the kinds of what is being evaluated: nothing, an alternative being missing; a part of the input; an expression
 abbrev pub missingKind : ℕ
@@ -50,7 +50,7 @@ controlIn r = controlOf (r .kind) (r .place) (r .env)
 pub record FileOf (file types functions : List ℕ) (p : Program) : Type 0 where
   pub types-there : p .types ≡ map (typeAt file) types
   pub function-there : (f : ℕ) → f < length functions
-      → (g : Function) × (functionAt p f ≡ some g) × Code file (outlineOf file types functions) ((headAt file (getD functions f 0)) .body) (g .body)
+      → (g : Function) × (functionAt p f ≡ some g) × Code file (declarationsOf file types functions) ((headAt file (getD functions f 0)) .body) (g .body)
   pub small : length file ≤ 16384
 
 -- the count word of each of the first t records is at most 255 times the record's number
@@ -71,7 +71,7 @@ pub record StandsFor (file types functions : List ℕ) (p : Program) (w : List �
   pub input : Cells (p .types) (sourceSlots p) w cells e
   pub apart : 5 * cells ≤ base
   pub zeros : Holds w base 0 0 0 0 0
-  pub state : StateAt file (outlineOf file types functions) w base (cellOf w) (controlIn r) (r .frame) s
+  pub state : StateAt file (declarationsOf file types functions) w base (cellOf w) (controlIn r) (r .frame) s
   pub there : StateIn e s
   pub sound : Sound p e s
   pub space : Space w base r
@@ -96,7 +96,7 @@ pub record Ready (file w : List ℕ) (base : ℕ) (r : Registers) (code i env : 
 
 -- After a step to registers r′ the words stand for state s′ (there may be no room for a further record then).
 pub record Follows (file types functions w′ : List ℕ) (base records : ℕ) (r′ : Registers) (s′ : State) : Type 0 where
-  pub state : StateAt file (outlineOf file types functions) w′ base (cellOf w′) (controlIn r′) (r′ .frame) s′
+  pub state : StateAt file (declarationsOf file types functions) w′ base (cellOf w′) (controlIn r′) (r′ .frame) s′
   pub environment-below : environmentOf (controlIn r′) < r′ .records
   pub frame-below : r′ .frame < r′ .records
   pub no-fewer : records ≤ r′ .records
@@ -130,11 +130,11 @@ pub record Stepped (file types functions w w′ : List ℕ) (base label : ℕ) (
 -- record r′ is on the walk outward from record r to the group of variable n, whatever the variable stands for
 abbrev pub Outward : List ℕ → ℕ → ℕ → ℕ → ℕ → Type 0
 Outward w base n r r′ =
-    (file : List ℕ) (o : Outline) (cell : Place → ℕ) (x : Closure) → VariableAt file o w base cell n r x → VariableAt file o w base cell n r′ x
+    (file : List ℕ) (o : Declarations) (cell : Place → ℕ) (x : Closure) → VariableAt file o w base cell n r x → VariableAt file o w base cell n r′ x
 
 -- the variable stands for something
 abbrev pub VariableThere : List ℕ → ℕ → ℕ → ℕ → Type 0
-VariableThere w base n r = (file : List ℕ) × (o : Outline) × (cell : Place → ℕ) × (x : Closure) × VariableAt file o w base cell n r x
+VariableThere w base n r = (file : List ℕ) × (o : Declarations) × (cell : Place → ℕ) × (x : Closure) × VariableAt file o w base cell n r x
 
 -- the record of the variable's group
 pub record Group (w : List ℕ) (base n env group : ℕ) : Type 0 where
@@ -145,20 +145,20 @@ pub record Group (w : List ℕ) (base n env group : ℕ) : Type 0 where
 module _ (file types functions : List ℕ) where
   -- where an expression stands at i, next is the place behind it
   abbrev pub PassedOver : ℕ → ℕ → Type 0
-  PassedOver i next = (x : Expr) → Code file (outlineOf file types functions) i x → Behind file (outlineOf file types functions) i next
+  PassedOver i next = (x : Expr) → Code file (declarationsOf file types functions) i x → Behind file (declarationsOf file types functions) i next
 
   -- operand n of those that begin at i stands at this place
   abbrev pub OperandIn : ℕ → ℕ → ℕ → Type 0
-  OperandIn i n place = (x : Expr) → OperandAt file (outlineOf file types functions) i n x → Code file (outlineOf file types functions) place x
+  OperandIn i n place = (x : Expr) → OperandAt file (declarationsOf file types functions) i n x → Code file (declarationsOf file types functions) place x
 
   -- what the alternative found says of the state that the case goes on to
   abbrev pub AlternativeMeans : Env → List Frame → State → Alternative → Type 0
   AlternativeMeans new fs s Alternative.Absent = s ≡ Eval.missing
-  AlternativeMeans new fs s (Alternative.Present i) = (x : Expr) × (s ≡ Eval.evaluating x new fs) × Code file (outlineOf file types functions) i x
+  AlternativeMeans new fs s (Alternative.Present i) = (x : Expr) × (s ≡ Eval.evaluating x new fs) × Code file (declarationsOf file types functions) i x
 
   -- the alternative for constructor c of those that begin at i
   abbrev pub Found : ℕ → ℕ → Alternative → Type 0
-  Found i c a = (new : Env) (fs : List Frame) (s : State) → ChosenAt file (outlineOf file types functions) new fs i c s → AlternativeMeans new fs s a
+  Found i c a = (new : Env) (fs : List Frame) (s : State) → ChosenAt file (declarationsOf file types functions) new fs i c s → AlternativeMeans new fs s a
 
   -- The innermost waiting case has its alternative chosen: k fields begin at `first` and stand in `inner`. The alternative is missing, or its
   -- environment is the record at the top.

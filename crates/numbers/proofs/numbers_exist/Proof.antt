@@ -3,16 +3,16 @@ use lib.ListN.{length-map}
 use borrow.Author.Tests.{not-true, not-false}
 use borrow.Author.Needs.{needs}
 use Rattle.reach.specs.RuleFile.{numbersExist}
-use Rattle.reach.specs.Places.{typeAt, headAt, goalAt, outlineAt}
+use Rattle.reach.specs.Places.{typeAt, headAt, goalAt, declarationsAt, outlineAt}
 use Rattle.numbers.proofs.numbers_exist.Statement.{statement}
 use Rattle.numbers.proofs.numbers_exist.Tie as tie
 
 returns : tie.Need-returns
-unfolding numbersExist outlineAt
+unfolding numbersExist declarationsAt outlineAt
 returns c = rw (length-map _ (typeAt _), ← c .before .types-exist .ensures, not-true (c .before .types-exist .result) (c .if1 .taken))
 
 returns-2 : tie.Need-returns-2
-unfolding numbersExist outlineAt
+unfolding numbersExist declarationsAt outlineAt
 returns-2 c =
     rw (
       length-map _ (typeAt _),
@@ -23,7 +23,7 @@ returns-2 c =
     )
 
 returns-3 : tie.Need-returns-3
-unfolding numbersExist outlineAt goalAt
+unfolding numbersExist declarationsAt outlineAt goalAt
 returns-3 c =
     rw (
       length-map _ (typeAt _),

@@ -2,7 +2,7 @@
 -- Rests on Whole.
 use native.Mathlib.Omega.{arith}
 use borrow.Author.Needs.{needs}
-use Rattle.reach.specs.Places.{outlineAt}
+use Rattle.reach.specs.Places.{declarationsAt, outlineAt}
 use Rattle.outline.proofs.Whole.{goal-begins, no-type, types-refused, functions-refused, goal-refused, outlined}
 use Rattle.outline.proofs.first_pass.Statement.{statement}
 use Rattle.outline.proofs.first_pass.Tie as tie
@@ -58,7 +58,7 @@ returns-4 c =
     )
 
 returns-5 : tie.Need-returns-5
-unfolding outlineAt
+unfolding declarationsAt outlineAt
 returns-5 c =
     let read = c .before .before in
     let last = read .before .before in

@@ -1,12 +1,12 @@
--- `rulefile::label` meets its contract: the second byte of the goal's record.
+-- `rulefile::label` meets its contract: the label, of the goal at the place.
+use mathlib.Core.Path.{ap}
 use borrow.Author.Needs.{needs}
-use Rattle.reach.specs.Places.{goalAt}
+use Rattle.reach.specs.RuleFile.{Goal}
 use Rattle.rulefile.proofs.label.Statement.{statement}
 use Rattle.rulefile.proofs.label.Tie as tie
 
 returns : tie.Need-returns
-unfolding goalAt
-returns c = c .byte-behind .ensures
+returns c = ap (λ (g : Goal). g .label) (c .goal-of .ensures)
 
 pub label-spec : {M : Type 1} → statement M
 label-spec = tie.close (tie.spec (λ c κs. search needs) returns)

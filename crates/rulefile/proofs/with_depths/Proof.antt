@@ -18,19 +18,21 @@ returns c =
 
 returns-2 : tie.Need-returns-2
 returns-2 c =
-    let filled = c .before .before .before .before in
+    let asked = c .before .before .before .before in
+    let filled = asked .before in
     let table = filled .before .before in
     let start = table .before .before .before .before .before in
     rw (c .turned-back2 .ensures)
-    (depth-small _ _ (start .pre) (table .least-depths .ensures) (filled .before .none-empty .ensures) (filled .if1 .left)
+    (depth-small _ _ (start .pre) (table .least-depths .ensures) (filled .before .none-empty .ensures) (filled .if1 .left) (asked .goal-of .ensures)
     (c .before .before .source-shallow .ensures) (c .before .if2 .taken))
 
 returns-3 : tie.Need-returns-3
 returns-3 c =
-    let filled = c .before .before .before .before in
+    let asked = c .before .before .before .before in
+    let filled = asked .before in
     let table = filled .before .before in
     let start = table .before .before .before .before .before in
-    all-passed _ _ (start .pre) (table .least-depths .ensures) (filled .before .none-empty .ensures) (filled .if1 .left)
+    all-passed _ _ (start .pre) (table .least-depths .ensures) (filled .before .none-empty .ensures) (filled .if1 .left) (asked .goal-of .ensures)
     (c .before .before .source-shallow .ensures) (c .before .if2 .left)
 
 pub with-depths-spec : {M : Type 1} → statement M
@@ -43,8 +45,9 @@ with-depths-spec =
     (λ c κs. search needs)
     (λ c κs. search needs)
     returns
+    (λ c κs. search needs)
     (λ c. search needs)
-    (λ c. sym (functions-count (c .before .before .before .before .before .before .before .before .pre .outlined)))
+    (λ c. sym (functions-count (c .before .before .before .before .before .before .before .before .before .pre .outlined)))
     (λ c κs. search needs)
     (λ c κs. search needs)
     returns-2
