@@ -7,7 +7,7 @@ use mathlib.Core.Option.{Option, none, some}
 use native.Mathlib.Omega.{arith}
 use lib.ListN.{length, take, drop, length-take, length-drop}
 use Rattle.reach.specs.Limits.{listLimit}
-use Rattle.reach.specs.Lists.{roomOf, onSize, entrySpan, entryPart}
+use Rattle.reach.specs.Lists.{roomOf, onFound, entrySpan, entryPart}
 use Rattle.reach.proofs.ReadBack.{span-inside}
 use Rattle.entries.specs.Spans.{partPlace}
 
@@ -25,8 +25,8 @@ module _ (l : List ℕ) (k : ℕ) where
   -- what is handed back for such a span: a place and bytes
   abbrev Lies : Option (ℕ × ℕ) → Type 0
   Lies span =
-      let place = onSize (roomOf (length l)) (λ s. s .0) span in
-      let part = onSize [] (λ s. take (s .1) (drop (s .0) l)) span in
+      let place = onFound (roomOf (length l)) (λ s. s .0) span in
+      let part = onFound [] (λ s. take (s .1) (drop (s .0) l)) span in
       (part ≡ take (length part) (drop place l)) × (place + length part ≤ roomOf (length l))
 
   lies : (span : Option (ℕ × ℕ)) → entrySpan (take listLimit l) k 0 ≡ span → Lies span

@@ -1,15 +1,22 @@
--- The size of an entry and its span, as the enums of src/lib.rt show them, and the place of the part that is handed back.
+-- The kind of an entry, its size and its span, as the enums of src/lib.rt show them, and the place of the part that is handed back.
 -- Rests on reach's Lists.
 use Prim.Native.Nat.{ℕ, _+_}
 use mathlib.Core.List.{List}
 use mathlib.Core.Option.{Option, none, some}
 use lib.ListN.{length, take}
+use Rattle.reach.specs.declared.Kind.{Kind}
 use Rattle.reach.specs.Limits.{listLimit}
-use Rattle.reach.specs.Lists.{roomOf, onSize, entrySpan}
+use Rattle.reach.specs.Lists.{roomOf, onFound, entrySpan}
+use Rattle.entries.specs.declared.Found.{Found}
+use Rattle.entries.specs.declared.Found.the-variants as found
 use Rattle.entries.specs.declared.Size.{Size}
 use Rattle.entries.specs.declared.Size.the-variants.{Bytes, Missing}
 use Rattle.entries.specs.declared.Span.{Span}
 use Rattle.entries.specs.declared.Span.the-variants as span
+
+abbrev pub foundOf : Found → Option Kind
+foundOf (found.Known k) = some k
+foundOf found.Unknown = none
 
 abbrev pub sizeOf : Size → Option ℕ
 sizeOf (Bytes n) = some n
@@ -22,7 +29,7 @@ spanOf span.Missing = none
 -- 01: the entry of a given number is handed back as the part of the list that it fills, else the empty part at the list's end. Where that part
 -- begins: at the place of entry k, or, where there is none, at the end of the bytes that count
 unfoldable pub partPlace : List ℕ → ℕ → ℕ
-partPlace list k = onSize (roomOf (length list)) (λ span. span .0) (entrySpan (take listLimit list) k 0)
+partPlace list k = onFound (roomOf (length list)) (λ span. span .0) (entrySpan (take listLimit list) k 0)
 
 -- where a reference points is a block and an offset in it; so many bytes further on it is the same block
 abbrev pub bytesOn : ℕ × ℕ → ℕ → ℕ × ℕ

@@ -15,7 +15,7 @@ use Rattle.reach.specs.declared.Verdict.the-variants.{Found, Undecided, None}
 use Rattle.reach.specs.Words.{numberOf, stepsOf}
 use Rattle.reach.specs.Limits.{listLimit}
 use Rattle.reach.specs.Search.{verdict}
-use Rattle.reach.specs.Lists.{listBytes, roomOf, onSize, entrySpan, entryPart}
+use Rattle.reach.specs.Lists.{listBytes, roomOf, onFound, entrySpan, entryPart}
 use Rattle.reach.specs.Answers.{Checked, accepted, turnedBack, SearchAnswer, noSearch, complete, cutShort, listed, refusalOf, verdictOf, RunAnswer, noRun, ran}
 use Rattle.entries.specs.Spans.{partPlace}
 use Rattle.entries.proofs.Demands.{found-within}
@@ -109,8 +109,8 @@ module _ (l : List ℕ) (k : ℕ) where
   -- of the number for a span, and of the part of the list that it is
   abbrev Reads : Option (ℕ × ℕ) → Type 0
   Reads span =
-      decodedPart (onSize (roomOf (length l)) (λ s. s .0 + 4294967296 * s .1) span)
-      ≡ (onSize (roomOf (length l)) (λ s. s .0) span, length (onSize [] (λ s. take (s .1) (drop (s .0) l)) span))
+      decodedPart (onFound (roomOf (length l)) (λ s. s .0 + 4294967296 * s .1) span)
+      ≡ (onFound (roomOf (length l)) (λ s. s .0) span, length (onFound [] (λ s. take (s .1) (drop (s .0) l)) span))
 
   counted : roomOf (length l) ≤ listLimit
   unfolding roomOf
