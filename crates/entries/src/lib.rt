@@ -1,15 +1,23 @@
-// An entry of a list, handed back as the part of the caller's list that it fills. No byte is copied. Rests on crates reach and marks.
+// The entries of a list, read back: the kind of an entry by its mark, how many bytes it fills, and the entry of a given number, handed back
+// as the part of the caller's list that it fills. No byte is copied. Rests on crates reach and marks.
 ghost use mathlib.Core.Path.{_≡_};
 ghost use Prim.Native.Nat.{_+_, _≤_, _<_};
 ghost use lib.ListN.{length};
 ghost use Rattle.reach.specs.Places.{wordAt};
-ghost use Rattle.reach.specs.Lists.{knownMark, entrySize, entrySpan, entryPart, roomOf};
-ghost use Rattle.entries.specs.Spans.{sizeOf, spanOf};
+ghost use Rattle.reach.specs.Lists.{kindOf, knownMark, kindAt, entrySize, entrySpan, entryPart, roomOf};
+ghost use Rattle.entries.specs.Spans.{foundOf, sizeOf, spanOf};
 use marks::is_mark;
 use marks::wide;
+use reach::Kind;
 
 // Of a list only the first 16,777,216 bytes count.
 const LIST_LIMIT: usize = 16777216;
+
+// The kind whose mark two bytes are, or they are none.
+pub enum Found {
+    Known(Kind),
+    Unknown,
+}
 
 // How many bytes the entry at a place fills, or none stands there.
 pub enum Size {
@@ -23,14 +31,38 @@ pub enum Span {
     Missing,
 }
 
+// The kind whose mark two bytes are.
+fn kind_of(a: u8, b: u8) -> Found
+    ensures { λ r. ⌜ foundOf r ≡ kindOf a b ⌝ }
+{
+    if is_mark(a, b, b"RE") {
+        return Found::Known(Kind::RE);
+    }
+    if is_mark(a, b, b"UN") {
+        return Found::Known(Kind::UN);
+    }
+    Found::Unknown
+}
+
 // Two bytes are the mark of an entry.
 fn known_mark(a: u8, b: u8) -> bool
     ensures { λ r. ⌜ r ≡ knownMark a b ⌝ }
 {
-    if is_mark(a, b, b"RE") {
-        return true;
-    }
-    is_mark(a, b, b"UN")
+    let Found::Known(_) = kind_of(a, b) else {
+        return false;
+    };
+    true
+}
+
+// The kind of the entry at a place. (Where no mark stands, no entry does, and the answer says nothing.)
+pub fn kind_at(list: &[u8], at: usize) -> Kind
+    requires { ⌜ at + 1 < length (now list) ⌝ }
+    ensures { λ r. ⌜ r ≡ kindAt (now (list .entry)) at ⌝ }
+{
+    let Found::Known(kind) = kind_of(list[at], list[at + 1]) else {
+        return Kind::UN;
+    };
+    kind
 }
 
 // The two-byte number at a place.

@@ -8,7 +8,9 @@ use native.Mathlib.Omega.{arith}
 use lib.ListN.{length, take, drop, set, length-append}
 use lib.Seq.{sets, sets-eq}
 use Rattle.reach.specs.Parts.{prefix}
-use Rattle.reach.specs.Search.{Kind, RE, UN, Entry}
+use Rattle.reach.specs.declared.Kind.{Kind}
+use Rattle.reach.specs.declared.Kind.the-variants.{RE, UN}
+use Rattle.reach.specs.Search.{Entry}
 use Rattle.reach.specs.Lists.{wordBytes, kindBytes, entryBytes}
 
 -- what is stored from the place behind what was stored is stored with it

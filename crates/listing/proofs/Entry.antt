@@ -8,6 +8,7 @@ use native.Mathlib.Decide.{decLt}
 use native.Mathlib.Omega.{arith}
 use lib.ListN.{length, getD}
 use lib.Seq.{sets}
+use Rattle.reach.specs.declared.Kind.{Kind}
 use Rattle.reach.specs.Syntax.{Types}
 use Rattle.reach.specs.Parts.{Parts, end, opened, bound, Place, here, after, inside, free, has, at, prefix, There}
 use Rattle.reach.specs.Places.{typeAt}
@@ -15,10 +16,9 @@ use Rattle.reach.specs.Types.{Slot, Typed, slots, fieldSlots, slotAt}
 use Rattle.lookups.specs.Fields.{fieldsIn}
 use Rattle.lookups.proofs.Tables.{fields-found, fields-missing, constructor-missing}
 use Rattle.machine.specs.Cells.{cellWord, cellFrom}
-use Rattle.listing.specs.declared.Mark.{Mark}
 use Rattle.listing.specs.declared.Written.the-variants as Written
 use Rattle.listing.specs.Rows.{RowAt, RowFits, WroteRow}
-use Rattle.listing.specs.Entry.{kindOf, InputIn, Listable, entryFor, WroteEntry}
+use Rattle.listing.specs.Entry.{InputIn, Listable, entryFor, WroteEntry}
 use Rattle.listing.proofs.Bytes.{header, entry-stored}
 
 module _ (file types : List ℕ) (bytes : (i : ℕ) → getD file i 0 ≤ 255) where
@@ -125,12 +125,12 @@ module _ (file types : List ℕ) (bytes : (i : ℕ) → getD file i 0 ≤ 255) w
 
       -- a header and the row behind it are the entry
       pub entry-written :
-          {n : ℕ} {m l′ : List ℕ} (mark : Mark) (steps place : ℕ) (l : List ℕ) → place + 6 + top ≤ length l → m ≡ sets l place (header (kindOf mark) steps top)
+          {n : ℕ} {m l′ : List ℕ} (kind : Kind) (steps place : ℕ) (l : List ℕ) → place + 6 + top ≤ length l → m ≡ sets l place (header kind steps top)
           → WroteRow file types w 0 parameters (place + 6) m l′ n
-          → WroteEntry file types w parameters top mark steps place l l′ (Written.Behind n)
-      entry-written {n} {m} {l′} mark steps place l fits headed wrote ts us d e input =
+          → WroteEntry file types w parameters top kind steps place l l′ (Written.Behind n)
+      entry-written {n} {m} {l′} kind steps place l fits headed wrote ts us d e input =
           let row = wrote .stored e (input-row input) in
           let count : length (prefix e) ≡ top = input .stands .counted in
           let behind : n ≡ place + 6 + length (prefix e) = row .0 in
-          let whole : l′ ≡ sets (sets l place (header (kindOf mark) steps (length (prefix e)))) (place + 6) (prefix e) = row .1 ∙ rw (headed, count) in
-          (omega arith, omega arith, whole ∙ entry-stored (entryFor mark steps e) place n l behind (omega arith))
+          let whole : l′ ≡ sets (sets l place (header kind steps (length (prefix e)))) (place + 6) (prefix e) = row .1 ∙ rw (headed, count) in
+          (omega arith, omega arith, whole ∙ entry-stored (entryFor kind steps e) place n l behind (omega arith))

@@ -1,5 +1,5 @@
 -- What it means that an entry of the list was written from the words that stand for its input.
--- Rests on reach's Lists and Search, on machine's Cells and on the enums of src/lib.rt.
+-- Rests on reach's Lists and Search, on machine's Cells and on the enum of src/lib.rt.
 use Prim.Native.Nat.{ℕ, _+_, _≤_, _<_}
 use mathlib.Core.Path.{_≡_}
 use mathlib.Core.List.{List, map, _++_}
@@ -8,18 +8,12 @@ use Rattle.reach.specs.Syntax.{Types}
 use Rattle.reach.specs.Parts.{Parts}
 use Rattle.reach.specs.Places.{typeAt}
 use Rattle.reach.specs.Types.{Typed, slots}
-use Rattle.reach.specs.Search.{Kind, RE, UN, Entry}
+use Rattle.reach.specs.declared.Kind.{Kind}
+use Rattle.reach.specs.Search.{Entry}
 use Rattle.reach.specs.Lists.{entryBytes}
 use Rattle.machine.specs.Cells.{Cells}
-use Rattle.listing.specs.declared.Mark.{Mark}
-use Rattle.listing.specs.declared.Mark.the-variants as Mark
 use Rattle.listing.specs.declared.Written.{Written}
 use Rattle.listing.specs.declared.Written.the-variants as Written
-
--- the kind of an entry that the enum names
-abbrev pub kindOf : Mark → Kind
-kindOf Mark.Reach = RE
-kindOf Mark.Unfinished = UN
 
 -- The words stand for input e: its parameters have the types us and may be d deep, the types' records stand at the places of the table, and every
 -- part has a constructor of its type.
@@ -35,16 +29,16 @@ Listable file types w parameters cells =
     ((ts : Types) × (us : List ℕ) × (d : ℕ) × (e : Parts) × InputIn file types w parameters cells ts us d e) × (cells ≤ 1000000)
 
 -- the entry of an input
-abbrev pub entryFor : Mark → ℕ → Parts → Entry
-entryFor mark steps e = record { kind = kindOf mark; steps = steps; input = e }
+abbrev pub entryFor : Kind → ℕ → Parts → Entry
+entryFor kind steps e = record { kind = kind; steps = steps; input = e }
 
 -- The list l became l′: the entry, of so many cells, was written whole from the place on, and nothing else; or it does not fit, and nothing was written.
-abbrev pub WroteFor : (mark : Mark) (steps cells place : ℕ) (l l′ : List ℕ) → Parts → Written → Type 0
-WroteFor mark steps cells place l l′ e (Written.Behind n) =
-    (n ≡ place + 6 + cells) × (n ≤ length l) × (l′ ≡ take place l ++ (entryBytes (entryFor mark steps e) ++ drop n l))
-WroteFor mark steps cells place l l′ e Written.Full = (length l < place + 6 + cells) × (l′ ≡ l)
+abbrev pub WroteFor : (kind : Kind) (steps cells place : ℕ) (l l′ : List ℕ) → Parts → Written → Type 0
+WroteFor kind steps cells place l l′ e (Written.Behind n) =
+    (n ≡ place + 6 + cells) × (n ≤ length l) × (l′ ≡ take place l ++ (entryBytes (entryFor kind steps e) ++ drop n l))
+WroteFor kind steps cells place l l′ e Written.Full = (length l < place + 6 + cells) × (l′ ≡ l)
 
 -- so it is for every input that the words stand for
-abbrev pub WroteEntry : (file types w : List ℕ) (parameters cells : ℕ) (mark : Mark) (steps place : ℕ) (l l′ : List ℕ) → Written → Type 0
-WroteEntry file types w parameters cells mark steps place l l′ r =
-    (ts : Types) (us : List ℕ) (d : ℕ) (e : Parts) → InputIn file types w parameters cells ts us d e → WroteFor mark steps cells place l l′ e r
+abbrev pub WroteEntry : (file types w : List ℕ) (parameters cells : ℕ) (kind : Kind) (steps place : ℕ) (l l′ : List ℕ) → Written → Type 0
+WroteEntry file types w parameters cells kind steps place l l′ r =
+    (ts : Types) (us : List ℕ) (d : ℕ) (e : Parts) → InputIn file types w parameters cells ts us d e → WroteFor kind steps cells place l l′ e r

@@ -7,7 +7,8 @@ ghost use lib.ListN.{length, getD};
 ghost use lib.Seq.{sets};
 ghost use Rattle.reach.specs.Lists.{wordBytes, kindBytes};
 ghost use Rattle.listing.specs.Rows.{RowFits, WroteRow};
-ghost use Rattle.listing.specs.Entry.{kindOf, Listable, WroteEntry};
+ghost use Rattle.listing.specs.Entry.{Listable, WroteEntry};
+use reach::Kind;
 use steps::cell_word;
 use steps::field_count;
 
@@ -20,12 +21,6 @@ pub enum Written {
     Full,
 }
 
-// The kind of an entry: `RE` or `UN`.
-pub enum Mark {
-    Reach,
-    Unfinished,
-}
-
 // Two bytes, as a byte string has them.
 fn put_two(list: &mut [u8], at: usize, two: &[u8; 2])
     requires { ⌜ at + 2 ≤ length (now list) ⌝ }
@@ -35,14 +30,14 @@ fn put_two(list: &mut [u8], at: usize, two: &[u8; 2])
     list[at + 1] = two[1];
 }
 
-// The mark of an entry.
-fn put_mark(list: &mut [u8], at: usize, mark: Mark)
+// The mark of an entry of this kind.
+fn put_mark(list: &mut [u8], at: usize, kind: Kind)
     requires { ⌜ at + 2 ≤ length (now list) ⌝ }
-    ensures { λ _. ⌜ now (list .exit) ≡ sets (now (list .entry)) at (kindBytes (kindOf mark)) ⌝ }
+    ensures { λ _. ⌜ now (list .exit) ≡ sets (now (list .entry)) at (kindBytes kind) ⌝ }
 {
-    match mark {
-        Mark::Reach => put_two(list, at, b"RE"),
-        Mark::Unfinished => put_two(list, at, b"UN"),
+    match kind {
+        Kind::RE => put_two(list, at, b"RE"),
+        Kind::UN => put_two(list, at, b"UN"),
     }
 }
 
@@ -56,11 +51,11 @@ fn put_word(list: &mut [u8], at: usize, n: usize)
 }
 
 // The mark, the steps, and how many bytes follow.
-fn put_header(list: &mut [u8], at: usize, mark: Mark, steps: usize, bytes: usize)
+fn put_header(list: &mut [u8], at: usize, kind: Kind, steps: usize, bytes: usize)
     requires { ⌜ at + 6 ≤ length (now list) ⌝ }
-    ensures { λ _. ⌜ now (list .exit) ≡ sets (now (list .entry)) at (kindBytes (kindOf mark) ++ (wordBytes steps ++ wordBytes bytes)) ⌝ }
+    ensures { λ _. ⌜ now (list .exit) ≡ sets (now (list .entry)) at (kindBytes kind ++ (wordBytes steps ++ wordBytes bytes)) ⌝ }
 {
-    put_mark(list, at, mark);
+    put_mark(list, at, kind);
     put_word(list, at + 2, steps);
     put_word(list, at + 4, bytes);
 }
@@ -103,18 +98,18 @@ pub fn write_entry<'a>(
     work: &'a [u32],
     parameters: usize,
     cells: usize,
-    mark: Mark,
+    kind: Kind,
     steps: usize,
     list: &mut [u8],
     at: usize,
 ) -> Written
     requires { ⌜ Listable (now file) (now types) (now work) parameters cells × (at ≤ length (now list)) ⌝ }
-    ensures { λ r. ⌜ WroteEntry (now (file .entry)) (now (types .entry)) (now (work .entry)) parameters cells mark steps at (now (list .entry)) (now (list .exit)) r ⌝ }
+    ensures { λ r. ⌜ WroteEntry (now (file .entry)) (now (types .entry)) (now (work .entry)) parameters cells kind steps at (now (list .entry)) (now (list .exit)) r ⌝ }
 {
     if list.len() - at < 6 + cells {
         return Written::Full;
     }
-    put_header(list, at, mark, steps, cells);
+    put_header(list, at, kind, steps, cells);
     let behind = write_row(file, types, work, 0, parameters, cells, list, at + 6);
     Written::Behind(behind)
 }

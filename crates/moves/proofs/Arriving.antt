@@ -10,7 +10,11 @@ use Rattle.reach.specs.Parts.{Parts, at, There}
 use Rattle.reach.specs.Types.{leastDepths}
 use Rattle.reach.specs.Eval as Eval
 use Rattle.reach.specs.Eval.{State, Question}
-use Rattle.reach.specs.Search.{Kind, RE, UN, Entry, branches}
+use Rattle.reach.specs.declared.Kind.{Kind}
+use Rattle.reach.specs.declared.Kind.the-variants.{RE, UN}
+use Rattle.reach.specs.declared.PathEnd.{PathEnd}
+use Rattle.reach.specs.declared.PathEnd.the-variants.{Unlisted, Listed}
+use Rattle.reach.specs.Search.{Entry, branches}
 use Rattle.reach.specs.Moves as Model
 use Rattle.reach.specs.Moves.{Choice}
 use Rattle.reach.proofs.Evaluation.{waits-free}
@@ -29,8 +33,6 @@ use Rattle.choices.proofs.Taking.{step-kept, path-stays, path-goes}
 use Rattle.choices.proofs.Weights.{power-positive, power-more, weight-kept, weight-pushed}
 use Rattle.choices.proofs.Returning.{limit-few}
 use Rattle.moves.specs.declared.Walk.{Walk}
-use Rattle.moves.specs.declared.Listing.{Listing}
-use Rattle.moves.specs.declared.Listing.the-variants as Listing
 use Rattle.moves.specs.declared.Moved.{Moved}
 use Rattle.moves.specs.Moving.{endedWalk, UnderWay, EntryIn, Lists, Makes}
 
@@ -49,8 +51,8 @@ module _ (p : Program) (table : List ℕ) (left n : ℕ) (e : Parts) (s : State)
   stopped why next = by-left left
     where
       by-left : (l : ℕ) → Model.arrive p table l n e s cs es ≡ Model.behind cs (es ++ [])
-      by-left zero = rw (next, append-nil es)
-      by-left (suc l) = rw (next, append-nil es)
+      by-left zero = rw next
+      by-left (suc l) = rw next
 
   gone-on :
       (l : ℕ) (s′ : State) → left ≡ suc l → Eval.next p e s ≡ Eval.goes s′
@@ -75,7 +77,7 @@ module _ (p : Program) (table : List ℕ) (left n : ℕ) (e : Parts) (s : State)
   spent-waiting q none next = rw (none, next)
 
 -- what `over` answers
-abbrev pub ended : ℕ → ℕ → ℕ → Listing → Moved
+abbrev pub ended : ℕ → ℕ → ℕ → PathEnd → Moved
 ended cells done height listing = record { walk = endedWalk cells done height; listing = listing }
 
 -- what stands for a path under way is what a step asks
@@ -141,7 +143,7 @@ module _
 
     -- behind the end of the path
     behind :
-        (listing : Listing) (new : List Entry) → ((es : List Entry) → model es ≡ Model.behind cs (es ++ new))
+        (listing : PathEnd) (new : List Entry) → ((es : List Entry) → model es ≡ Model.behind cs (es ++ new))
         → Lists g w′ (ended cells done height listing .walk) listing new → Makes g w₀ w′ bound (ended cells done height listing) first
     behind listing new model-is lists = record {
       position = Model.over;
@@ -155,32 +157,32 @@ module _
       same-length = stepped .only-top .same-length ∙ led .same-length;
     }
 
-    entry-in : (kind : Kind) → EntryIn g w′ (ended cells done height Listing.Nothing .walk) kind (record { kind = kind; steps = done; input = e } ∷ [])
+    entry-in : (kind : Kind) → EntryIn g w′ (ended cells done height Unlisted .walk) kind (record { kind = kind; steps = done; input = e } ∷ [])
     entry-in kind = (e, refl, path-now .stands .input, path-now .typed)
 
-    pub arrive-demands : n ≡ Next.Demands → Makes g w₀ w′ bound (ended cells done height Listing.Reached) first
+    pub arrive-demands : n ≡ Next.Demands → Makes g w₀ w′ bound (ended cells done height (Listed RE)) first
     arrive-demands is =
-        behind Listing.Reached _ (λ es. demanded (g .program) _ (g .limit - done) done e s cs es (means Next.Demands is)) (entry-in RE)
+        behind (Listed RE) _ (λ es. demanded (g .program) _ (g .limit - done) done e s cs es (means Next.Demands is)) (entry-in RE)
 
-    pub arrive-stops : n ≡ Next.Stops → Makes g w₀ w′ bound (ended cells done height Listing.Nothing) first
+    pub arrive-stops : n ≡ Next.Stops → Makes g w₀ w′ bound (ended cells done height Unlisted) first
     arrive-stops is =
         let (why, next) = means Next.Stops is in
-        behind Listing.Nothing [] (λ es. stopped (g .program) _ (g .limit - done) done e s cs es why next) refl
+        behind Unlisted [] (λ es. stopped (g .program) _ (g .limit - done) done e s cs es why next) refl
 
     -- the steps are used up
     module _ (late : g .limit ≤ done) where
       none : g .limit - done ≡ zero
       none = omega arith
 
-      pub arrive-spent-going : {to : Registers} → n ≡ Next.Goes to → Makes g w₀ w′ bound (ended cells done height Listing.Unfinished) first
+      pub arrive-spent-going : {to : Registers} → n ≡ Next.Goes to → Makes g w₀ w′ bound (ended cells done height (Listed UN)) first
       arrive-spent-going {to} is =
           let (s′, next, follows) = means (Next.Goes to) is in
-          behind Listing.Unfinished _ (λ es. spent-going (g .program) _ (g .limit - done) done e s cs es s′ none next) (entry-in UN)
+          behind (Listed UN) _ (λ es. spent-going (g .program) _ (g .limit - done) done e s cs es s′ none next) (entry-in UN)
 
-      pub arrive-spent-waiting : {x : ℕ} → n ≡ Next.Waits x → Makes g w₀ w′ bound (ended cells done height Listing.Unfinished) first
+      pub arrive-spent-waiting : {x : ℕ} → n ≡ Next.Waits x → Makes g w₀ w′ bound (ended cells done height (Listed UN)) first
       arrive-spent-waiting {x} is =
           let (q, next, cell) = means (Next.Waits x) is in
-          behind Listing.Unfinished _ (λ es. spent-waiting (g .program) _ (g .limit - done) done e s cs es q none next) (entry-in UN)
+          behind (Listed UN) _ (λ es. spent-waiting (g .program) _ (g .limit - done) done e s cs es q none next) (entry-in UN)
 
     -- or not
     module _ (in-time : done < g .limit) where
@@ -247,7 +249,7 @@ module _
 
         pub arrive-waits :
             {w″ : List ℕ} → Pushes (g .stack) w′ w″ height x (r .frame) (r .records) cells done
-            → Makes g w₀ w″ bound (ended cells done (height + 1) Listing.Nothing) first
+            → Makes g w₀ w″ bound (ended cells done (height + 1) Unlisted) first
         arrive-waits {w″} pushes =
             let one : height + 1 ≡ suc height = omega arith in
             let high = choices-pushed given path-now in-time (now .no-higher) (asked .1) cell-now pushes choices-stay in

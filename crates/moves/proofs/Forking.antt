@@ -2,6 +2,7 @@
 -- Rests on specs/Moving, Arriving, and choices' Keeping, Taking and Weights.
 use Prim.Native.Nat.{ℕ, suc, _+_, _*_, _-_, _≤_, _<_}
 use mathlib.Core.Path.{_≡_, refl, sym, _∙_, ap, subst}
+use mathlib.Core.Bool.{true}
 use mathlib.Core.List.{List, _∷_}
 use mathlib.Core.Option.{some, Option·some-injective}
 use native.Mathlib.Omega.{arith}
@@ -167,7 +168,7 @@ module _ {g : Setting} (given : Given g) {w : List ℕ} {h n i k : ℕ} (f : For
 
         -- where the walk is, the model's fork arrives
         pub taken :
-            ComesTo g w w₂ (weight (g .stack) (g .limit) w (suc h)) (record { paths = 1; registers = to; cells = choiceWord (g .stack) w h 4 + k; done = d + 1; height = h + 1 })
+            ComesTo g w w₂ (weight (g .stack) (g .limit) w (suc h)) (record { going = true; registers = to; cells = choiceWord (g .stack) w h 4 + k; done = d + 1; height = h + 1 })
             (takeFork (g .program) (leastDepths (g .program .types)) c (record { constructor = n; fields = k }) (f .next-at .rest) (f .before)) to
         taken =
             let one : suc d ≡ d + 1 = omega arith in
@@ -213,14 +214,14 @@ module _
         stepped-there label bound = rw (x-is, frame-is, records-is) at (stepped label bound)
 
         pub fork-takes :
-            Takes file types functions w w₂ base stack h n i k (record { paths = 1; registers = to; cells = cells + k; done = done + 1; height = h + 1 })
+            Takes file types functions w w₂ base stack h n i k (record { going = true; registers = to; cells = cells + k; done = done + 1; height = h + 1 })
         fork-takes = (refl, taken-there)
           where
             taken-there :
                 (least : List ℕ) (p : Program) (limit : ℕ) → (given : Given (setting file types functions least p limit base stack))
                 → (f : Forking (setting file types functions least p limit base stack) w h n i k)
                 → ComesTo (setting file types functions least p limit base stack) w w₂ (weight stack limit w (suc h))
-                (record { paths = 1; registers = to; cells = cells + k; done = done + 1; height = h + 1 })
+                (record { going = true; registers = to; cells = cells + k; done = done + 1; height = h + 1 })
                 (takeFork p (leastDepths (p .types)) (f .choice) (record { constructor = n; fields = k }) (f .next-at .rest) (f .before)) to
             taken-there least p limit given f =
                 rw (cells-is, done-is) (taken given f bound-there refl (stepped-there (p .label) (fork-bound least p limit given f)) refl)

@@ -1,11 +1,13 @@
 -- One move: the path that the search goes on with, by where it stands: the one under way, or behind its end the one to which it returns, or none;
 -- and the arrival of that path.
 -- Rests on specs/Moving, on Arriving and on choices' Returning and Weights.
-use Prim.Native.Nat.{ℕ, zero, suc, _-_, _<_}
+use Prim.Native.Nat.{ℕ, _-_, _<_}
 use mathlib.Core.Path.{_≡_, refl, sym, _∙_, ap, subst}
+use mathlib.Core.Bool.{true, false}
 use mathlib.Core.List.{List, [], append-nil}
 use native.Mathlib.Omega.{arith}
 use lib.ListN.{length}
+use Rattle.reach.specs.declared.PathEnd.the-variants.{Unlisted}
 use Rattle.reach.specs.Syntax.{Program}
 use Rattle.reach.specs.Types.{leastDepths}
 use Rattle.reach.specs.Search.{Entry}
@@ -21,7 +23,6 @@ use Rattle.choices.proofs.Weights.{weight-some}
 use Rattle.moves.specs.declared.Position.{Position}
 use Rattle.moves.specs.declared.Position.the-variants as Position
 use Rattle.moves.specs.declared.Walk.{Walk}
-use Rattle.moves.specs.declared.Listing.the-variants as Listing
 use Rattle.moves.specs.declared.Moved.{Moved}
 use Rattle.moves.specs.Moving.{positionOf, endedWalk, PositionAt, StandsAs, positionWeight, walkWeight, ComesTo, ResumesAt, SomeUnderWay, Arrives, SomeForking, Takes, ActiveAt, Active, Resumable, Resumes, Standing, Moves}
 use Rattle.moves.proofs.Arriving.{ended, moves-none}
@@ -37,20 +38,15 @@ unfolding moveFrom
 move-on p table x left done cs es is-left is-done =
     ap (λ (l : ℕ). Model.arrive p table l (x .done) (x .input) (x .state) cs es) is-left ∙ ap (λ (d : ℕ). Model.arrive p table left d (x .input) (x .state) cs es) is-done
 
--- on a path it stands on its registers
-pub on-path : (paths : ℕ) (r : Registers) → (paths ≡ 0 → ⊥) → positionOf paths r ≡ Position.On r
-on-path zero r some = absurd (some refl)
-on-path (suc n) r some = refl
-
 -- The path that the search goes on with.
 module _ (file types functions least : List ℕ) (w : List ℕ) (base stack : ℕ) (x : Walk) where
   abbrev position : Position
-  position = positionOf (x .paths) (x .registers)
+  position = positionOf (x .going) (x .registers)
 
   -- Behind the end of a path.
-  module _ (is-over : x .paths ≡ 0) where
+  module _ (is-over : x .going ≡ false) where
     stands-over : position ≡ Position.Over
-    stands-over = ap (λ n. positionOf n (x .registers)) is-over
+    stands-over = ap (λ going. positionOf going (x .registers)) is-over
 
     -- there are choice points
     behind :
@@ -129,13 +125,13 @@ module _ (file types functions least : List ℕ) (w : List ℕ) (base stack : �
             })
 
   -- On a path: it is the path under way.
-  pub on-resumes : (x .paths ≡ 0 → ⊥) → Resumes file types functions least w w base stack x x
-  on-resumes some p limit at cs given stands =
+  pub on-resumes : x .going ≡ true → Resumes file types functions least w w base stack x x
+  on-resumes going p limit at cs given stands =
       subst (ResumesAt (setting file types functions least p limit base stack) w w (walkWeight stack limit w x) x (moveFrom p (leastDepths (p .types)) at cs)) (sym is-on)
       (by-position at (subst (λ y. PositionAt (setting file types functions least p limit base stack) w (x .cells) (x .done) (x .height) y at cs) is-on stands))
     where
       is-on : position ≡ Position.On (x .registers)
-      is-on = on-path (x .paths) (x .registers) some
+      is-on = ap (λ y. positionOf y (x .registers)) going
 
       by-position :
           (y : Model.Position) → PositionAt (setting file types functions least p limit base stack) w (x .cells) (x .done) (x .height) (Position.On (x .registers)) y cs
@@ -156,7 +152,7 @@ module _ (file types functions least : List ℕ) (w : List ℕ) (base stack : �
 -- The move: that path arrives.
 module _
     (file types functions least : List ℕ) (label : ℕ) (w w₁ : List ℕ) (limit base stack : ℕ) (x x₁ : Walk)
-    (resumes : Resumes file types functions least w w₁ base stack x x₁) {position : Position} (position-is : position ≡ positionOf (x₁ .paths) (x₁ .registers))
+    (resumes : Resumes file types functions least w w₁ base stack x x₁) {position : Position} (position-is : position ≡ positionOf (x₁ .going) (x₁ .registers))
   where
     -- what the search goes on with, by where that stands
     resumed :
@@ -168,7 +164,7 @@ module _
         (sym position-is ∙ is) (resumes p limit at cs given stands)
 
     -- there is none
-    pub none-moves : position ≡ Position.Over → Moves file types functions least label w w₁ limit base stack x (ended (x₁ .cells) (x₁ .done) (x₁ .height) Listing.Nothing)
+    pub none-moves : position ≡ Position.Over → Moves file types functions least label w w₁ limit base stack x (ended (x₁ .cells) (x₁ .done) (x₁ .height) Unlisted)
     none-moves is p at cs given sought stands = resumed Position.Over is p at cs given stands
 
     module _ {r : Registers} (is : position ≡ Position.On r) where

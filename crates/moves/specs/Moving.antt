@@ -1,15 +1,19 @@
 -- Where the search stands between two moves, in the words and in numbers, and what `make_moves` promises: it makes moves of reach's
 -- Moves, those of one path to its end.
 -- Rests on reach's Moves, on choices' Choices, Weights and Returning, and on the types of src/lib.rt.
-use Prim.Native.Nat.{ℕ, zero, suc, _+_, _-_, _≤_, _<_}
+use Prim.Native.Nat.{ℕ, suc, _+_, _-_, _≤_, _<_}
 use mathlib.Core.Path.{_≡_}
+use mathlib.Core.Bool.{Bool, true, false}
 use mathlib.Core.List.{List, [], _∷_, _++_}
 use lib.ListN.{length}
 use Rattle.reach.specs.Syntax.{Program, sourceTypes}
 use Rattle.reach.specs.Parts.{Parts}
 use Rattle.reach.specs.Types.{Typed, sourceSlots, leastDepths}
 use Rattle.reach.specs.Eval.{State}
-use Rattle.reach.specs.Search.{Kind, RE, UN, Entry}
+use Rattle.reach.specs.declared.Kind.{Kind}
+use Rattle.reach.specs.declared.PathEnd.{PathEnd}
+use Rattle.reach.specs.declared.PathEnd.the-variants.{Unlisted, Listed}
+use Rattle.reach.specs.Search.{Entry}
 use Rattle.reach.specs.Moves as Model
 use Rattle.reach.specs.Moves.{Choice, takeFork, moveFrom}
 use Rattle.machine.specs.Cells.{Cells}
@@ -20,19 +24,17 @@ use Rattle.choices.specs.Returning.{setting, NextAt}
 use Rattle.moves.specs.declared.Position.{Position}
 use Rattle.moves.specs.declared.Position.the-variants as Position
 use Rattle.moves.specs.declared.Walk.{Walk}
-use Rattle.moves.specs.declared.Listing.{Listing}
-use Rattle.moves.specs.declared.Listing.the-variants as Listing
 use Rattle.moves.specs.declared.Moved.{Moved}
 
 -- where a walk stands: behind the end of a path, or on one
-abbrev pub positionOf : ℕ → Registers → Position
-positionOf zero r = Position.Over
-positionOf (suc n) r = Position.On r
+abbrev pub positionOf : Bool → Registers → Position
+positionOf false r = Position.Over
+positionOf true r = Position.On r
 
 -- the walk behind the end of a path, whose registers say nothing
 abbrev pub endedWalk : ℕ → ℕ → ℕ → Walk
 endedWalk cells done height =
-    record { paths = 0; registers = record { kind = 0; place = 0; env = 0; frame = 0; records = 0 }; cells = cells; done = done; height = height }
+    record { going = false; registers = record { kind = 0; place = 0; env = 0; frame = 0; records = 0 }; cells = cells; done = done; height = height }
 
 -- A path under way: the steps done are no more than the limit, and there are no more choice points than steps.
 pub record UnderWay (g : Setting) (w : List ℕ) (cells done height : ℕ) (r : Registers) (e : Parts) (s : State) (cs : List Choice) : Type 0 where
@@ -50,7 +52,7 @@ PositionAt g w cells done height Position.Over (Model.on x) cs = ⊥
 PositionAt g w cells done height Position.Over Model.over cs = (some : ℕ) × (records : ℕ) × ChoicesAt g w height some records cs
 
 abbrev pub StandsAs : Setting → List ℕ → Walk → Model.Position → List Choice → Type 0
-StandsAs g w x position cs = PositionAt g w (x .cells) (x .done) (x .height) (positionOf (x .paths) (x .registers)) position cs
+StandsAs g w x position cs = PositionAt g w (x .cells) (x .done) (x .height) (positionOf (x .going) (x .registers)) position cs
 
 -- the entry of the input that the cells stand for
 abbrev pub EntryIn : Setting → List ℕ → Walk → Kind → List Entry → Type 0
@@ -59,10 +61,9 @@ EntryIn g w x kind new =
     × Cells (g .program .types) (sourceSlots (g .program)) w (x .cells) e × Typed (g .program .types) (sourceTypes (g .program)) e
 
 -- the entries that a path lists at its end: none, or one
-abbrev pub Lists : Setting → List ℕ → Walk → Listing → List Entry → Type 0
-Lists g w x Listing.Nothing new = new ≡ []
-Lists g w x Listing.Reached new = EntryIn g w x RE new
-Lists g w x Listing.Unfinished new = EntryIn g w x UN new
+abbrev pub Lists : Setting → List ℕ → Walk → PathEnd → List Entry → Type 0
+Lists g w x Unlisted new = new ≡ []
+Lists g w x (Listed kind) new = EntryIn g w x kind new
 
 -- the weight of where the search stands
 abbrev pub positionWeight : ℕ → ℕ → Position → ℕ
@@ -70,7 +71,7 @@ positionWeight limit done (Position.On r) = power (limit - done)
 positionWeight limit done Position.Over = 0
 
 abbrev pub walkWeight : ℕ → ℕ → List ℕ → Walk → ℕ
-walkWeight stack limit w x = positionWeight limit (x .done) (positionOf (x .paths) (x .registers)) + weight stack limit w (x .height)
+walkWeight stack limit w x = positionWeight limit (x .done) (positionOf (x .going) (x .registers)) + weight stack limit w (x .height)
 
 -- What is done is what the model does in its first move and so many more, whatever is listed already; it lists these entries, and is lighter than so
 -- much.
@@ -101,7 +102,7 @@ pub record ComesTo (g : Setting) (w w′ : List ℕ) (bound : ℕ) (x : Walk) (m
 abbrev pub ResumesAt : Setting → List ℕ → List ℕ → ℕ → Walk → (List Entry → Model.Walk) → Position → Type 0
 ResumesAt g w w′ bound x model (Position.On r) = ComesTo g w w′ bound x model r
 ResumesAt g w w′ bound x model Position.Over =
-    Makes g w w′ bound (record { walk = endedWalk (x .cells) (x .done) (x .height); listing = Listing.Nothing }) model
+    Makes g w w′ bound (record { walk = endedWalk (x .cells) (x .done) (x .height); listing = Unlisted }) model
 
 -- some path is under way
 abbrev pub SomeUnderWay : List ℕ → List ℕ → List ℕ → ℕ → List ℕ → ℕ → ℕ → ℕ → ℕ → ℕ → ℕ → Registers → Type 0
@@ -132,7 +133,7 @@ SomeForking file types functions w base stack h n i k =
 -- the constructor is taken
 abbrev pub Takes : List ℕ → List ℕ → List ℕ → List ℕ → List ℕ → ℕ → ℕ → ℕ → ℕ → ℕ → ℕ → Walk → Type 0
 Takes file types functions w w′ base stack h n i k x =
-    (x .paths ≡ 1)
+    (x .going ≡ true)
     × ((least : List ℕ) (p : Program) (limit : ℕ) → Given (setting file types functions least p limit base stack)
     → (f : Forking (setting file types functions least p limit base stack) w h n i k)
     → ComesTo (setting file types functions least p limit base stack) w w′ (weight stack limit w (suc h)) x
@@ -144,7 +145,7 @@ ActiveAt (Position.On r) h = Unit {0}
 ActiveAt Position.Over h = 0 < h
 
 abbrev pub Active : Walk → Type 0
-Active x = ActiveAt (positionOf (x .paths) (x .registers)) (x .height)
+Active x = ActiveAt (positionOf (x .going) (x .registers)) (x .height)
 
 -- it stands somewhere, in a search of any label
 abbrev pub Resumable : List ℕ → List ℕ → List ℕ → List ℕ → List ℕ → ℕ → ℕ → Walk → Type 0
@@ -158,7 +159,7 @@ Resumes file types functions least w w′ base stack x x′ =
     (p : Program) (limit : ℕ) (position : Model.Position) (cs : List Choice) → Given (setting file types functions least p limit base stack)
     → StandsAs (setting file types functions least p limit base stack) w x position cs
     → ResumesAt (setting file types functions least p limit base stack) w w′ (walkWeight stack limit w x) x′ (moveFrom p (leastDepths (p .types)) position cs)
-    (positionOf (x′ .paths) (x′ .registers))
+    (positionOf (x′ .going) (x′ .registers))
 
 -- it stands somewhere, in a search of this label
 abbrev pub Standing : List ℕ → List ℕ → List ℕ → List ℕ → ℕ → List ℕ → ℕ → ℕ → ℕ → Walk → Type 0

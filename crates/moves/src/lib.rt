@@ -1,6 +1,7 @@
 // The moves of the search: a step of the path under way, a fork to its first constructor, or a return to the last choice point with
 // a constructor left, taking it. One call makes the moves of a path up to its end. Rests on crates cells, steps and choices.
 ghost use mathlib.Core.Path.{_≡_};
+ghost use mathlib.Core.Bool.{false};
 ghost use Prim.Native.Nat.{_≤_};
 ghost use Rattle.skipping.specs.Ends.{Ends};
 ghost use Rattle.moves.specs.Moving.{positionOf, endedWalk, SomeUnderWay, Arrives, SomeForking, Takes, Active, Resumable, Resumes, Standing, Moves};
@@ -10,6 +11,8 @@ use choices::choice_word;
 use choices::find_return;
 use choices::push_choice;
 use depths::Depths;
+use reach::Kind;
+use reach::PathEnd;
 use steps::Halt;
 use steps::Registers;
 use steps::enter_part;
@@ -21,37 +24,30 @@ pub enum Position {
     Over,
 }
 
-// The search between two moves: 1 where it stands on a path or 0 behind the end of one, the registers of the path, the cells in use,
+// The search between two moves: whether it stands on a path or behind the end of one, the registers of the path, the cells in use,
 // the steps done, and how many choice points there are.
 pub struct Walk {
-    pub paths: usize,
+    pub going: bool,
     pub registers: Registers,
     pub cells: usize,
     pub done: usize,
     pub height: usize,
 }
 
-// What a path lists of the input in the cells at its end: nothing, or that it reaches the target, or that its steps are used up.
-pub enum Listing {
-    Nothing,
-    Reached,
-    Unfinished,
-}
-
-// The search after the moves of a path, and what the path lists.
+// The search after the moves of a path, and what the path lists of the input in the cells at its end.
 pub struct Moved {
     pub walk: Walk,
-    pub listing: Listing,
+    pub listing: PathEnd,
 }
 
-// Where a walk with so many paths and these registers stands.
-fn position_of(paths: usize, registers: Registers) -> Position
-    ensures { λ r. ⌜ r ≡ positionOf paths registers ⌝ }
+// Where a walk stands: on a path with these registers, or behind the end of one.
+fn position_of(going: bool, registers: Registers) -> Position
+    ensures { λ r. ⌜ r ≡ positionOf going registers ⌝ }
 {
-    if paths == 0 {
-        return Position::Over;
+    if going {
+        return Position::On(registers);
     }
-    Position::On(registers)
+    Position::Over
 }
 
 // The walk behind the end of a path, whose registers say nothing.
@@ -59,7 +55,7 @@ fn ended(cells: usize, done: usize, height: usize) -> Walk
     ensures { λ x. ⌜ x ≡ endedWalk cells done height ⌝ }
 {
     Walk {
-        paths: 0,
+        going: false,
         registers: Registers {
             kind: 0,
             place: 0,
@@ -74,7 +70,7 @@ fn ended(cells: usize, done: usize, height: usize) -> Walk
 }
 
 // Behind the end of a path, with what it lists.
-fn over(cells: usize, done: usize, height: usize, listing: Listing) -> Moved
+fn over(cells: usize, done: usize, height: usize, listing: PathEnd) -> Moved
     ensures { λ m. ⌜ m ≡ record { walk = endedWalk cells done height; listing = listing } ⌝ }
 {
     Moved {
@@ -118,15 +114,15 @@ fn arrive<'a>(
     let at = ran.registers;
     let total = done + ran.steps;
     match halt {
-        Halt::Demands => return over(cells, total, height, Listing::Reached),
-        Halt::Stops => return over(cells, total, height, Listing::Nothing),
-        Halt::Spent => return over(cells, total, height, Listing::Unfinished),
+        Halt::Demands => return over(cells, total, height, PathEnd::Listed(Kind::RE)),
+        Halt::Stops => return over(cells, total, height, PathEnd::Unlisted),
+        Halt::Spent => return over(cells, total, height, PathEnd::Listed(Kind::UN)),
         Halt::Waits(x) => {
             if limit <= total {
-                return over(cells, total, height, Listing::Unfinished);
+                return over(cells, total, height, PathEnd::Listed(Kind::UN));
             }
             push_choice(work, stack, height, x, at.frame, at.records, cells, total);
-            return over(cells, total, height + 1, Listing::Nothing);
+            return over(cells, total, height + 1, PathEnd::Unlisted);
         }
     }
 }
@@ -165,7 +161,7 @@ fn take_fork<'a>(
     };
     let to = enter_part(file, ends, work, base, from, c, k, cells);
     Walk {
-        paths: 1,
+        going: true,
         registers: to,
         cells: cells + k,
         done: steps + 1,
@@ -185,7 +181,7 @@ fn go_back<'a>(
     stack: usize,
     walk: Walk,
 ) -> Walk
-    requires { ⌜ Resumable (now file) (now types) (now functions) (least .of) (now work) base stack walk × (walk .paths ≡ 0) × Active walk ⌝ }
+    requires { ⌜ Resumable (now file) (now types) (now functions) (least .of) (now work) base stack walk × (walk .going ≡ false) × Active walk ⌝ }
     requires { ⌜ Ends (now file) (now types) (now functions) (now ends) ⌝ }
     ensures { λ x. ⌜ Resumes (now (file .entry)) (now (types .entry)) (now (functions .entry)) (least .of) (now (work .entry)) (now (work .exit)) base stack walk x ⌝ }
 {
@@ -225,10 +221,10 @@ fn resume<'a>(
     requires { ⌜ Ends (now file) (now types) (now functions) (now ends) ⌝ }
     ensures { λ x. ⌜ Resumes (now (file .entry)) (now (types .entry)) (now (functions .entry)) (least .of) (now (work .entry)) (now (work .exit)) base stack walk x ⌝ }
 {
-    if walk.paths == 0 {
-        return go_back(file, types, functions, ends, least, work, base, stack, walk);
+    if walk.going {
+        return walk;
     }
-    walk
+    go_back(file, types, functions, ends, least, work, base, stack, walk)
 }
 
 // The moves of the path that the search goes on with: it arrives at its state and goes on to its end.
@@ -251,9 +247,9 @@ pub fn make_moves<'a>(
 {
     let from = resume(file, types, functions, ends, least, work, base, stack, walk);
     let registers = from.registers;
-    let position = position_of(from.paths, registers);
+    let position = position_of(from.going, registers);
     let Position::On(r) = position else {
-        return over(from.cells, from.done, from.height, Listing::Nothing);
+        return over(from.cells, from.done, from.height, PathEnd::Unlisted);
     };
     arrive(
         file,

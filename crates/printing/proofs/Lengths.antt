@@ -13,18 +13,20 @@ use lib.Dec.{ltb, eqb}
 use borrow.Author.Tests.{ltb-true, ltb-false}
 use Rattle.reach.specs.declared.Refusal.{Refusal}
 use Rattle.reach.specs.declared.Refusal.the-variants.{ListFull}
-use Rattle.reach.specs.declared.Verdict.{Verdict}
 use Rattle.reach.specs.Base.{pick}
 use Rattle.reach.specs.Limits.{listLimit}
 use Rattle.reach.specs.Words.{numberOf, verdictWord}
 use Rattle.reach.specs.Places.{wordAt}
-use Rattle.reach.specs.Search.{Kind, RE, UN}
-use Rattle.reach.specs.Lists.{onSize, entrySize, Decoded, decoded, decodedFrom}
-use Rattle.reach.specs.Text.{spaced, lineFrom, decimal, kindWord, partWord, lineSaying, oneMore, count, share, totalSaying, refusalLine, verdictBy, lastLine, textFrom, listText}
+use Rattle.reach.specs.declared.Kind.{Kind}
+use Rattle.reach.specs.declared.Counts.{Counts}
+use Rattle.reach.specs.Lists.{onFound, kindAt, entrySize, Decoded, decoded, decodedFrom}
+use Rattle.reach.specs.Search.{oneMore, countFrom, counts, verdictBy}
+use Rattle.reach.specs.Text.{spaced, lineFrom, decimal, kindWord, partWord, lineSaying, share, totalLine, refusalLine, lastLine, textOf, listText}
 use Rattle.reach.proofs.ReadBack.{size-inside}
 use Rattle.printing.proofs.Digits.{decimal-one, decimal-more}
 use Rattle.printing.proofs.Lines.{kind-few, verdict-few, number-few}
-use Rattle.printing.proofs.Walk.{size-least}
+use Rattle.printing.specs.Counting.{Few}
+use Rattle.printing.proofs.Walk.{size-least, few-more}
 
 -- one digit, or one more than the tenth has
 digit-one : (n : ℕ) → n < 10 → length (decimal n) ≤ 1
@@ -96,7 +98,7 @@ unfolding decoded wordAt
 entry-short e six h =
     omega (
       arith,
-      saying-short (pick (eqb (getD e 0 0) 0x52) RE UN) (getD e 2 0 + 256 * getD e 3 0) (drop 6 e) (omega (arith, h 2, h 3))
+      saying-short (kindAt e 0) (getD e 2 0 + 256 * getD e 3 0) (drop 6 e) (omega (arith, h 2, h 3))
           (λ i. subst (λ (b : ℕ). b < 256) (sym (getD-drop 6 e i 0)) (h (6 + i))),
       length-drop 6 e,
     )
@@ -121,8 +123,8 @@ lines-short (suc more) l i h = go (λ n. lines-short more l (i + n) h) (entrySiz
     go : ((n : ℕ) → (length (flatMap lineSaying (decodedFrom more l (i + n))) ≤ 4 * (length l - (i + n)))
         × (length (decodedFrom more l (i + n)) ≤ length l - (i + n)))
         → (o : Option ℕ) → entrySize l i ≡ o
-        → (length (flatMap lineSaying (onSize [] (λ n. decoded (take n (drop i l)) ∷ decodedFrom more l (i + n)) o)) ≤ 4 * (length l - i))
-        × (length (onSize [] (λ n. decoded (take n (drop i l)) ∷ decodedFrom more l (i + n)) o) ≤ length l - i)
+        → (length (flatMap lineSaying (onFound [] (λ n. decoded (take n (drop i l)) ∷ decodedFrom more l (i + n)) o)) ≤ 4 * (length l - i))
+        × (length (onFound [] (λ n. decoded (take n (drop i l)) ∷ decodedFrom more l (i + n)) o) ≤ length l - i)
     go later none e = (omega arith, omega arith)
     go later (some n) e =
         let inside = size-inside l i n e in
@@ -134,16 +136,16 @@ lines-short (suc more) l i h = go (λ n. lines-short more l (i + n) h) (entrySiz
           omega arith,
         )
 
-count-few : (k : Kind) (ks : List Kind) → count k ks ≤ length ks
-unfolding count
-count-few k [] = omega arith
-count-few k (l ∷ ks) = go k l (count-few k ks)
-  where
-    go : (j i : Kind) → count k ks ≤ length ks → oneMore j i (count k ks) ≤ suc (length ks)
-    go RE RE h = omega arith
-    go RE UN h = omega arith
-    go UN RE h = omega arith
-    go UN UN h = omega arith
+count-few : (c : Counts) (n : ℕ) (ks : List Kind) → Few c n → Few (countFrom c ks) (n + length ks)
+unfolding countFrom
+count-few c n [] few = (omega arith, omega arith)
+count-few c n (k ∷ ks) few =
+    let rest = count-few (oneMore k c) (n + 1) ks (few-more k c n (n + 1) few (omega arith)) in
+    (omega (arith, rest .0), omega (arith, rest .1))
+
+counts-few : (ks : List Kind) → Few (counts ks) (length ks)
+unfolding counts
+counts-few ks = let few = count-few (record { reach = 0; unfinished = 0 }) 0 ks (omega arith, omega arith) in (omega (arith, few .0), omega (arith, few .1))
 
 -- The last line.
 
@@ -166,9 +168,12 @@ refusal-short why =
       digits-three (numberOf why) (omega (arith, number-few why)),
     )
 
-total-short : (a b : ℕ) (v : Verdict) → a ≤ 16777216 → b ≤ 16777216 → length (totalSaying a b v) ≤ 64
-unfolding totalSaying
-total-short a b v ha hb =
+total-short : (c : Counts) → Few c 16777216 → length (totalLine c) ≤ 64
+unfolding totalLine
+total-short c few =
+    let a = c .reach in
+    let b = c .unfinished in
+    let v = verdictBy c in
     omega (
       arith,
       line-length (0x74 ∷ 0x6f ∷ 0x74 ∷ 0x61 ∷ 0x6c ∷ []) (decimal a ∷ decimal b ∷ decimal (share a b) ∷ verdictWord v ∷ []),
@@ -177,30 +182,31 @@ total-short a b v ha hb =
       spaced-more (decimal (share a b)) (verdictWord v ∷ []),
       spaced-more (verdictWord v) [],
       spaced-none,
-      digits-eight a (omega arith),
-      digits-eight b (omega arith),
+      digits-eight a (omega (arith, few .0)),
+      digits-eight b (omega (arith, few .1)),
       digits-three (share a b) (omega (arith, share-short a b)),
       verdict-few v,
     )
 
-last-short : (full : Bool) (a b : ℕ) → a ≤ 16777216 → b ≤ 16777216 → length (lastLine full a b) ≤ 64
+last-short : (full : Bool) (c : Counts) → Few c 16777216 → length (lastLine full c) ≤ 64
 unfolding lastLine
-last-short true a b ha hb = refusal-short ListFull
-last-short false a b ha hb = total-short a b (verdictBy a b) ha hb
+last-short true c few = refusal-short ListFull
+last-short false c few = total-short c few
 
 -- the whole text, for any limit of the bytes that count up to 16,777,216
 text-within : (n : ℕ) (full : Bool) (l : List ℕ) → n ≤ 16777216 → Bytes l
-    → length (textFrom full 0 0 (decodedFrom (length (take n l)) (take n l) 0)) ≤ 4 * length l + 64
-unfolding textFrom
+    → length (textOf full (decodedFrom (length (take n l)) (take n l) 0)) ≤ 4 * length l + 64
+unfolding textOf
 text-within n full l limit h =
     let bytes : Bytes (take n l) = part-bytes l 0 n h in
     let ds = decodedFrom (length (take n l)) (take n l) 0 in
     let kinds = map (λ (d : Decoded). d .kind) ds in
     let short = lines-short (length (take n l)) (take n l) 0 bytes in
-    let few = length-kinds ds in
+    let as-many = length-kinds ds in
     let taken = length-take n l in
-    let last = last-short full (0 + count RE kinds) (0 + count UN kinds) (omega (arith, count-few RE kinds)) (omega (arith, count-few UN kinds)) in
-    omega (arith, length-append (flatMap lineSaying ds) (lastLine full (0 + count RE kinds) (0 + count UN kinds)))
+    let few = counts-few kinds in
+    let last = last-short full (counts kinds) (omega (arith, few .0), omega (arith, few .1)) in
+    omega (arith, length-append (flatMap lineSaying ds) (lastLine full (counts kinds)))
   where
     length-kinds : (ds : List Decoded) → length (map (λ (d : Decoded). d .kind) ds) ≡ length ds
     length-kinds [] = refl

@@ -11,12 +11,15 @@ use lib.Seq.{drop-cons}
 use lib.Dec.{eqb}
 use Rattle.reach.specs.declared.Refusal.{Refusal}
 use Rattle.reach.specs.declared.Refusal.the-variants as refusal
+use Rattle.reach.specs.declared.Counts.{Counts}
 use Rattle.reach.specs.declared.Verdict.{Verdict}
 use Rattle.reach.specs.declared.Verdict.the-variants.{Found, Undecided, None}
 use Rattle.reach.specs.Base.{pick}
 use Rattle.reach.specs.Words.{numberOf, verdictWord}
-use Rattle.reach.specs.Search.{Kind, RE, UN}
-use Rattle.reach.specs.Text.{space, lineFeed, spaced, lineFrom, decimal, kindWord, partWord, lineSaying, share, totalSaying, refusalLine}
+use Rattle.reach.specs.declared.Kind.{Kind}
+use Rattle.reach.specs.declared.Kind.the-variants.{RE, UN}
+use Rattle.reach.specs.Search.{verdictBy}
+use Rattle.reach.specs.Text.{space, lineFeed, spaced, lineFrom, decimal, kindWord, partWord, lineSaying, share, totalLine, refusalLine}
 use Rattle.printing.specs.Writing.{Puts}
 use Rattle.printing.proofs.Writing.{puts-none, puts-then, Left, left-next, left-none}
 use Rattle.printing.proofs.Digits.{decimal-few, part-few}
@@ -53,11 +56,11 @@ module _ {t u v w x : List ℕ} {at m n o r : ℕ} where
 
 -- The total line: the word, the two counts, the share, the verdict, a line feed.
 module _ {t u v w x y z : List ℕ} {at m n o p q r : ℕ} where
-  pub total-put : (a b : ℕ) (g : Verdict) → Puts t at (0x74 ∷ 0x6f ∷ 0x74 ∷ 0x61 ∷ 0x6c ∷ []) u m → Puts u m (space ∷ decimal a) v n
-      → Puts v n (space ∷ decimal b) w o → Puts w o (space ∷ decimal (share a b)) x p → Puts x p (space ∷ verdictWord g) y q
-      → Puts y q (lineFeed ∷ []) z r → Puts t at (totalSaying a b g) z r
-  unfolding totalSaying lineFrom spaced flatMap
-  total-put a b g word one two three four end =
+  pub total-put : (c : Counts) → Puts t at (0x74 ∷ 0x6f ∷ 0x74 ∷ 0x61 ∷ 0x6c ∷ []) u m → Puts u m (space ∷ decimal (c .reach)) v n
+      → Puts v n (space ∷ decimal (c .unfinished)) w o → Puts w o (space ∷ decimal (share (c .reach) (c .unfinished))) x p
+      → Puts x p (space ∷ verdictWord (verdictBy c)) y q → Puts y q (lineFeed ∷ []) z r → Puts t at (totalLine c) z r
+  unfolding totalLine lineFrom spaced flatMap
+  total-put c word one two three four end =
       puts-then word (puts-then (puts-then one (puts-then two (puts-then three (puts-then four (puts-none y q))))) end)
 
 -- The line of a refusal: the word, the number, a line feed.

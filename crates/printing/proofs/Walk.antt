@@ -8,19 +8,22 @@ use mathlib.Core.Option.{Option, none, some, Option·none-ne-some, Option·some-
 use native.Mathlib.Omega.{arith}
 use lib.ListN.{length, getD, take, drop, length-take, length-drop}
 use lib.Seq.{getD-take, getD-drop}
-use lib.Dec.{leb, eqb}
-use Rattle.reach.specs.Base.{pick}
+use lib.Dec.{leb}
 use Rattle.reach.specs.Places.{wordAt}
-use Rattle.reach.specs.Search.{Kind, RE, UN}
+use Rattle.reach.specs.declared.Counts.{Counts}
+use Rattle.reach.specs.declared.Kind.{Kind}
+use Rattle.reach.specs.declared.Kind.the-variants.{RE, UN}
+use Rattle.reach.specs.Search.{oneMore, countFrom, counts}
 use Rattle.reach.specs.Limits.{listLimit}
-use Rattle.reach.specs.Lists.{knownMark, entrySize, roomOf, Decoded, decoded, decodedFrom}
-use Rattle.reach.specs.Text.{lineSaying, oneMore, count, lastLine, textFrom, listText}
+use Rattle.reach.specs.Lists.{knownMark, kindAt, entrySize, roomOf, Decoded, decoded, decodedFrom}
+use Rattle.reach.specs.Text.{lineSaying, lastLine, textOf, listText}
 use Rattle.reach.proofs.Base.{picked}
 use Rattle.reach.proofs.ReadBack.{counted}
 use Rattle.entries.specs.declared.Size.{Size}
 use Rattle.entries.specs.declared.Size.the-variants.{Bytes, Missing}
 use Rattle.entries.specs.Spans.{sizeOf}
 use Rattle.entries.proofs.Walk.{stands, stands-inside}
+use Rattle.printing.specs.Counting.{Few}
 use Rattle.printing.specs.Writing.{Puts, Fronts}
 use Rattle.printing.proofs.Writing.{Left, left-next, left-last, puts-front}
 
@@ -33,42 +36,30 @@ size-least l i n =
     (λ t h. omega (arith, Option·some-injective (6 + wordAt l (i + 4)) n h))
     (λ t h. absurd (Option·none-ne-some n h))
 
--- the kind that a mark's first byte stands for
-abbrev pub kindBy : ℕ → Kind
-kindBy mark = pick (eqb mark 0x52) RE UN
+-- what is left of the text, so many entries of each kind having gone before
+unfoldable pub textFrom : Bool → Counts → List Decoded → List ℕ
+textFrom full c ds = flatMap lineSaying ds ++ lastLine full (countFrom c (map (λ (d : Decoded). d .kind) ds))
 
-pub one-few : (k l : Kind) → count k (l ∷ []) ≤ 1
-unfolding count
-one-few RE RE = omega arith
-one-few RE UN = omega arith
-one-few UN RE = omega arith
-one-few UN UN = omega arith
-
--- one more of a kind, counted before or behind the others
-one-first : (k l : Kind) (n m : ℕ) → n + oneMore k l m ≡ n + oneMore k l 0 + m
-one-first RE RE n m = omega arith
-one-first RE UN n m = omega arith
-one-first UN RE n m = omega arith
-one-first UN UN n m = omega arith
+-- before the first entry
+pub text-whole : (full : Bool) (ds : List Decoded) → textOf full ds ≡ textFrom full (record { reach = 0; unfinished = 0 }) ds
+unfolding textOf counts textFrom
+text-whole full ds = refl
 
 -- no entry is left
-text-end : (full : Bool) (a b : ℕ) → textFrom full a b [] ≡ lastLine full a b
-unfolding textFrom flatMap count
-text-end full a b =
-    let y : a + 0 ≡ a = omega arith in
-    let z : b + 0 ≡ b = omega arith in
-    rw (y, z)
+text-end : (full : Bool) (c : Counts) → textFrom full c [] ≡ lastLine full c
+unfolding textFrom flatMap countFrom
+text-end full c = refl
 
 -- one is left, and others
-text-more : (full : Bool) (a b : ℕ) (d : Decoded) (ds : List Decoded)
-    → textFrom full a b (d ∷ ds) ≡ lineSaying d ++ textFrom full (a + count RE (d .kind ∷ [])) (b + count UN (d .kind ∷ [])) ds
-unfolding textFrom flatMap count
-text-more full a b d ds =
-    rw (
-      one-first RE (d .kind) a (count RE (map (λ (d : Decoded). d .kind) ds)),
-      one-first UN (d .kind) b (count UN (map (λ (d : Decoded). d .kind) ds)),
-      append-assoc,
-    )
+text-more : (full : Bool) (c : Counts) (d : Decoded) (ds : List Decoded)
+    → textFrom full c (d ∷ ds) ≡ lineSaying d ++ textFrom full (oneMore (d .kind) c) ds
+unfolding textFrom flatMap countFrom
+text-more full c d ds = append-assoc (lineSaying d) _ _
+
+-- with one more entry the counts are at most one more
+pub few-more : (k : Kind) (c : Counts) (n m : ℕ) → Few c n → n < m → Few (oneMore k c) m
+few-more RE c n m few h = (omega (arith, few .0), omega (arith, few .1))
+few-more UN c n m few h = (omega (arith, few .0), omega (arith, few .1))
 
 decoded-none : (more : ℕ) (l : List ℕ) (i : ℕ) → entrySize l i ≡ none → decodedFrom more l i ≡ []
 unfolding decodedFrom
@@ -86,10 +77,12 @@ unfolding decodedFrom
 decoded-more zero l i n h e = absurd (omega arith)
 decoded-more (suc more) l i n h e = let z : suc more - 1 ≡ more = omega arith in rw (z, e)
 
--- the mark is the first byte of the part
-decoded-kind : (l : List ℕ) (i n : ℕ) → 0 < n → decoded (take n (drop i l)) .kind ≡ kindBy (getD l i 0)
-unfolding decoded
-decoded-kind l i n h = let z : i + 0 ≡ i = omega arith in rw (getD-take n (drop i l) 0 0 h, getD-drop i l 0 0, z)
+-- the mark stands at the beginning of the part
+decoded-kind : (l : List ℕ) (i n : ℕ) → 1 < n → decoded (take n (drop i l)) .kind ≡ kindAt l i
+unfolding decoded kindAt
+decoded-kind l i n h =
+    let z : i + 0 ≡ i = omega arith in
+    rw (getD-take n (drop i l) 0 0 (omega arith), getD-take n (drop i l) 1 0 h, getD-drop i l 0 0, getD-drop i l 1 0, z)
 
 module _ (l : List ℕ) (at : ℕ) {r : Size} (sized : sizeOf r ≡ entrySize l at) where
   -- the part that an entry fills has a whole header and ends inside the list
@@ -103,37 +96,37 @@ module _ (l : List ℕ) (at : ℕ) {r : Size} (sized : sizeOf r ≡ entrySize l 
   pub size-some : {n : ℕ} → r ≡ Bytes n → 6 ≤ n
   size-some {n} e = size-least l at n (stands l at sized e)
 
-  module _ (full : Bool) {t u whole : List ℕ} {to : ℕ} (a b more : ℕ) (left : Left t 0 whole u to (textFrom full a b (decodedFrom more l at))) where
+  module _ (full : Bool) {t u whole : List ℕ} {to : ℕ} (c : Counts) (more : ℕ) (left : Left t 0 whole u to (textFrom full c (decodedFrom more l at))) where
     -- an entry's line is written
-    pub line-next : {v : List ℕ} {m x y : ℕ} (n : ℕ) → 0 < more → r ≡ Bytes n → Puts u to (lineSaying (decoded (take (at + n - at) (drop at l)))) v m
-        → x ≡ count RE (kindBy (getD l at 0) ∷ []) → y ≡ count UN (kindBy (getD l at 0) ∷ [])
-        → Left t 0 whole v m (textFrom full (a + x) (b + y) (decodedFrom (more - 1) l (at + n)))
-    line-next {v} {m} {x} {y} n h e p ex ey =
+    pub line-next : {v : List ℕ} {m : ℕ} {k : Kind} {c′ : Counts} (n : ℕ) → 0 < more → r ≡ Bytes n
+        → Puts u to (lineSaying (decoded (take (at + n - at) (drop at l)))) v m → k ≡ kindAt l at → c′ ≡ oneMore k c
+        → Left t 0 whole v m (textFrom full c′ (decodedFrom (more - 1) l (at + n)))
+    line-next {v} {m} {k} {c′} n h e p read counted =
         let there = stands l at sized e in
         let z : at + n - at ≡ n = omega arith in
         let d = decoded (take n (drop at l)) in
-        let k = decoded-kind l at n (omega (arith, size-least l at n there)) in
+        let same = decoded-kind l at n (omega (arith, size-least l at n there)) in
         let split = decoded-more more l at n h there in
-        rw (ex, ey, ← k)
-        (left-next {a = lineSaying d} (rw (split, text-more full a b d (decodedFrom (more - 1) l (at + n))) at left) (rw z at p))
+        rw (counted, read, ← same)
+        (left-next {a = lineSaying d} (rw (split, text-more full c d (decodedFrom (more - 1) l (at + n))) at left) (rw z at p))
 
     -- none stands there: the last line ends the text
-    pub last-missing : {v : List ℕ} {m : ℕ} → r ≡ Missing → Puts u to (lastLine full a b) v m → Puts t 0 whole v m
-    last-missing e p = left-last (rw (decoded-none more l at (sym sized ∙ ap sizeOf e), text-end full a b) at left) p
+    pub last-missing : {v : List ℕ} {m : ℕ} → r ≡ Missing → Puts u to (lastLine full c) v m → Puts t 0 whole v m
+    last-missing e p = left-last (rw (decoded-none more l at (sym sized ∙ ap sizeOf e), text-end full c) at left) p
 
 -- or no more are to be looked for
-pub last-over : {t u v whole : List ℕ} {to m : ℕ} (full : Bool) (l : List ℕ) (at a b more : ℕ)
-    → Left t 0 whole u to (textFrom full a b (decodedFrom more l at)) → more ≤ 0 → Puts u to (lastLine full a b) v m → Puts t 0 whole v m
-last-over full l at a b more left h p = left-last (rw (decoded-over more l at h, text-end full a b) at left) p
+pub last-over : {t u v whole : List ℕ} {to m : ℕ} (full : Bool) (l : List ℕ) (at : ℕ) (c : Counts) (more : ℕ)
+    → Left t 0 whole u to (textFrom full c (decodedFrom more l at)) → more ≤ 0 → Puts u to (lastLine full c) v m → Puts t 0 whole v m
+last-over full l at c more left h p = left-last (rw (decoded-over more l at h, text-end full c) at left) p
 
 -- The bytes that count, for any limit.
 taken : (n room : ℕ) (full : Bool) (l : List ℕ) → room ≡ min (length l) n
-    → textFrom full 0 0 (decodedFrom (length (take room l)) (take room l) 0) ≡ textFrom full 0 0 (decodedFrom (length (take n l)) (take n l) 0)
+    → textOf full (decodedFrom (length (take room l)) (take room l) 0) ≡ textOf full (decodedFrom (length (take n l)) (take n l) 0)
 taken n room full l e =
-    ap (λ (t : List ℕ). textFrom full 0 0 (decodedFrom (length t) t 0)) (ap (λ (k : ℕ). take k l) e ∙ sym (counted n l))
+    ap (λ (t : List ℕ). textOf full (decodedFrom (length t) t 0)) (ap (λ (k : ℕ). take k l) e ∙ sym (counted n l))
 
 -- the text of the bytes that count is the text of the list
 pub text-fronted : (full : Bool) (l : List ℕ) {t u : List ℕ} {room r : ℕ} → room ≡ roomOf (length l)
-    → Puts t 0 (textFrom full 0 0 (decodedFrom (length (take room l)) (take room l) 0)) u r → Fronts t (listText full l) u r
+    → Puts t 0 (textOf full (decodedFrom (length (take room l)) (take room l) 0)) u r → Fronts t (listText full l) u r
 unfolding roomOf listText
 text-fronted full l {t} {u} {room} {r} e p = rw (taken listLimit room full l e) at (puts-front p)

@@ -1,24 +1,26 @@
 // The printed text of a list, written into a lent slice. Every function that writes answers with the place behind its text, also where the
-// slice is too short for it: so a caller sees by the place whether all of it was written. Rests on crates reach, marks, rulefile and
+// slice is too short for it: so a caller sees by the place whether all of it was written. Rests on crates reach, marks and
 // entries.
 ghost use mathlib.Core.Path.{_≡_};
 ghost use mathlib.Core.List.{[], _∷_, map};
 ghost use Prim.Native.Nat.{_+_, _*_, _≤_, _<_};
 ghost use lib.ListN.{length, drop};
-ghost use lib.Dec.{eqb};
-ghost use Rattle.reach.specs.Base.{pick};
-ghost use Rattle.reach.specs.Search.{RE, UN};
+ghost use Rattle.reach.specs.Search.{oneMore, verdictBy};
 ghost use Rattle.reach.specs.Lists.{decoded, decodedFrom};
 ghost use Rattle.reach.specs.Words.{verdictWord};
-ghost use Rattle.reach.specs.Text.{space, spaced, digit, decimal, kindWord, partWord, lineSaying, count, share, totalSaying, refusalLine, verdictBy, lastLine, textFrom, listText};
+ghost use Rattle.reach.specs.Text.{space, spaced, digit, decimal, kindWord, partWord, lineSaying, share, totalLine, refusalLine, lastLine, textOf, listText};
+ghost use Rattle.printing.specs.Counting.{Few};
 ghost use Rattle.printing.specs.Writing.{Fronts, Puts};
 use entries::Size;
+use entries::kind_at;
 use entries::room;
 use entries::size_at;
 use entries::word_at;
 use marks::wide;
+use reach::Counts;
+use reach::Kind;
 use reach::Refusal;
-use rulefile::number;
+use reach::number;
 
 // Writes one byte.
 fn put_byte(text: &mut [u8], at: usize, b: u8) -> usize
@@ -99,15 +101,15 @@ fn put_parts(entry: &[u8], text: &mut [u8], at: usize) -> usize
     to
 }
 
-// Writes the word for the kind that a mark's first byte stands for.
-fn put_kind(mark: u8, text: &mut [u8], at: usize) -> usize
+// Writes the word for a kind.
+fn put_kind(kind: Kind, text: &mut [u8], at: usize) -> usize
     requires { ⌜ at < 4611686018427387904 ⌝ }
-    ensures { λ r. ⌜ Puts (now (text .entry)) at (kindWord (pick (eqb mark 0x52) RE UN)) (now (text .exit)) r ⌝ }
+    ensures { λ r. ⌜ Puts (now (text .entry)) at (kindWord kind) (now (text .exit)) r ⌝ }
 {
-    if mark == b'R' {
-        return put_word(b"reach", text, at);
+    match kind {
+        Kind::RE => return put_word(b"reach", text, at),
+        Kind::UN => return put_word(b"unfinished", text, at),
     }
-    put_word(b"unfinished", text, at)
 }
 
 // Writes the line of an entry.
@@ -115,7 +117,7 @@ fn put_line(entry: &[u8], text: &mut [u8], at: usize) -> usize
     requires { ⌜ (6 ≤ length (now entry)) × (length (now entry) ≤ 16777216) × (at < 576460752303423488) ⌝ }
     ensures { λ r. ⌜ Puts (now (text .entry)) at (lineSaying (decoded (now (entry .entry)))) (now (text .exit)) r × (r ≤ at + 70000 * length (now (entry .entry))) ⌝ }
 {
-    let steps = put_kind(entry[0], text, at);
+    let steps = put_kind(kind_at(entry, 0), text, at);
     let parts = put_number(text, steps, word_at(entry, 2) as u64);
     let end = put_parts(entry, text, parts);
     put_byte(text, end, b'\n')
@@ -134,29 +136,29 @@ fn share_of(reach: u64, unfinished: u64) -> u64
 }
 
 // Writes a space and the verdict that the counts give.
-fn put_verdict(text: &mut [u8], at: usize, reach: u64, unfinished: u64) -> usize
+fn put_verdict(text: &mut [u8], at: usize, counts: Counts) -> usize
     requires { ⌜ at < 4611686018427387904 ⌝ }
-    ensures { λ r. ⌜ Puts (now (text .entry)) at (space ∷ verdictWord (verdictBy reach unfinished)) (now (text .exit)) r ⌝ }
+    ensures { λ r. ⌜ Puts (now (text .entry)) at (space ∷ verdictWord (verdictBy counts)) (now (text .exit)) r ⌝ }
 {
-    if 0 < reach {
+    if 0 < counts.reach {
         return put_word(b" found", text, at);
     }
-    if 0 < unfinished {
+    if 0 < counts.unfinished {
         return put_word(b" undecided", text, at);
     }
     put_word(b" none", text, at)
 }
 
 // Writes the total line.
-fn put_total(text: &mut [u8], at: usize, reach: u64, unfinished: u64) -> usize
-    requires { ⌜ (at < 1152921504606846976) × (reach ≤ 16777216) × (unfinished ≤ 16777216) ⌝ }
-    ensures { λ r. ⌜ Puts (now (text .entry)) at (totalSaying reach unfinished (verdictBy reach unfinished)) (now (text .exit)) r ⌝ }
+fn put_total(text: &mut [u8], at: usize, counts: Counts) -> usize
+    requires { ⌜ (at < 1152921504606846976) × Few counts 16777216 ⌝ }
+    ensures { λ r. ⌜ Puts (now (text .entry)) at (totalLine counts) (now (text .exit)) r ⌝ }
 {
     let first = put_word(b"total", text, at);
-    let second = put_number(text, first, reach);
-    let third = put_number(text, second, unfinished);
-    let verdict = put_number(text, third, share_of(reach, unfinished));
-    let end = put_verdict(text, verdict, reach, unfinished);
+    let second = put_number(text, first, counts.reach);
+    let third = put_number(text, second, counts.unfinished);
+    let verdict = put_number(text, third, share_of(counts.reach, counts.unfinished));
+    let end = put_verdict(text, verdict, counts);
     put_byte(text, end, b'\n')
 }
 
@@ -171,58 +173,60 @@ fn put_refusal(text: &mut [u8], at: usize, why: Refusal) -> usize
 }
 
 // Writes the last line of a list's text: refusal 12 where the list was cut short, else the total line.
-fn put_last(full: bool, text: &mut [u8], at: usize, reach: u64, unfinished: u64) -> usize
-    requires { ⌜ (at < 1152921504606846976) × (reach ≤ 16777216) × (unfinished ≤ 16777216) ⌝ }
-    ensures { λ r. ⌜ Puts (now (text .entry)) at (lastLine full reach unfinished) (now (text .exit)) r ⌝ }
+fn put_last(full: bool, text: &mut [u8], at: usize, counts: Counts) -> usize
+    requires { ⌜ (at < 1152921504606846976) × Few counts 16777216 ⌝ }
+    ensures { λ r. ⌜ Puts (now (text .entry)) at (lastLine full counts) (now (text .exit)) r ⌝ }
 {
     if full {
         return put_refusal(text, at, Refusal::ListFull);
     }
-    put_total(text, at, reach, unfinished)
+    put_total(text, at, counts)
 }
 
-// 1 for the mark of an entry that is reached, else 0.
-fn reach_one(mark: u8) -> u64
-    ensures { λ r. ⌜ r ≡ count RE (pick (eqb mark 0x52) RE UN ∷ []) ⌝ }
+// The counts with one more of a kind.
+fn one_more(counts: Counts, kind: Kind) -> Counts
+    requires { ⌜ Few counts 16777216 ⌝ }
+    ensures { λ r. ⌜ r ≡ oneMore kind counts ⌝ }
 {
-    if mark == b'R' {
-        return 1;
+    match kind {
+        Kind::RE => {
+            return Counts {
+                reach: counts.reach + 1,
+                unfinished: counts.unfinished,
+            };
+        }
+        Kind::UN => {
+            return Counts {
+                reach: counts.reach,
+                unfinished: counts.unfinished + 1,
+            };
+        }
     }
-    0
-}
-
-// 1 for the mark of an entry that is unfinished, else 0.
-fn unfinished_one(mark: u8) -> u64
-    ensures { λ r. ⌜ r ≡ count UN (pick (eqb mark 0x52) RE UN ∷ []) ⌝ }
-{
-    if mark == b'R' {
-        return 0;
-    }
-    1
 }
 
 // Writes the text of a list of at most 16,777,216 bytes. Each turn of the loop writes the line of an entry.
 fn put_list(full: bool, list: &[u8], text: &mut [u8]) -> usize
     requires { ⌜ length (now list) ≤ 16777216 ⌝ }
-    ensures { λ r. ⌜ Puts (now (text .entry)) 0 (textFrom full 0 0 (decodedFrom (length (now (list .entry))) (now (list .entry)) 0)) (now (text .exit)) r ⌝ }
+    ensures { λ r. ⌜ Puts (now (text .entry)) 0 (textOf full (decodedFrom (length (now (list .entry))) (now (list .entry)) 0)) (now (text .exit)) r ⌝ }
 {
     let mut at: usize = 0;
     let mut to: usize = 0;
-    let mut reach: u64 = 0;
-    let mut unfinished: u64 = 0;
+    let mut counts = Counts {
+        reach: 0,
+        unfinished: 0,
+    };
     let mut more = list.len();
     while 0 < more {
         let Size::Bytes(n) = size_at(list, at) else {
-            return put_last(full, text, to, reach, unfinished);
+            return put_last(full, text, to, counts);
         };
         let stop = at + n;
         to = put_line(&list[at..stop], text, to);
-        reach += reach_one(list[at]);
-        unfinished += unfinished_one(list[at]);
+        counts = one_more(counts, kind_at(list, at));
         at = stop;
         more -= 1;
     }
-    put_last(full, text, to, reach, unfinished)
+    put_last(full, text, to, counts)
 }
 
 // Writes the text of a list to the front of a slice, and answers with the text's length: the lines of its entries, and the total line, or

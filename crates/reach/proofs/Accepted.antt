@@ -16,7 +16,9 @@ use Rattle.reach.specs.Syntax.{Program, sourceTypes}
 use Rattle.reach.specs.Parts.{Parts, width, allOpen, Place, openAt, BoundPart, Completes, _⊑_}
 use Rattle.reach.specs.Types.{Typed, sourceSlots, ClosedInput, WithinDepth, leastDepths}
 use Rattle.reach.specs.Eval.{State, halted, start, run}
-use Rattle.reach.specs.Search.{Kind, RE, UN, Entry, says, ReachedOrUnfinished, StopsInside, branches, openInput, entries, verdict}
+use Rattle.reach.specs.declared.Kind.{Kind}
+use Rattle.reach.specs.declared.Kind.the-variants.{RE, UN}
+use Rattle.reach.specs.Search.{Entry, says, ReachedOrUnfinished, StopsInside, branches, openInput, entries, verdict}
 use Rattle.reach.specs.RuleFile.{deepEnough}
 use Rattle.reach.specs.Answers.{Checked, accepted, turnedBack, check, SearchAnswer, noSearch, complete, cutShort, searchAnswer, refusalOf, verdictOf}
 use Rattle.reach.proofs.Base.{clash, nth-member}

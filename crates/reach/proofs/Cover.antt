@@ -14,12 +14,13 @@ use Rattle.reach.specs.Syntax.{Program}
 use Rattle.reach.specs.Parts.{Parts, has, at, Closed, _⊑_}
 use Rattle.reach.specs.Types.{Fork, sourceSlots, leastDepths, shallow, forksFrom, forks, forksAt, slotAt, Slot}
 use Rattle.reach.specs.Eval.{State, Question, Next, demands, stops, goes, waits, next, eval}
-use Rattle.reach.specs.Search.{RE, UN, Entry, ReachedOrUnfinished, gather, branches, search}
+use Rattle.reach.specs.declared.Kind.the-variants.{RE, UN}
+use Rattle.reach.specs.Search.{Entry, ReachedOrUnfinished, gather, branches, inputBehind, stateBehind, search}
 use Rattle.reach.proofs.Base.{picked, nth-member, flatMap-member, flatMap-has}
 use Rattle.reach.proofs.Order.{⊑-trans, bind-below, constructorOf}
 use Rattle.reach.specs.States.{StateIn}
 use Rattle.reach.proofs.Evaluation.{next-in, next-more, waits-free, waits-answered, eval-step, eval-stops}
-use Rattle.reach.proofs.Entries.{inputAfter, stateAfter, branch, search-last, search-next, finds, refines, fork-has, fork-in}
+use Rattle.reach.proofs.Entries.{branch, search-last, search-next, finds, refines, fork-has, fork-in}
 use Rattle.reach.proofs.Depths.{Fit, fork-covers, forks-taken}
 
 module _ (p : Program) where
@@ -58,8 +59,8 @@ module _ (p : Program) where
   cover-step left n i s j a z f h t ih (waits q) w =
       let k = fork-covers (p .types) (sourceSlots p) a z f (q .place) (waits-free p i s q w) in
       let fork : Fork = record { constructor = k .0; fields = k .1 } in
-      let on = subst ReachedOrUnfinished (eval-step p j left n s (stateAfter q fork) (waits-answered p i j s q (k .0) (k .1) w (k .2))) t in
-      let below = ih (inputAfter q fork i) (stateAfter q fork) (bind-below a (q .place) (k .2)) (fork-in p table i s q fork w h) on in
+      let on = subst ReachedOrUnfinished (eval-step p j left n s (stateBehind q fork) (waits-answered p i j s q (k .0) (k .1) w (k .2))) t in
+      let below = ih (inputBehind q fork i) (stateBehind q fork) (bind-below a (q .place) (k .2)) (fork-in p table i s q fork w h) on in
       let among = flatMap-has (branch p table left (suc n) i q) (branches p table i q) fork (below .0) (k .3) (below .1) in
       (below .0, rw (search-next p table left n i s (waits q) w) among, below .2)
 

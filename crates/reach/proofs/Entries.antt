@@ -11,23 +11,18 @@ use Rattle.reach.specs.Base.{_∈_}
 use Rattle.reach.specs.Syntax.{Program, sourceTypes}
 use Rattle.reach.specs.Parts.{Parts, width, Place, free, has, at, bindAt, openAt, _⊑_}
 use Rattle.reach.specs.Types.{Fork, leastDepths}
-use Rattle.reach.specs.Eval.{State, Question, answered, Next, demands, stops, goes, waits, next, halted, eval, start, run}
-use Rattle.reach.specs.Search.{RE, UN, Entry, says, gather, spent, branches, search, openInput, entries}
+use Rattle.reach.specs.Eval.{State, Question, Next, demands, stops, goes, waits, next, halted, eval, start, run}
+use Rattle.reach.specs.declared.Kind.the-variants.{RE, UN}
+use Rattle.reach.specs.Search.{Entry, says, gather, spent, branches, inputBehind, stateBehind, search, openInput, entries}
 use Rattle.reach.proofs.Base.{flatMap-member}
 use Rattle.reach.proofs.Order.{⊑-refl, ⊑-trans, ⊑-width, ⊑-has, ⊑-there, bind-refines, bind-has, bind-new, open-monotone, opened-below, open-free, open-bind}
 use Rattle.reach.specs.States.{StateIn}
 use Rattle.reach.proofs.Evaluation.{env-more, frames-more, next-in, next-more, answered-in, start-in, waits-free, waits-answered}
 use Rattle.reach.proofs.Evaluation.{eval-step, eval-wait, eval-demands, eval-spent, eval-spent-wait, halt-more}
 
--- the input, the state and the entries behind constructor f of a fork
-abbrev pub inputAfter : Question → Fork → Parts → Parts
-inputAfter q f i = bindAt (q .place) (f .constructor) (f .fields) i
-
-abbrev pub stateAfter : Question → Fork → State
-stateAfter q f = answered q (f .constructor) (f .fields)
-
+-- the entries behind constructor f of a fork
 abbrev pub branch : Program → List ℕ → ℕ → ℕ → Parts → Question → Fork → List Entry
-branch p table left n i q f = search p table left n (inputAfter q f i) (stateAfter q f)
+branch p table left n i q f = search p table left n (inputBehind q f i) (stateBehind q f)
 
 -- How the search finds an entry below a state: the target is demanded there, the steps are used up there, or it lies behind a step or a fork.
 pub data Finds (p : Program) (table : List ℕ) : ℕ → ℕ → Parts → State → Entry → Type 0 where
@@ -38,7 +33,7 @@ pub data Finds (p : Program) (table : List ℕ) : ℕ → ℕ → Parts → Stat
   by-step : {left n : ℕ} {i : Parts} {s s′ : State} {e : Entry} → next p i s ≡ goes s′ → Finds p table left (suc n) i s′ e
       → Finds p table (suc left) n i s e
   by-fork : {left n : ℕ} {i : Parts} {s : State} {e : Entry} (q : Question) (f : Fork) → next p i s ≡ waits q → f ∈ branches p table i q
-      → Finds p table left (suc n) (inputAfter q f i) (stateAfter q f) e → Finds p table (suc left) n i s e
+      → Finds p table left (suc n) (inputBehind q f i) (stateBehind q f) e → Finds p table (suc left) n i s e
 
 module _ (p : Program) (table : List ℕ) where
   -- the search, by what comes next
@@ -89,20 +84,20 @@ module _ (p : Program) (table : List ℕ) where
   refines (by-fork {i = i} q f w m d) = ⊑-trans (bind-refines (q .place) (f .constructor) (f .fields) i) (refines d)
 
   -- behind a fork the part has the constructor, and every evaluation on what binds as much goes there
-  pub fork-has : (i : Parts) (s : State) (q : Question) (f : Fork) → next p i s ≡ waits q → (j : Parts) → inputAfter q f i ⊑ j
+  pub fork-has : (i : Parts) (s : State) (q : Question) (f : Fork) → next p i s ≡ waits q → (j : Parts) → inputBehind q f i ⊑ j
       → at j (q .place) ≡ has (f .constructor) (f .fields)
   fork-has i s q f w j a = ⊑-has a (q .place) (bind-has (q .place) (f .constructor) (f .fields) i (waits-free p i s q w))
 
-  fork-goes : (i : Parts) (s : State) (q : Question) (f : Fork) → next p i s ≡ waits q → (j : Parts) → inputAfter q f i ⊑ j
-      → next p j s ≡ goes (stateAfter q f)
+  fork-goes : (i : Parts) (s : State) (q : Question) (f : Fork) → next p i s ≡ waits q → (j : Parts) → inputBehind q f i ⊑ j
+      → next p j s ≡ goes (stateBehind q f)
   fork-goes i s q f w j a = waits-answered p i j s q (f .constructor) (f .fields) w (fork-has i s q f w j a)
 
   -- the state behind a fork speaks of places that are there
-  pub fork-in : (i : Parts) (s : State) (q : Question) (f : Fork) → next p i s ≡ waits q → StateIn i s → StateIn (inputAfter q f i) (stateAfter q f)
+  pub fork-in : (i : Parts) (s : State) (q : Question) (f : Fork) → next p i s ≡ waits q → StateIn i s → StateIn (inputBehind q f i) (stateBehind q f)
   fork-in i s q f w h =
       let more = bind-refines (q .place) (f .constructor) (f .fields) i in
       let asked = next-in p i s h (waits q) w in
-      answered-in (inputAfter q f i) q (f .constructor) (f .fields) (fork-has i s q f w (inputAfter q f i) (⊑-refl _))
+      answered-in (inputBehind q f i) q (f .constructor) (f .fields) (fork-has i s q f w (inputBehind q f i) (⊑-refl _))
       (⊑-there more (q .place) (asked .0), env-more more (q .environment) (asked .1), frames-more more (q .frames) (asked .2))
 
   -- every input that binds at least what an entry binds ends as the entry says, after exactly its steps
@@ -114,7 +109,7 @@ module _ (p : Program) (table : List ℕ) where
   entry-holds (by-step {left = left} {n = n} {i = i} {s = s} {s′ = s′} w d) h j a =
       eval-step p j left n s s′ (next-more p (⊑-trans (refines d) a) s h (goes s′) tt w) ∙ entry-holds d (next-in p i s h (goes s′) w) j a
   entry-holds (by-fork {left = left} {n = n} {i = i} {s = s} q f w m d) h j a =
-      eval-step p j left n s (stateAfter q f) (fork-goes i s q f w j (⊑-trans (refines d) a)) ∙ entry-holds d (fork-in i s q f w h) j a
+      eval-step p j left n s (stateBehind q f) (fork-goes i s q f w j (⊑-trans (refines d) a)) ∙ entry-holds d (fork-in i s q f w h) j a
 
   -- Opening any bound part of the input makes the evaluation halt there, with fewer than S steps done.
   abbrev pub Reopens : Parts → Type 0
@@ -151,7 +146,7 @@ module _ (p : Program) (table : List ℕ) where
       let more = bind-refines (q .place) (f .constructor) (f .fields) i in
       let halts = l .1 i (⊑-refl i) ∙ eval-wait p i left n s q w in
       entry-reopens d (sym (⊑-width more) ∙ size) (fork-in i s q f w h)
-      (omega (arith, l .0), λ j a. l .1 j (⊑-trans more a) ∙ eval-step p j left n s (stateAfter q f) (fork-goes i s q f w j a))
+      (omega (arith, l .0), λ j a. l .1 j (⊑-trans more a) ∙ eval-step p j left n s (stateBehind q f) (fork-goes i s q f w j a))
       (bind-reopens i (q .place) (f .constructor) (f .fields) n size (waits-free p i s q w) halts (omega (arith, l .0)) o)
 
 -- every entry of a program is found from its start

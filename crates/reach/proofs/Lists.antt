@@ -5,15 +5,18 @@ use Prim.Native.Nat.{ℕ, _+_, _-_, _≤_, _<_}
 use native.Mathlib.Omega.{arith}
 use mathlib.Core.Path.{_≡_, refl, ap, subst}
 use mathlib.Core.Logic.{_⊎_, inl, inr, ⊎-elim, _↔_}
-use mathlib.Core.Bool.{true, false}
+use mathlib.Core.Bool.{Bool, true, false}
 use mathlib.Core.List.{List, [], _∷_, _++_, flatMap, List·Memᴰ·head, List·Memᴰ·tail, List·Memᴰ·cases-cons, List·Memᴰ·not-nil}
 use lib.ListN.{length, length-append}
-use lib.Dec.{leb}
-use borrow.Author.Tests.{leb-true, leb-false}
+use lib.Dec.{ltb, leb}
+use borrow.Author.Tests.{ltb-true, ltb-false, lt-ltb, le-ltb, leb-true, leb-false}
+use Rattle.reach.specs.declared.Counts.{Counts}
 use Rattle.reach.specs.declared.Verdict.{Verdict}
 use Rattle.reach.specs.declared.Verdict.the-variants.{Found, Undecided, None}
-use Rattle.reach.specs.Base.{_∈_}
-use Rattle.reach.specs.Search.{Kind, RE, UN, Entry, withEntry, verdict}
+use Rattle.reach.specs.Base.{pick, _∈_}
+use Rattle.reach.specs.declared.Kind.{Kind}
+use Rattle.reach.specs.declared.Kind.the-variants.{RE, UN}
+use Rattle.reach.specs.Search.{Entry, oneMore, countFrom, counts, verdictBy, kindsOf, verdict}
 use Rattle.reach.specs.Lists.{entryBytes, listBytes, Cut, keep, cut}
 use Rattle.reach.proofs.Base.{clash, picked}
 
@@ -93,51 +96,121 @@ cut-short room (x ∷ es) =
 abbrev pub Holds : Kind → List Entry → Type 0
 Holds k es = (e : Entry) × (e ∈ es) × (e .kind ≡ k)
 
+-- how many of a kind there are
+abbrev pub countOf : Kind → Counts → ℕ
+countOf RE c = c .reach
+countOf UN c = c .unfinished
+
+-- there are some of a kind exactly where some had gone before or an entry of that kind is among them
+some-from : (k : Kind) (c : Counts) (es : List Entry) → (0 < countOf k (countFrom c (kindsOf es))) ↔ ((0 < countOf k c) ⊎ Holds k es)
+unfolding countFrom
+some-from k c [] = (λ h. inl h, ⊎-elim (λ h. h) (λ h. absurd (List·Memᴰ·not-nil (h .1))))
+some-from k c (x ∷ es) = (
+  λ h. ⊎-elim (λ z. ⊎-elim inl (λ same. inr (x, List·Memᴰ·head refl, same)) ((one k (x .kind) c) .0 z))
+      (λ y. inr (y .0, List·Memᴰ·tail (y .1), y .2))
+      ((some-from k (oneMore (x .kind) c) es) .0 h),
+  λ h. (some-from k (oneMore (x .kind) c) es) .1 (⊎-elim (λ z. inl ((one k (x .kind) c) .1 (inl z))) among h),
+)
+  where
+    one : (j i : Kind) (d : Counts) → (0 < countOf j (oneMore i d)) ↔ ((0 < countOf j d) ⊎ (i ≡ j))
+    one RE RE d = (λ h. inr refl, λ h. omega arith)
+    one RE UN d = (inl, ⊎-elim (λ h. h) (λ same. absurd (clash (cc))))
+    one UN RE d = (inl, ⊎-elim (λ h. h) (λ same. absurd (clash (cc))))
+    one UN UN d = (λ h. inr refl, λ h. omega arith)
+
+    among : Holds k (x ∷ es) → (0 < countOf k (oneMore (x .kind) c)) ⊎ Holds k es
+    among h = ⊎-elim (λ same. inl ((one k (x .kind) c) .1 (inr (cc)))) (λ m. inr (h .0, m, h .2)) (List·Memᴰ·cases-cons (h .1))
+
+some-counted : (k : Kind) (es : List Entry) → (0 < countOf k (counts (kindsOf es))) ↔ Holds k es
+unfolding counts
+some-counted k es = (
+  λ h. ⊎-elim (λ z. absurd (nothing k z)) (λ y. y) ((some-from k (record { reach = 0; unfinished = 0 }) es) .0 h),
+  λ y. (some-from k (record { reach = 0; unfinished = 0 }) es) .1 (inr y),
+)
+  where
+    nothing : (j : Kind) → 0 < countOf j (record { reach = 0; unfinished = 0 }) → ⊥
+    nothing RE h = omega arith
+    nothing UN h = omega arith
+
+none-counted : (k : Kind) → countOf k (counts []) ≤ 0
+unfolding counts countFrom
+none-counted RE = omega arith
+none-counted UN = omega arith
+
+-- the verdict by the counts: the three cases exclude each other
+pub by-reach : (c : Counts) → 0 < c .reach → verdictBy c ≡ Found
+unfolding verdictBy
+by-reach c some = rw (lt-ltb 0 (c .reach) some)
+
+pub by-unfinished : (c : Counts) → c .reach ≤ 0 → 0 < c .unfinished → verdictBy c ≡ Undecided
+unfolding verdictBy
+by-unfinished c few some = rw (le-ltb 0 (c .reach) few, lt-ltb 0 (c .unfinished) some)
+
+pub by-neither : (c : Counts) → c .reach ≤ 0 → c .unfinished ≤ 0 → verdictBy c ≡ None
+unfolding verdictBy
+by-neither c few fewer = rw (le-ltb 0 (c .reach) few, le-ltb 0 (c .unfinished) fewer)
+
+-- the counts that give a verdict
+abbrev Gives : Counts → Verdict → Type 0
+Gives c Found = 0 < c .reach
+Gives c Undecided = (c .reach ≤ 0) × (0 < c .unfinished)
+Gives c None = (c .reach ≤ 0) × (c .unfinished ≤ 0)
+
+gives : (c : Counts) (v : Verdict) → verdictBy c ≡ v → Gives c v
+unfolding verdictBy
+gives c v e = subst (Gives c) e (go (ltb 0 (c .reach)) (ltb 0 (c .unfinished)) refl refl)
+  where
+    go : (s t : Bool) → ltb 0 (c .reach) ≡ s → ltb 0 (c .unfinished) ≡ t → Gives c (pick s Found (pick t Undecided None))
+    go true t a b = ltb-true 0 (c .reach) a
+    go false true a b = (ltb-false 0 (c .reach) a, ltb-true 0 (c .unfinished) b)
+    go false false a b = (ltb-false 0 (c .reach) a, ltb-false 0 (c .unfinished) b)
+
+-- One more entry: it is found with an RE; with a UN it stays found, and is undecided else.
+pub found-with-reach : (c : Counts) → verdictBy (oneMore RE c) ≡ Found
+found-with-reach c = by-reach (oneMore RE c) (omega arith)
+
+pub found-with-unfinished : (c : Counts) → verdictBy c ≡ Found → verdictBy (oneMore UN c) ≡ Found
+found-with-unfinished c e = by-reach (oneMore UN c) (gives c Found e)
+
+pub undecided-with-unfinished : (c : Counts) → ¬ (verdictBy c ≡ Found) → verdictBy (oneMore UN c) ≡ Undecided
+undecided-with-unfinished c not = go (ltb 0 (c .reach)) refl
+  where
+    go : (t : Bool) → ltb 0 (c .reach) ≡ t → verdictBy (oneMore UN c) ≡ Undecided
+    go true e = absurd (not (by-reach c (ltb-true 0 (c .reach) e)))
+    go false e = by-unfinished (oneMore UN c) (ltb-false 0 (c .reach) e) (omega arith)
+
+count-more : (c : Counts) (es : List Entry) (e : Entry) → countFrom c (kindsOf (es ++ (e ∷ []))) ≡ oneMore (e .kind) (countFrom c (kindsOf es))
+unfolding countFrom
+count-more c [] e = refl
+count-more c (x ∷ es) e = count-more (oneMore (x .kind) c) es e
+
+pub verdict-more : (es : List Entry) (e : Entry) → verdict (es ++ (e ∷ [])) ≡ verdictBy (oneMore (e .kind) (counts (kindsOf es)))
+unfolding verdict counts
+verdict-more es e = ap verdictBy (count-more _ es e)
+
 -- the verdict is none exactly where the list is empty
 pub none-empty : (es : List Entry) → (verdict es ≡ None) ↔ (es ≡ [])
 unfolding verdict
-none-empty [] = (λ v. refl, λ e. refl)
-none-empty (x ∷ es) = (λ v. absurd (some-entry (x .kind) (verdict es) v), λ e. absurd (clash (cc)))
+none-empty [] = (λ v. refl, λ e. by-neither (counts []) (none-counted RE) (none-counted UN))
+none-empty (x ∷ es) = (λ v. absurd (some (x .kind) refl (gives _ None v)), λ e. absurd (clash (cc)))
   where
-    some-entry : (k : Kind) (later : Verdict) → withEntry k later ≡ None → ⊥
-    some-entry RE later e = clash (cc)
-    some-entry UN Found e = clash (cc)
-    some-entry UN Undecided e = clash (cc)
-    some-entry UN None e = clash (cc)
+    some : (k : Kind) → x .kind ≡ k → Gives (counts (kindsOf (x ∷ es))) None → ⊥
+    some RE same neither = omega (arith, (some-counted RE (x ∷ es)) .1 (x, List·Memᴰ·head refl, same))
+    some UN same neither = omega (arith, (some-counted UN (x ∷ es)) .1 (x, List·Memᴰ·head refl, same))
 
 -- it is found exactly with an RE
 pub found-exactly : (es : List Entry) → (verdict es ≡ Found) ↔ Holds RE es
 unfolding verdict
-found-exactly [] = (λ v. absurd (clash (cc)), λ h. absurd (List·Memᴰ·not-nil (h .1)))
-found-exactly (x ∷ es) = (
-  λ v. ⊎-elim (λ k. (x, List·Memᴰ·head refl, k))
-      (λ later. let h = (found-exactly es) .0 later in (h .0, List·Memᴰ·tail (h .1), h .2))
-      ((found-by (x .kind) (verdict es)) .0 v),
-  λ h. (found-by (x .kind) (verdict es)) .1
-      (⊎-elim (λ same. inl (cc)) (λ m. inr ((found-exactly es) .1 (h .0, m, h .2))) (List·Memᴰ·cases-cons (h .1))),
-)
-  where
-    found-by : (k : Kind) (later : Verdict) → (withEntry k later ≡ Found) ↔ ((k ≡ RE) ⊎ (later ≡ Found))
-    found-by RE later = (λ v. inl refl, λ h. refl)
-    found-by UN Found = (λ v. inr refl, λ h. refl)
-    found-by UN Undecided = (λ v. inr v, ⊎-elim (λ k. cc) (λ later. later))
-    found-by UN None = (λ v. inr (cc), ⊎-elim (λ k. cc) (λ later. cc))
-
--- an undecided list has a UN: its first entry
-some-unfinished : (es : List Entry) → verdict es ≡ Undecided → Holds UN es
-unfolding verdict
-some-unfinished [] v = absurd (clash (cc))
-some-unfinished (x ∷ es) v = go (x .kind) refl
-  where
-    go : (k : Kind) → x .kind ≡ k → Holds UN (x ∷ es)
-    go RE q = absurd (clash (cc ((found-exactly (x ∷ es)) .1 (x, List·Memᴰ·head refl, q))))
-    go UN q = (x, List·Memᴰ·head refl, q)
+found-exactly es = (λ v. (some-counted RE es) .0 (gives _ Found v), λ h. by-reach _ ((some-counted RE es) .1 h))
 
 -- it is undecided exactly with a UN and no RE
 pub undecided-exactly : (es : List Entry) → (verdict es ≡ Undecided) ↔ (Holds UN es × ¬ Holds RE es)
-undecided-exactly es = (λ v. (some-unfinished es v, λ h. clash (cc ((found-exactly es) .1 h))), λ h. go h (verdict es) refl)
+unfolding verdict
+undecided-exactly es = (
+  λ v. let g = gives _ Undecided v in ((some-counted UN es) .0 (g .1), λ h. omega (arith, g .0, (some-counted RE es) .1 h)),
+  λ h. go h (ltb 0 ((counts (kindsOf es)) .reach)) refl,
+)
   where
-    go : Holds UN es × ¬ Holds RE es → (w : Verdict) → verdict es ≡ w → verdict es ≡ Undecided
-    go h Found v = absurd (h .1 ((found-exactly es) .0 v))
-    go h Undecided v = v
-    go h None v = absurd (List·Memᴰ·not-nil (subst (λ r. h .0 .0 ∈ r) ((none-empty es) .0 v) (h .0 .1)))
+    go : Holds UN es × ¬ Holds RE es → (t : Bool) → ltb 0 ((counts (kindsOf es)) .reach) ≡ t → verdictBy (counts (kindsOf es)) ≡ Undecided
+    go h true e = absurd (h .1 ((some-counted RE es) .0 (ltb-true 0 _ e)))
+    go h false e = by-unfinished _ (ltb-false 0 _ e) ((some-counted UN es) .1 (h .0))

@@ -6,11 +6,11 @@ use mathlib.Core.Path.{_≡_, refl, sym, _∙_}
 use mathlib.Core.List.{List, [], _∷_, _++_, flatMap, append-nil, append-assoc}
 use native.Mathlib.Omega.{arith}
 use Rattle.reach.specs.Syntax.{Program}
-use Rattle.reach.specs.Parts.{Parts, bindAt}
+use Rattle.reach.specs.Parts.{Parts}
 use Rattle.reach.specs.Types.{Fork, leastDepths}
-use Rattle.reach.specs.Eval.{State, Question, answered, Next, demands, stops, goes, waits, next, start}
-use Rattle.reach.specs.Search.{Entry, gather, branches, search, openInput, entries}
-use Rattle.reach.specs.Moves.{Choice, Position, on, over, Walk, settle, arrive, takeFork, return, moveFrom, move, moves, opening, total, countNext, inputBehind, stateBehind, pathMoves, choicesMoves, owedMovesFrom, owedMoves, finished}
+use Rattle.reach.specs.Eval.{State, Question, Next, demands, stops, goes, waits, next, start}
+use Rattle.reach.specs.Search.{Entry, gather, inputBehind, stateBehind, search, openInput, entries}
+use Rattle.reach.specs.Moves.{Choice, Position, on, over, Walk, settle, arrive, takeFork, return, moveFrom, move, moves, opening, total, countNext, pathMoves, choicesMoves, owedMovesFrom, owedMoves, finished}
 
 -- where a sum is 0, lists that are empty where their number is 0 are empty all together
 flatMap-none : {A B : Type 0} (f : A → ℕ) (g : A → List B) → ((x : A) → f x ≡ 0 → g x ≡ []) → (xs : List A) → total f xs ≡ 0 → flatMap g xs ≡ []
@@ -34,7 +34,7 @@ module _ (p : Program) (table : List ℕ) where
   -- the entries that choice points owe, the last first: those of its untried constructors, in order
   unfoldable pub choicesOwed : List Choice → List Entry
   choicesOwed cs =
-      flatMap (λ (c : Choice). flatMap (λ (f : Fork). search p table (c .left) (c .done) (inputBehind c f) (stateBehind c f)) (c .untried)) cs
+      flatMap (λ (c : Choice). flatMap (λ (f : Fork). search p table (c .left) (c .done) (inputBehind (c .question) f (c .input)) (stateBehind (c .question) f)) (c .untried)) cs
 
   -- the entries of the path under way, if there is one, then those that the choice points owe
   unfoldable pub owedFrom : Position → List Choice → List Entry
@@ -63,7 +63,7 @@ module _ (p : Program) (table : List ℕ) where
       → Adds cs es (settle go fork n input cs es x) (gather goEntries forkEntries n input x) (countNext goMoves forkMoves x)
   unfolding settle gather countNext owed owedFrom owedMoves owedMovesFrom
   settle-adds go fork goEntries forkEntries goMoves forkMoves n input cs es hg hf demands = (append-assoc es _ _, omega arith)
-  settle-adds go fork goEntries forkEntries goMoves forkMoves n input cs es hg hf (stops why) = (refl, omega arith)
+  settle-adds go fork goEntries forkEntries goMoves forkMoves n input cs es hg hf (stops why) = (append-assoc es _ _, omega arith)
   settle-adds go fork goEntries forkEntries goMoves forkMoves n input cs es hg hf (goes s) = hg s
   settle-adds go fork goEntries forkEntries goMoves forkMoves n input cs es hg hf (waits q) = hf q
 
@@ -86,7 +86,7 @@ module _ (p : Program) (table : List ℕ) where
   unfolding return takeFork choicesOwed choicesMoves flatMap total
   return-choice c [] cs es h = (h .0, h .1 ∙ omega arith)
   return-choice c (f ∷ rest) cs es h =
-      let a = arrive-adds (c .left) (c .done) (inputBehind c f) (stateBehind c f) (withUntried c rest ∷ cs) es in
+      let a = arrive-adds (c .left) (c .done) (inputBehind (c .question) f (c .input)) (stateBehind (c .question) f) (withUntried c rest ∷ cs) es in
       (rw append-assoc (a .0), a .1 ∙ omega arith)
 
   returns : (cs : List Choice) (es : List Entry) → Returns cs es

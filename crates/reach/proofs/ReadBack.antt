@@ -17,8 +17,10 @@ use Rattle.reach.specs.Limits.{listLimit}
 use Rattle.reach.specs.Syntax.{Program}
 use Rattle.reach.specs.Parts.{prefix}
 use Rattle.reach.specs.Places.{wordAt}
-use Rattle.reach.specs.Search.{Kind, RE, UN, Entry, entries}
-use Rattle.reach.specs.Lists.{wordBytes, kindBytes, entryBytes, listBytes, onSize, roomOf, written, knownMark, entrySize, entrySpan, entryPart, Decoded, decoded}
+use Rattle.reach.specs.declared.Kind.{Kind}
+use Rattle.reach.specs.declared.Kind.the-variants.{RE, UN}
+use Rattle.reach.specs.Search.{Entry, entries}
+use Rattle.reach.specs.Lists.{wordBytes, kindBytes, entryBytes, listBytes, onFound, roomOf, written, isMark, kindOf, knownMark, kindAt, entrySize, entrySpan, entryPart, Decoded, sayingOf, decoded}
 use Rattle.reach.specs.Answers.{accepted, check, SearchAnswer, noSearch, complete, cutShort, searchAnswer, listed}
 use Rattle.reach.proofs.Base.{picked}
 use Rattle.reach.proofs.Limits.{accepted-keeps}
@@ -68,7 +70,7 @@ pub span-inside : (l : List ℕ) (k i : ℕ) (s : ℕ × ℕ) → entrySpan l k 
 unfolding entrySpan
 span-inside l zero i s = last (entrySize l i) refl
   where
-    last : (o : Option ℕ) → entrySize l i ≡ o → onSize none (λ n. some (i, n)) o ≡ some s → s .0 + s .1 ≤ length l
+    last : (o : Option ℕ) → entrySize l i ≡ o → onFound none (λ n. some (i, n)) o ≡ some s → s .0 + s .1 ≤ length l
     last none e h = absurd (Option·none-ne-some s h)
     last (some n) e h =
         let span = Option·some-injective (i, n) s h in
@@ -76,13 +78,13 @@ span-inside l zero i s = last (entrySize l i) refl
 span-inside l (suc k) i s = later (λ n. span-inside l k (i + n) s) (entrySize l i)
   where
     later : ((n : ℕ) → entrySpan l k (i + n) ≡ some s → s .0 + s .1 ≤ length l) → (o : Option ℕ)
-        → onSize none (λ n. entrySpan l k (i + n)) o ≡ some s → s .0 + s .1 ≤ length l
+        → onFound none (λ n. entrySpan l k (i + n)) o ≡ some s → s .0 + s .1 ≤ length l
     later more none h = absurd (Option·none-ne-some s h)
     later more (some n) h = more n h
 
 -- the part that an entry fills, of a list of which the first n bytes count
 abbrev pub partWithin : ℕ → List ℕ → ℕ → List ℕ
-partWithin n list k = onSize [] (λ span. take (span .1) (drop (span .0) list)) (entrySpan (take n list) k 0)
+partWithin n list k = onFound [] (λ span. take (span .1) (drop (span .0) list)) (entrySpan (take n list) k 0)
 
 -- to take n bytes is to take as many of them as there are
 pub counted : (n : ℕ) (l : List ℕ) → take n l ≡ take (min (length l) n) l
@@ -96,7 +98,7 @@ counted n l = go (leb (length l) n) refl
     go false e = let z : min (length l) n ≡ n = omega (arith, leb-false (length l) n e) in rw z
 
 within-counted : (n : ℕ) (l : List ℕ) (k : ℕ) → partWithin n l k ≡ partWithin (min (length l) n) l k
-within-counted n l k = ap (λ (t : List ℕ). onSize [] (λ span. take (span .1) (drop (span .0) l)) (entrySpan t k 0)) (counted n l)
+within-counted n l k = ap (λ (t : List ℕ). onFound [] (λ span. take (span .1) (drop (span .0) l)) (entrySpan t k 0)) (counted n l)
 
 -- the part is found in the bytes that count
 pub part-counted : (l : List ℕ) (k : ℕ) → entryPart l k ≡ partWithin (roomOf (length l)) l k
@@ -157,7 +159,7 @@ abbrev bytesOf : Kind → ℕ → List ℕ → List ℕ
 bytesOf k s p = kindBytes k ++ (wordBytes s ++ (wordBytes (length p) ++ p))
 
 size-marked : (k : Kind) (s : ℕ) (p rest : List ℕ) → length p < 65536 → entrySize (bytesOf k s p ++ rest) 0 ≡ some (length (bytesOf k s p))
-unfolding kindBytes wordBytes knownMark
+unfolding kindBytes wordBytes isMark kindOf knownMark
 size-marked RE s p rest small = size-headed 0x52 0x45 (s % 256) (s / 256 % 256) p rest refl small
 size-marked UN s p rest small = size-headed 0x55 0x4e (s % 256) (s / 256 % 256) p rest refl small
 
@@ -299,13 +301,12 @@ written-beyond file work list p h k beyond =
 -- Decoding: what the bytes of an entry say.
 
 decoded-marked : (k : Kind) (s : ℕ) (p : List ℕ) → s < 65536 → decoded (bytesOf k s p) ≡ record { kind = k; steps = s; parameters = p }
-unfolding decoded kindBytes wordBytes wordAt
+unfolding decoded kindBytes isMark kindOf kindAt wordBytes wordAt
 decoded-marked RE s p small = rw (two-bytes s small)
 decoded-marked UN s p small = rw (two-bytes s small)
 
 -- an entry whose steps fit two bytes is decoded from its bytes
-pub decoded-entry : (e : Entry) → e .steps < 65536
-    → decoded (entryBytes e) ≡ record { kind = e .kind; steps = e .steps; parameters = prefix (e .input) }
+pub decoded-entry : (e : Entry) → e .steps < 65536 → decoded (entryBytes e) ≡ sayingOf e
 unfolding entryBytes
 decoded-entry e small = decoded-marked (e .kind) (e .steps) (prefix (e .input)) small
 

@@ -9,17 +9,15 @@ use mathlib.Core.List.{List, [], _∷_, _++_, map, flatMap, append-assoc, List·
 use mathlib.Core.Option.{none}
 use lib.ListN.{length, take, length-append}
 use lib.Seq.{take-append-seam, drop-append-seam, take-all}
-use lib.Dec.{ltb}
-use borrow.Author.Tests.{lt-ltb}
 use Rattle.reach.specs.declared.Refusal.{Refusal}
-use Rattle.reach.specs.declared.Refusal.the-variants.{ListFull}
-use Rattle.reach.specs.declared.Verdict.the-variants.{Found, Undecided, None}
-use Rattle.reach.specs.Base.{_∈_, pick}
+use Rattle.reach.specs.Base.{_∈_}
 use Rattle.reach.specs.Limits.{listLimit}
-use Rattle.reach.specs.Search.{Kind, RE, UN, Entry, withEntry, verdict}
-use Rattle.reach.specs.Lists.{kindBytes, entryBytes, listBytes, entrySize, Decoded, decodedFrom}
+use Rattle.reach.specs.declared.Kind.{Kind}
+use Rattle.reach.specs.declared.Kind.the-variants.{RE, UN}
+use Rattle.reach.specs.Search.{Entry}
+use Rattle.reach.specs.Lists.{kindBytes, entryBytes, listBytes, entrySize, Decoded, sayingOf, decodedFrom}
 use Rattle.reach.specs.Answers.{Checked, accepted, turnedBack, check, SearchAnswer, noSearch, complete, cutShort, searchChecked, searchAnswer, listed}
-use Rattle.reach.specs.Text.{lineSaying, sayingOf, lineOf, oneMore, count, totalLine, refusalLine, text, verdictBy, lastLine, textFrom, listText}
+use Rattle.reach.specs.Text.{refusalLine, textOf, text, listText}
 use Rattle.reach.proofs.Answers.{listed-in}
 use Rattle.reach.proofs.ReadBack.{Small, size-behind, size-of-entry, decoded-entry, entry-steps, listed-small, listed-fits}
 
@@ -62,68 +60,17 @@ unfolding listBytes flatMap
 list-some [] = omega arith
 list-some (e ∷ es) = omega (arith, entry-some e, list-some es, length-append (entryBytes e) (flatMap entryBytes es))
 
--- the lines are those of the entries, and so are the kinds
-lines-said : (es : List Entry) → flatMap lineSaying (map sayingOf es) ≡ flatMap lineOf es
-unfolding lineOf flatMap
-lines-said [] = refl
-lines-said (e ∷ es) = ap (λ (s : List ℕ). lineSaying (sayingOf e) ++ s) (lines-said es)
-
-kinds-said : (es : List Entry) → map (λ (d : Decoded). d .kind) (map sayingOf es) ≡ map (λ (e : Entry). e .kind) es
-kinds-said [] = refl
-kinds-said (e ∷ es) = ap (λ (ks : List Kind). e .kind ∷ ks) (kinds-said es)
-
--- the verdict by the counts
-with-counts : (k : Kind) (a b : ℕ) → withEntry k (verdictBy a b) ≡ verdictBy (oneMore RE k a) (oneMore UN k b)
-unfolding verdictBy
-with-counts RE a b = rw (lt-ltb 0 (suc a) (omega arith))
-with-counts UN a b = rw (lt-ltb 0 (suc b) (omega arith)) (go (ltb 0 a) (ltb 0 b))
-  where
-    go : (s t : Bool) → withEntry UN (pick s Found (pick t Undecided None)) ≡ pick s Found Undecided
-    go true t = refl
-    go false true = refl
-    go false false = refl
-
-no-counts : None ≡ verdictBy 0 0
-unfolding verdictBy
-no-counts = refl
-
-counts-verdict : (es : List Entry)
-    → verdict es ≡ verdictBy (count RE (map (λ (e : Entry). e .kind) es)) (count UN (map (λ (e : Entry). e .kind) es))
-unfolding verdict count
-counts-verdict [] = no-counts
-counts-verdict (e ∷ es) = rw (counts-verdict es) (with-counts (e .kind) _ _)
-
--- the last line by the counts
-last-said : (full : Bool) (es : List Entry)
-    → lastLine full (count RE (map (λ (e : Entry). e .kind) es)) (count UN (map (λ (e : Entry). e .kind) es))
-    ≡ pick full (refusalLine ListFull) (totalLine es)
-unfolding lastLine totalLine
-last-said full es = rw (counts-verdict es)
-
 -- the text of the bytes of a list, for any limit of the bytes that count
 abbrev textWithin : ℕ → Bool → List ℕ → List ℕ
-textWithin n full list = let l = take n list in textFrom full 0 0 (decodedFrom (length l) l 0)
+textWithin n full list = let l = take n list in textOf full (decodedFrom (length l) l 0)
 
 text-within : (n : ℕ) (full : Bool) (es : List Entry) → Small es → FewSteps es → length (listBytes es) ≤ n
-    → textWithin n full (listBytes es) ≡ flatMap lineOf es ++ pick full (refusalLine ListFull) (totalLine es)
-unfolding textFrom
+    → textWithin n full (listBytes es) ≡ textOf full (map sayingOf es)
 text-within n full es small few fits =
-    let reached = count RE (map (λ (e : Entry). e .kind) es) in
-    let unfinished = count UN (map (λ (e : Entry). e .kind) es) in
-    let y : 0 + reached ≡ reached = omega arith in
-    let z : 0 + unfinished ≡ unfinished = omega arith in
-    rw (
-      take-all n (listBytes es) fits,
-      decoded-from es [] (length (listBytes es)) small few (list-some es),
-      lines-said es,
-      kinds-said es,
-      y,
-      z,
-      last-said full es,
-    )
+    rw (take-all n (listBytes es) fits, decoded-from es [] (length (listBytes es)) small few (list-some es))
 
 pub list-text : (full : Bool) (es : List Entry) → Small es → FewSteps es → length (listBytes es) ≤ listLimit
-    → listText full (listBytes es) ≡ flatMap lineOf es ++ pick full (refusalLine ListFull) (totalLine es)
+    → listText full (listBytes es) ≡ textOf full (map sayingOf es)
 unfolding listText
 list-text full es = text-within listLimit full es
 

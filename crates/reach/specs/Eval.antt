@@ -102,6 +102,13 @@ pub data Next : Type 0 where
   goes : State → Next
   waits : Question → Next
 
+-- by what comes next: something for the demanded target, for the end, for the state of the next step, and for the case that waits
+abbrev pub onNext : {A : Type 0} → A → (Stop → A) → (State → A) → (Question → A) → Next → A
+onNext demanded stopped go wait demands = demanded
+onNext demanded stopped go wait (stops why) = stopped why
+onNext demanded stopped go wait (goes s) = go s
+onNext demanded stopped go wait (waits q) = wait q
+
 -- what comes next as far as the state alone tells: it waits on whatever part of the input a case looks at
 unfoldable pub view : Program → State → Next
 view p (evaluating (variable n) env fs) = goes (resume (lookup env n) fs)
@@ -122,10 +129,7 @@ look q free = waits q
 look q (has c k) = goes (answered q c k)
 
 unfoldable pub answer : Parts → Next → Next
-answer input demands = demands
-answer input (stops why) = stops why
-answer input (goes s) = goes s
-answer input (waits q) = look q (at input (q .place))
+answer input n = onNext demands stops goes (λ q. look q (at input (q .place))) n
 
 -- what comes next on this input: it waits only where the part is open
 unfoldable pub next : Program → Parts → State → Next
@@ -140,10 +144,7 @@ pub data Run : Type 0 where
 
 -- the end after n steps, or what goes on from there
 unfoldable pub conclude : (State → Run) → (Question → Run) → ℕ → Next → Run
-conclude go wait n demands = reached n
-conclude go wait n (stops why) = ended why n
-conclude go wait n (goes s) = go s
-conclude go wait n (waits q) = wait q
+conclude go wait n next = onNext (reached n) (λ why. ended why n) go wait next
 
 -- the evaluation on an input, with so many steps left and n done
 unfoldable pub eval : Program → Parts → ℕ → ℕ → State → Run

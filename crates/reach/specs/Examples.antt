@@ -8,6 +8,8 @@ use mathlib.Core.List
 use mathlib.Core.List.{List, [], _∷_, map}
 use mathlib.Core.Option.{Option, none, some, Option·map}
 use Rattle.reach.specs.declared.Refusal.the-variants.{WorkTooShort}
+use Rattle.reach.specs.declared.Kind.{Kind}
+use Rattle.reach.specs.declared.Kind.the-variants.{RE, UN}
 use Rattle.reach.specs.declared.Verdict.{Verdict}
 use Rattle.reach.specs.declared.Verdict.the-variants.{Found, Undecided, None}
 use Rattle.reach.specs.declared.Outcome.the-variants.{Reached, Ended, Unfinished}
@@ -18,7 +20,7 @@ use Rattle.reach.specs.Parts.{prefix}
 use Rattle.reach.specs.Types
 use Rattle.reach.specs.Eval
 use Rattle.reach.specs.Search
-use Rattle.reach.specs.Search.{Kind, RE, UN, Entry}
+use Rattle.reach.specs.Search.{Entry}
 use Rattle.reach.specs.Reader
 use Rattle.reach.specs.RuleFile
 use Rattle.reach.specs.Input
@@ -173,7 +175,8 @@ unfolding
     Types.shallow Types.forksFrom Types.forks Types.forksAt
     Eval.partOf Eval.size Eval.suspend Eval.lookup Eval.resume Eval.choose Eval.enter Eval.answered Eval.view Eval.look Eval.answer Eval.next
     Eval.conclude Eval.eval Eval.startOf Eval.start Eval.run
-    Search.gather Search.branches Search.search Search.openInput Search.entries Search.verdict
+    Search.gather Search.branches Search.search Search.openInput Search.entries Search.countFrom
+    Search.counts Search.verdictBy Search.verdict
     Reader.byte Reader.word Reader.times Reader.passed Reader.atEnd
     RuleFile.markOf RuleFile.mark RuleFile.counted RuleFile.constructorRecord RuleFile.typeRecord RuleFile.functionRecord RuleFile.goalRecord
     RuleFile.moreTypes RuleFile.moreFunctions RuleFile.outline RuleFile.allBelow RuleFile.constructorsExist RuleFile.typesExist
@@ -185,8 +188,8 @@ unfolding
     Lists.wordBytes Lists.kindBytes Lists.entryBytes Lists.listBytes Lists.cut Lists.roomOf
     Answers.check Answers.cutAnswer Answers.searchChecked Answers.searchAnswer Answers.listed Answers.refusalOf Answers.verdictOf Answers.outcomeOf
     Answers.runInput Answers.runChecked Answers.runAnswer
-    Text.spaced Text.lineFrom Text.digitsBy Text.decimal Text.kindWord Text.partWord Text.lineSaying Text.lineOf Text.count Text.share
-    Text.totalSaying Text.totalLine Text.refusalLine Text.text
+    Text.spaced Text.lineFrom Text.digitsBy Text.decimal Text.kindWord Text.partWord Text.lineSaying Text.share Text.totalLine
+    Text.refusalLine Text.lastLine Text.textOf Text.text
     List.flatMap List.zipWith
 definitions = tt
 

@@ -4,10 +4,12 @@
 use Prim.Native.Nat.{ℕ, zero, suc, _+_}
 use mathlib.Core.List.{List, [], _∷_, _++_}
 use Rattle.reach.specs.Syntax.{Program}
-use Rattle.reach.specs.Parts.{Parts, bindAt}
+use Rattle.reach.specs.declared.Kind.the-variants.{RE}
+use Rattle.reach.specs.declared.PathEnd.the-variants.{Listed}
+use Rattle.reach.specs.Parts.{Parts}
 use Rattle.reach.specs.Types.{Fork, leastDepths}
-use Rattle.reach.specs.Eval.{State, Question, answered, Next, demands, stops, goes, waits, next, start}
-use Rattle.reach.specs.Search.{RE, Entry, spent, branches, openInput}
+use Rattle.reach.specs.Eval.{State, Question, Next, onNext, next, start}
+use Rattle.reach.specs.Search.{Entry, listing, offTarget, spent, branches, inputBehind, stateBehind, openInput}
 
 -- A path under way: what it goes on to, the steps left and done, and its partial input.
 pub record Going : Type 0 where
@@ -41,10 +43,8 @@ behind cs es = record { position = over; choices = cs; listed = es }
 
 -- the end of a path that is n steps long, listed at once, or what it goes on to
 unfoldable pub settle : (State → Walk) → (Question → Walk) → ℕ → Parts → List Choice → List Entry → Next → Walk
-settle go fork n input cs es demands = behind cs (es ++ (record { kind = RE; steps = n; input = input } ∷ []))
-settle go fork n input cs es (stops why) = behind cs es
-settle go fork n input cs es (goes s) = go s
-settle go fork n input cs es (waits q) = fork q
+settle go fork n input cs es next =
+    onNext (behind cs (es ++ listing (Listed RE) n input)) (λ why. behind cs (es ++ listing (offTarget why) n input)) go fork next
 
 -- a path arrives at a state, with so many steps left and n done; one that waits becomes a choice point
 unfoldable pub arrive : Program → List ℕ → ℕ → ℕ → Parts → State → List Choice → List Entry → Walk
@@ -61,7 +61,7 @@ arrive p table (suc left) n input s cs es =
 -- the constructor f of a choice point is taken, and the others stay
 unfoldable pub takeFork : Program → List ℕ → Choice → Fork → List Fork → List Choice → List Entry → Walk
 takeFork p table c f rest cs es =
-    arrive p table (c .left) (c .done) (bindAt (c .question .place) (f .constructor) (f .fields) (c .input)) (answered (c .question) (f .constructor) (f .fields))
+    arrive p table (c .left) (c .done) (inputBehind (c .question) f (c .input)) (stateBehind (c .question) f)
     (record { question = c .question; left = c .left; done = c .done; input = c .input; untried = rest } ∷ cs)
     es
 
@@ -96,17 +96,7 @@ total f (x ∷ xs) = f x + total f xs
 
 -- no move behind the end of a path, or the moves of what it goes on to
 unfoldable pub countNext : (State → ℕ) → (Question → ℕ) → Next → ℕ
-countNext go fork demands = 0
-countNext go fork (stops why) = 0
-countNext go fork (goes s) = go s
-countNext go fork (waits q) = fork q
-
--- the input and the state behind a constructor of a choice point
-abbrev pub inputBehind : Choice → Fork → Parts
-inputBehind c f = bindAt (c .question .place) (f .constructor) (f .fields) (c .input)
-
-abbrev pub stateBehind : Choice → Fork → State
-stateBehind c f = answered (c .question) (f .constructor) (f .fields)
+countNext go fork next = onNext 0 (λ why. 0) go fork next
 
 module _ (p : Program) (table : List ℕ) where
   -- the moves that follow on the arrival at a state, with so many steps left: one for each step, and one for each constructor of a fork
@@ -114,14 +104,12 @@ module _ (p : Program) (table : List ℕ) where
   pathMoves zero input s = 0
   pathMoves (suc left) input s =
       countNext (λ s′. suc (pathMoves left input s′))
-      (λ q. total
-      (λ (f : Fork). suc (pathMoves left (bindAt (q .place) (f .constructor) (f .fields) input) (answered q (f .constructor) (f .fields))))
-      (branches p table input q))
+      (λ q. total (λ (f : Fork). suc (pathMoves left (inputBehind q f input) (stateBehind q f))) (branches p table input q))
       (next p input s)
 
   -- the moves that choice points owe: for each untried constructor the one that takes it, and those that follow
   unfoldable pub choicesMoves : List Choice → ℕ
-  choicesMoves cs = total (λ (c : Choice). total (λ (f : Fork). suc (pathMoves (c .left) (inputBehind c f) (stateBehind c f))) (c .untried)) cs
+  choicesMoves cs = total (λ (c : Choice). total (λ (f : Fork). suc (pathMoves (c .left) (inputBehind (c .question) f (c .input)) (stateBehind (c .question) f))) (c .untried)) cs
 
   -- all of them: a path under way owes the one that arrives at its state, and those that follow
   unfoldable pub owedMovesFrom : Position → List Choice → ℕ

@@ -1,6 +1,8 @@
-// The answers that every layer gives: the refusals, the end of a run, the verdict of a search.
-// specs/Words.antt says which number or word of the papers each case is. There is no
-// other code in this crate: the rest of it is definitions (specs/) and what is proved of them (proofs/).
+// What every layer speaks of: the refusals and their numbers, the end of a run, the kinds of entries and their counts, the verdict of a
+// search. specs/Words.antt says which number or word of the papers each case is. There is no other code in this crate: the rest of it is
+// definitions (specs/) and what is proved of them (proofs/).
+ghost use mathlib.Core.Path.{_≡_};
+ghost use Rattle.reach.specs.Words.{numberOf};
 
 // Why a call gave no result. The comments give the word of the papers' table.
 pub enum Refusal {
@@ -37,9 +39,47 @@ pub enum Outcome {
     Unfinished(u16),
 }
 
+// The kind of an entry, named by its mark: the path reaches the target, or its steps are used up.
+pub enum Kind {
+    RE,
+    UN,
+}
+
+// What a path lists at its end: nothing, or an entry of this kind.
+pub enum PathEnd {
+    Unlisted,
+    Listed(Kind),
+}
+
+// How many entries of each kind there are.
+pub struct Counts {
+    pub reach: u64,
+    pub unfinished: u64,
+}
+
 // What a complete list says of its rule file.
 pub enum Verdict {
     Found,
     Undecided,
     None,
+}
+
+// The number that the papers give a refusal.
+pub fn number(why: Refusal) -> u64
+    ensures { λ r. ⌜ r ≡ numberOf why ⌝ }
+{
+    match why {
+        Refusal::Truncated => 1,
+        Refusal::UnexpectedMark => 2,
+        Refusal::OutOfRange => 3,
+        Refusal::UnknownNumber => 4,
+        Refusal::UnknownCode => 5,
+        Refusal::TypeMismatch => 6,
+        Refusal::TrailingBytes => 7,
+        Refusal::EmptyType => 8,
+        Refusal::DepthTooSmall => 9,
+        Refusal::BadInput => 10,
+        Refusal::WorkTooShort => 11,
+        Refusal::ListFull => 12,
+    }
 }

@@ -12,7 +12,7 @@ use Rattle.reach.specs.declared.Outcome.{Outcome}
 use Rattle.reach.specs.declared.Verdict.{Verdict}
 use Rattle.reach.specs.Words.{numberOf, stepsOf}
 use Rattle.reach.specs.Limits.{listLimit}
-use Rattle.reach.specs.Lists.{roomOf, onSize, entrySpan, entryPart}
+use Rattle.reach.specs.Lists.{roomOf, onFound, entrySpan, entryPart}
 use Rattle.reach.specs.Answers as Answers
 use Rattle.reach.proofs.Base.{clash}
 use Rattle.reach.proofs.ReadBack.{counted, part-counted, span-inside}

@@ -14,7 +14,7 @@ use Rattle.reach.specs.declared.Verdict.the-variants.{Found, Undecided, None}
 use Rattle.reach.specs.Words.{numberOf, stepsOf}
 use Rattle.reach.specs.Limits.{listLimit}
 use Rattle.reach.specs.Search.{verdict}
-use Rattle.reach.specs.Lists.{listBytes, roomOf, onSize, entrySpan, entryPart}
+use Rattle.reach.specs.Lists.{listBytes, roomOf, onFound, entrySpan, entryPart}
 use Rattle.reach.specs.Answers.{Checked, accepted, turnedBack, SearchAnswer, noSearch, complete, cutShort, RunAnswer, noRun, ran}
 
 -- the number of a verdict
@@ -47,7 +47,7 @@ runNumber (ran o) = 256 * outcomeNumber o + 65536 * stepsOf o
 
 -- the entry of a given number: its place and its size; where there is none, the list's end and no byte
 unfoldable pub partNumber : List ℕ → ℕ → ℕ
-partNumber list k = onSize (roomOf (length list)) (λ span. span .0 + 4294967296 * span .1) (entrySpan (take listLimit list) k 0)
+partNumber list k = onFound (roomOf (length list)) (λ span. span .0 + 4294967296 * span .1) (entrySpan (take listLimit list) k 0)
 
 -- What the number for an entry says: its place and its size are read off it, and the bytes there are the entry's part of the list.
 pub record PartAt (list : List ℕ) (k r : ℕ) : Type 0 where

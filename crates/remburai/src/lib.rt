@@ -14,9 +14,9 @@ use entries::span_of;
 use reach::Outcome;
 use reach::Refusal;
 use reach::Verdict;
+use reach::number;
 use rulefile::Checked;
 use rulefile::check;
-use rulefile::number;
 
 // The number of a verdict.
 fn verdict_number(verdict: Verdict) -> u64

@@ -6,7 +6,6 @@ ghost use Prim.Native.Nat.{_+_, _≤_};
 ghost use lib.ListN.{getD};
 ghost use Rattle.reach.specs.Places.{goalAt};
 ghost use Rattle.reach.specs.Answers;
-ghost use Rattle.reach.specs.Words.{numberOf};
 ghost use Rattle.rulefile.specs.Loading.{checkedOf, Outlines, Reads, Loads, sourceShallow};
 use bodies::bodies;
 use depths::Depths;
@@ -39,26 +38,6 @@ pub struct Loaded {
     pub function_at: [u16; 64],
     pub goal_at: usize,
     pub least: [u8; 32],
-}
-
-// The number that the papers give a refusal.
-pub fn number(why: Refusal) -> u64
-    ensures { λ r. ⌜ r ≡ numberOf why ⌝ }
-{
-    match why {
-        Refusal::Truncated => 1,
-        Refusal::UnexpectedMark => 2,
-        Refusal::OutOfRange => 3,
-        Refusal::UnknownNumber => 4,
-        Refusal::UnknownCode => 5,
-        Refusal::TypeMismatch => 6,
-        Refusal::TrailingBytes => 7,
-        Refusal::EmptyType => 8,
-        Refusal::DepthTooSmall => 9,
-        Refusal::BadInput => 10,
-        Refusal::WorkTooShort => 11,
-        Refusal::ListFull => 12,
-    }
 }
 
 // A file that was refused.

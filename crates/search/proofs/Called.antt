@@ -17,7 +17,9 @@ use Rattle.reach.specs.Words.{numberOf}
 use Rattle.reach.specs.Limits.{workWords}
 use Rattle.reach.specs.Syntax.{Program}
 use Rattle.reach.specs.Eval.{Spent}
-use Rattle.reach.specs.Search.{Kind, RE, UN, Entry, says, entries, verdict}
+use Rattle.reach.specs.declared.Kind.{Kind}
+use Rattle.reach.specs.declared.Kind.the-variants.{RE, UN}
+use Rattle.reach.specs.Search.{Entry, says, entries, countFrom, counts, verdictBy, verdict}
 use Rattle.reach.specs.Lists.{entryBytes, listBytes, roomOf, written}
 use Rattle.reach.specs.Answers.{Checked, accepted, turnedBack, check, SearchAnswer, noSearch, complete, cutShort, searchAnswer, listed, refusalOf, verdictOf}
 use Rattle.reach.proofs.Base.{clash}
@@ -204,7 +206,7 @@ no-numbers (x ∷ es) none = absurd (none 0 x refl)
 
 -- with the verdict none, nothing is listed
 pub none-lists : (a : SearchAnswer) → verdictOf a ≡ some None → (answerOf a ≡ Answer.Complete 0 None) × (listed a ≡ [])
-unfolding verdictOf listed listBytes flatMap verdict
+unfolding verdictOf listed listBytes flatMap verdict verdictBy counts countFrom
 none-lists (noSearch why) is = absurd (Option·none-ne-some None is)
 none-lists (complete es) is =
     let nothing = (none-empty es) .0 (Option·some-injective (verdict es) None is) in

@@ -12,34 +12,21 @@ use borrow.Author.Tests.{le-leb, lt-leb}
 use Rattle.reach.specs.declared.Refusal.{Refusal}
 use Rattle.reach.specs.declared.Refusal.the-variants.{WorkTooShort}
 use Rattle.reach.specs.declared.Verdict.{Verdict}
-use Rattle.reach.specs.declared.Verdict.the-variants.{Found, Undecided, None}
 use Rattle.reach.specs.Limits.{workWords}
 use Rattle.reach.specs.Syntax.{Program}
-use Rattle.reach.specs.Search.{Kind, RE, UN, Entry, withEntry, verdict, entries}
+use Rattle.reach.specs.Search.{Entry, counts, kindsOf, verdict, entries}
 use Rattle.reach.specs.Lists.{entryBytes, listBytes, keep, cut, roomOf, written}
 use Rattle.reach.specs.Answers.{accepted, turnedBack, check, noSearch, complete, cutShort, cutAnswer, searchChecked, searchAnswer}
+use Rattle.reach.proofs.Lists.{verdict-more}
 use Rattle.reach.proofs.Answers.{search-turned-back, short-work}
-use Rattle.search.specs.Exploring.{joined}
+use Rattle.search.specs.Exploring.{WithEntry}
 
 -- One entry more.
 
--- the first entry's part in the verdict does not depend on which entries come last
-with-joined : (k k′ : Kind) (v : Verdict) → withEntry k (joined v k′) ≡ joined (withEntry k v) k′
-with-joined RE RE v = refl
-with-joined RE UN v = refl
-with-joined UN RE v = refl
-with-joined UN UN Found = refl
-with-joined UN UN Undecided = refl
-with-joined UN UN None = refl
-
-with-last : (k : Kind) → withEntry k None ≡ joined None k
-with-last RE = refl
-with-last UN = refl
-
-pub verdict-more : (es : List Entry) (e : Entry) → verdict (es ++ (e ∷ [])) ≡ joined (verdict es) (e .kind)
+-- its verdict
+pub verdict-with : (es : List Entry) (e : Entry) {v r : Verdict} → v ≡ verdict es → WithEntry v (e .kind) r → r ≡ verdict (es ++ (e ∷ []))
 unfolding verdict
-verdict-more [] e = with-last (e .kind)
-verdict-more (x ∷ es) e = rw (verdict-more es e) (with-joined (x .kind) (e .kind) (verdict es))
+verdict-with es e is with-entry = with-entry (counts (kindsOf es)) is ∙ sym (verdict-more es e)
 
 -- the bytes of a list are those of its first entry and those of the others
 bytes-first : (x : Entry) (es : List Entry) → listBytes (x ∷ es) ≡ entryBytes x ++ listBytes es

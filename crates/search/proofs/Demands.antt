@@ -24,7 +24,9 @@ use Rattle.reach.specs.Syntax.{Program}
 use Rattle.reach.specs.Parts.{Parts, Place, openAt, BoundPart, Completes}
 use Rattle.reach.specs.Types.{ClosedInput, WithinDepth}
 use Rattle.reach.specs.Eval.{halted, run, Spent}
-use Rattle.reach.specs.Search.{Kind, RE, UN, Entry, says, ReachedOrUnfinished, StopsInside, entries, verdict}
+use Rattle.reach.specs.declared.Kind.{Kind}
+use Rattle.reach.specs.declared.Kind.the-variants.{RE, UN}
+use Rattle.reach.specs.Search.{Entry, says, ReachedOrUnfinished, StopsInside, entries, verdict}
 use Rattle.reach.specs.Lists.{entryBytes, listBytes, roomOf, entryPart}
 use Rattle.reach.specs.Answers.{accepted, turnedBack, check, SearchAnswer, complete, searchAnswer, listed}
 use Rattle.reach.proofs.Base.{nth-member}

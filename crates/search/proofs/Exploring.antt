@@ -1,7 +1,7 @@
 -- The loop of `explore`: the search came from its beginning to where it stands, with the entries listed so far; they and those still to come are the
 -- program's list.
 -- Rests on specs/Exploring, on Cutting, on reach's Moves and on listing's laws.
-use Prim.Native.Nat.{ℕ, zero, suc, _+_, _-_, _≤_, _<_}
+use Prim.Native.Nat.{ℕ, _+_, _-_, _≤_, _<_}
 use mathlib.Core.Path.{_≡_, refl, sym, _∙_, ap, subst}
 use mathlib.Core.Bool.{Bool, true, false}
 use mathlib.Core.List.{List, [], _∷_, _++_, append-nil, append-assoc, flatMap}
@@ -15,7 +15,10 @@ use Rattle.reach.specs.Syntax.{Program, sourceTypes}
 use Rattle.reach.specs.Parts.{Parts, prefix}
 use Rattle.reach.specs.Types.{sourceSlots, leastDepths}
 use Rattle.reach.specs.Eval.{start}
-use Rattle.reach.specs.Search.{Kind, RE, UN, Entry, search, openInput, entries, verdict}
+use Rattle.reach.specs.declared.Kind.{Kind}
+use Rattle.reach.specs.declared.PathEnd.{PathEnd}
+use Rattle.reach.specs.declared.PathEnd.the-variants.{Unlisted, Listed}
+use Rattle.reach.specs.Search.{Entry, search, openInput, entries, countFrom, counts, verdictBy, verdict}
 use Rattle.reach.specs.Lists.{entryBytes, listBytes, written}
 use Rattle.reach.specs.Moves as Model
 use Rattle.reach.specs.Moves.{Choice, move, moveFrom, moves}
@@ -27,33 +30,25 @@ use Rattle.choices.specs.Returning.{setting}
 use Rattle.choices.proofs.Returning.{limit-few}
 use Rattle.moves.specs.declared.Position.the-variants as Position
 use Rattle.moves.specs.declared.Walk.{Walk}
-use Rattle.moves.specs.declared.Listing.{Listing}
-use Rattle.moves.specs.declared.Listing.the-variants as Listing
 use Rattle.moves.specs.declared.Moved.{Moved}
 use Rattle.moves.specs.Moving.{positionOf, PositionAt, StandsAs, EntryIn, Lists, walkWeight, Makes, ActiveAt, Active, Standing, Moves}
-use Rattle.listing.specs.declared.Mark.{Mark}
-use Rattle.listing.specs.declared.Mark.the-variants as Mark
 use Rattle.listing.specs.declared.Written.{Written}
 use Rattle.listing.specs.declared.Written.the-variants as Written
-use Rattle.listing.specs.Entry.{kindOf, InputIn, Listable, entryFor, WroteFor, WroteEntry}
+use Rattle.listing.specs.Entry.{InputIn, Listable, entryFor, WroteFor, WroteEntry}
 use Rattle.listing.proofs.Bytes.{entry-length}
 use Rattle.search.specs.declared.Answer.the-variants as Answer
-use Rattle.search.specs.Exploring.{joined, firstWalk, GoesOn, verdictAfter, ListableAs, WroteAs, FirstEntries, Begins, SomeBegins, Explores}
-use Rattle.search.proofs.Cutting.{verdict-more, size-more, written-none, written-length, written-more}
+use Rattle.search.specs.Exploring.{firstWalk, GoesOn, WithEntry, VerdictAfter, ListableAs, WroteAs, FirstEntries, Begins, SomeBegins, Explores}
+use Rattle.search.proofs.Cutting.{verdict-with, size-more, written-none, written-length, written-more}
 
 -- the search goes on while a path is under way, and behind the end of one while there is a choice point
-pub active-on : (x : Walk) → 0 < x .paths → Active x
-active-on x some = by-paths (x .paths) some
-  where
-    by-paths : (n : ℕ) → 0 < n → ActiveAt (positionOf n (x .registers)) (x .height)
-    by-paths zero none = absurd (omega arith)
-    by-paths (suc n) one = tt
+pub active-on : (x : Walk) → x .going ≡ true → Active x
+active-on x is = subst (λ going. ActiveAt (positionOf going (x .registers)) (x .height)) (sym is) tt
 
-pub active-over : (x : Walk) → x .paths ≡ 0 → GoesOn x (ltb 0 (x .height))
+pub active-over : (x : Walk) → x .going ≡ false → GoesOn x (ltb 0 (x .height))
 active-over x is = by-height (ltb 0 (x .height)) refl
   where
     by-height : (b : Bool) → ltb 0 (x .height) ≡ b → GoesOn x b
-    by-height true h = subst (λ n. ActiveAt (positionOf n (x .registers)) (x .height)) (sym is) (ltb-true 0 (x .height) h)
+    by-height true h = subst (λ going. ActiveAt (positionOf going (x .registers)) (x .height)) (sym is) (ltb-true 0 (x .height) h)
     by-height false h = (is, omega (arith, ltb-false 0 (x .height) h))
 
 -- at the beginning everything is still to come
@@ -79,7 +74,7 @@ moved-keeps p table position position′ cs cs′ es new more is =
     ∙ move-keeps p table (record { position = position; choices = cs; listed = es })
 
 verdict-none : verdict [] ≡ Verdict.None
-unfolding verdict
+unfolding verdict counts countFrom verdictBy
 verdict-none = refl
 
 module _ (file types functions least : List ℕ) (label : ℕ) (w₀ : List ℕ) (limit base stack parameters : ℕ) (from : Registers) (before : List ℕ) where
@@ -135,7 +130,7 @@ module _ (file types functions least : List ℕ) (label : ℕ) (w₀ : List ℕ)
     came-over goes is p begins =
         let now = came p begins in
         let (over, lowest) = subst (GoesOn x) is goes in
-        let last = at-end p (now .position) (now .choices) (subst (λ n. PositionAt (at-program p) w (x .cells) (x .done) (x .height) (positionOf n (x .registers)) (now .position) (now .choices)) over (now .stands)) lowest in
+        let last = at-end p (now .position) (now .choices) (subst (λ going. PositionAt (at-program p) w (x .cells) (x .done) (x .height) (positionOf going (x .registers)) (now .position) (now .choices)) over (now .stands)) lowest in
         let whole : now .listed ≡ entries p =
         sym (append-nil (now .listed)) ∙ ap (λ es. now .listed ++ es) (sym (last .0)) ∙ now .owed-is in
         record {
@@ -171,7 +166,7 @@ module _ (file types functions least : List ℕ) (label : ℕ) (w₀ : List ℕ)
       pub move-length : SomeBegins file types functions least label w₀ limit base stack parameters from → length w′ ≡ length w₀
       move-length (p, begins) = makes p begins .same-length ∙ same-length
 
-      lists : (p : Program) (begins : Begins (at-program p) label w₀ parameters from) (listing : Listing) → m .listing ≡ listing → Lists (at-program p) w′ (m .walk) listing (makes p begins .new)
+      lists : (p : Program) (begins : Begins (at-program p) label w₀ parameters from) (listing : PathEnd) → m .listing ≡ listing → Lists (at-program p) w′ (m .walk) listing (makes p begins .new)
       lists p begins listing is = subst (λ y. Lists (at-program p) w′ (m .walk) y (makes p begins .new)) is (makes p begins .lists)
 
       owed-after :
@@ -202,28 +197,27 @@ module _ (file types functions least : List ℕ) (label : ℕ) (w₀ : List ℕ)
       pub move-listable : SomeBegins file types functions least label w₀ limit base stack parameters from → ListableAs file types w′ parameters (m .walk .cells) (m .listing)
       move-listable (p, begins) = by-listing (m .listing) refl
         where
-          by-listing : (y : Listing) → m .listing ≡ y → ListableAs file types w′ parameters (m .walk .cells) y
-          by-listing Listing.Nothing is = tt
-          by-listing Listing.Reached is = listable-one p begins RE (lists p begins Listing.Reached is)
-          by-listing Listing.Unfinished is = listable-one p begins UN (lists p begins Listing.Unfinished is)
+          by-listing : (y : PathEnd) → m .listing ≡ y → ListableAs file types w′ parameters (m .walk .cells) y
+          by-listing Unlisted is = tt
+          by-listing (Listed kind) is = listable-one p begins kind (lists p begins (Listed kind) is)
 
       module _ (l′ : List ℕ) (r : Written) (wrote : WroteAs file types w′ parameters (m .walk .cells) (m .walk .done) (m .listing) l l′ n r) where
         -- the entry of an input is as long as its header and its cells
-        long : (mark : Mark) (e : Parts) → length (prefix e) ≡ m .walk .cells → length (entryBytes (entryFor mark (m .walk .done) e)) ≡ 6 + m .walk .cells
-        long mark e counted = entry-length (entryFor mark (m .walk .done) e) ∙ ap (λ y. 6 + y) counted
+        long : (kind : Kind) (e : Parts) → length (prefix e) ≡ m .walk .cells → length (entryBytes (entryFor kind (m .walk .done) e)) ≡ 6 + m .walk .cells
+        long kind e counted = entry-length (entryFor kind (m .walk .done) e) ∙ ap (λ y. 6 + y) counted
 
         -- an entry was written
         wrote-one :
-            (p : Program) (begins : Begins (at-program p) label w₀ parameters from) (mark : Mark) → EntryIn (at-program p) w′ (m .walk) (kindOf mark) (makes p begins .new)
-            → WroteEntry file types w′ parameters (m .walk .cells) mark (m .walk .done) n l l′ r → (behind : ℕ) → r ≡ Written.Behind behind
-            → Came p w′ (m .walk) l′ behind (joined v (kindOf mark))
-        wrote-one p begins mark entry told behind is =
+            (p : Program) (begins : Begins (at-program p) label w₀ parameters from) (kind : Kind) → EntryIn (at-program p) w′ (m .walk) kind (makes p begins .new)
+            → WroteEntry file types w′ parameters (m .walk .cells) kind (m .walk .done) n l l′ r → (behind : ℕ) → r ≡ Written.Behind behind
+            → {v′ : Verdict} → WithEntry v kind v′ → Came p w′ (m .walk) l′ behind v′
+        wrote-one p begins kind entry told behind is with-entry =
             let now = came p begins in
             let made = makes p begins in
             let e = entry .0 in
-            let new = entryFor mark (m .walk .done) e in
-            let (place, fits, bytes) = subst (WroteFor mark (m .walk .done) (m .walk .cells) n l l′ e) is (told (p .types) (sourceTypes p) (p .depth) e (input-in p begins (kindOf mark) entry)) in
-            let size = long mark e (entry .2 .counted) in
+            let new = entryFor kind (m .walk .done) e in
+            let (place, fits, bytes) = subst (WroteFor kind (m .walk .done) (m .walk .cells) n l l′ e) is (told (p .types) (sourceTypes p) (p .depth) e (input-in p begins kind entry)) in
+            let size = long kind e (entry .2 .counted) in
             let room = same-room (p, begins) .0 in
             record {
               position = made .position;
@@ -234,19 +228,19 @@ module _ (file types functions least : List ℕ) (label : ℕ) (w₀ : List ℕ)
               length-is = omega (arith, size-more (now .listed) new, now .length-is);
               fits = omega arith;
               list-is = written-more (now .listed) new before l l′ n behind (now .list-is) (now .length-is) (omega arith) (omega arith) bytes;
-              verdict-is = ap (λ y. joined y (kindOf mark)) (now .verdict-is) ∙ sym (verdict-more (now .listed) new);
+              verdict-is = verdict-with (now .listed) new (now .verdict-is) with-entry;
             }
 
-        pub came-on : {behind : ℕ} → r ≡ Written.Behind behind → CameTo w′ (m .walk) l′ behind (verdictAfter v (m .listing))
-        came-on {behind} is p begins = by-listing (m .listing) refl wrote
+        pub came-on : {behind : ℕ} → r ≡ Written.Behind behind → {v′ : Verdict} → VerdictAfter v (m .listing) v′ → CameTo w′ (m .walk) l′ behind v′
+        came-on {behind} is {v′} after p begins = by-listing (m .listing) refl wrote after
           where
             by-listing :
-                (y : Listing) → m .listing ≡ y → WroteAs file types w′ parameters (m .walk .cells) (m .walk .done) y l l′ n r
-                → Came p w′ (m .walk) l′ behind (verdictAfter v y)
-            by-listing Listing.Nothing same (place-is, list-same) =
+                (y : PathEnd) → m .listing ≡ y → WroteAs file types w′ parameters (m .walk .cells) (m .walk .done) y l l′ n r → VerdictAfter v y v′
+                → Came p w′ (m .walk) l′ behind v′
+            by-listing Unlisted same (place-is, list-same) v-same =
                 let now = came p begins in
                 let made = makes p begins in
-                let none : made .new ≡ [] = lists p begins Listing.Nothing same in
+                let none : made .new ≡ [] = lists p begins Unlisted same in
                 let here : behind ≡ n = placed (sym is ∙ place-is) in
                 record {
                   position = made .position;
@@ -257,25 +251,24 @@ module _ (file types functions least : List ℕ) (label : ℕ) (w₀ : List ℕ)
                   length-is = here ∙ now .length-is;
                   fits = omega (arith, now .fits);
                   list-is = list-same ∙ now .list-is;
-                  verdict-is = now .verdict-is;
+                  verdict-is = v-same ∙ now .verdict-is;
                 }
               where
                 placed : Written.Behind behind ≡ Written.Behind n → behind ≡ n
                 placed h = cc
-            by-listing Listing.Reached same told = wrote-one p begins Mark.Reach (lists p begins Listing.Reached same) told behind is
-            by-listing Listing.Unfinished same told = wrote-one p begins Mark.Unfinished (lists p begins Listing.Unfinished same) told behind is
+            by-listing (Listed kind) same told with-entry = wrote-one p begins kind (lists p begins (Listed kind) same) told behind is with-entry
 
         -- an entry does not fit
         full-one :
-            (p : Program) (begins : Begins (at-program p) label w₀ parameters from) (mark : Mark) → EntryIn (at-program p) w′ (m .walk) (kindOf mark) (makes p begins .new)
-            → WroteEntry file types w′ parameters (m .walk .cells) mark (m .walk .done) n l l′ r → r ≡ Written.Full → FirstEntries (at-program p) before l′ w′ n
-        full-one p begins mark entry told is =
+            (p : Program) (begins : Begins (at-program p) label w₀ parameters from) (kind : Kind) → EntryIn (at-program p) w′ (m .walk) kind (makes p begins .new)
+            → WroteEntry file types w′ parameters (m .walk .cells) kind (m .walk .done) n l l′ r → r ≡ Written.Full → FirstEntries (at-program p) before l′ w′ n
+        full-one p begins kind entry told is =
             let now = came p begins in
             let made = makes p begins in
             let e = entry .0 in
-            let new = entryFor mark (m .walk .done) e in
-            let (over, same) = subst (WroteFor mark (m .walk .done) (m .walk .cells) n l l′ e) is (told (p .types) (sourceTypes p) (p .depth) e (input-in p begins (kindOf mark) entry)) in
-            let size = long mark e (entry .2 .counted) in
+            let new = entryFor kind (m .walk .done) e in
+            let (over, same) = subst (WroteFor kind (m .walk .done) (m .walk .cells) n l l′ e) is (told (p .types) (sourceTypes p) (p .depth) e (input-in p begins kind entry)) in
+            let size = long kind e (entry .2 .counted) in
             let room = same-room (p, begins) .0 in
             record {
               listed = now .listed;
@@ -294,10 +287,9 @@ module _ (file types functions least : List ℕ) (label : ℕ) (w₀ : List ℕ)
         came-full is p begins = by-listing (m .listing) refl wrote
           where
             by-listing :
-                (y : Listing) → m .listing ≡ y → WroteAs file types w′ parameters (m .walk .cells) (m .walk .done) y l l′ n r → FirstEntries (at-program p) before l′ w′ n
-            by-listing Listing.Nothing same (place-is, list-same) = absurd (clash (cc (is, place-is)))
-            by-listing Listing.Reached same told = full-one p begins Mark.Reach (lists p begins Listing.Reached same) told is
-            by-listing Listing.Unfinished same told = full-one p begins Mark.Unfinished (lists p begins Listing.Unfinished same) told is
+                (y : PathEnd) → m .listing ≡ y → WroteAs file types w′ parameters (m .walk .cells) (m .walk .done) y l l′ n r → FirstEntries (at-program p) before l′ w′ n
+            by-listing Unlisted same (place-is, list-same) = absurd (clash (cc (is, place-is)))
+            by-listing (Listed kind) same told = full-one p begins kind (lists p begins (Listed kind) same) told is
 
 -- The same, whatever registers the search began with: the loop knows them as those of its first walk.
 

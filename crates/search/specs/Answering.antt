@@ -11,10 +11,9 @@ use Rattle.reach.specs.declared.Refusal.the-variants.{ListFull}
 use Rattle.reach.specs.declared.Verdict.{Verdict}
 use Rattle.reach.specs.Limits.{workWords}
 use Rattle.reach.specs.Syntax.{Program, sourceTypes}
-use Rattle.reach.specs.Parts.{prefix}
 use Rattle.reach.specs.Types.{Typed, sourceSlots}
 use Rattle.reach.specs.Search.{Entry, openInput, entries, verdict}
-use Rattle.reach.specs.Lists.{listBytes, written, entryPart, decoded}
+use Rattle.reach.specs.Lists.{listBytes, written, entryPart, sayingOf, decoded}
 use Rattle.reach.specs.Answers.{check, accepted, SearchAnswer, noSearch, complete, cutShort, searchAnswer, listed}
 use Rattle.machine.specs.Cells.{Cells}
 use Rattle.search.specs.declared.Answer.{Answer}
@@ -76,5 +75,5 @@ verdictIn (Answer.Full n) = none
 abbrev pub ReadsAs : Program → List ℕ → ℕ → Entry → Type 0
 ReadsAs p bytes k e =
     ¬ (entryPart bytes k ≡ [])
-    × (decoded (entryPart bytes k) ≡ record { kind = e .kind; steps = e .steps; parameters = prefix (e .input) })
+    × (decoded (entryPart bytes k) ≡ sayingOf e)
     × Typed (p .types) (sourceTypes p) (e .input)

@@ -6,12 +6,15 @@ use mathlib.Core.Bool.{Bool, true, false}
 use mathlib.Core.List.{List, [], _∷_, _++_}
 use lib.ListN.{length, getD, drop}
 use Rattle.reach.specs.declared.Verdict.{Verdict}
-use Rattle.reach.specs.declared.Verdict.the-variants.{Found, Undecided, None}
 use Rattle.reach.specs.Syntax.{Program, sourceTypes}
 use Rattle.reach.specs.Types.{sourceSlots, leastDepths}
 use Rattle.reach.specs.Eval.{start}
 use Rattle.reach.specs.Places.{bytesAt, headAt, goalAt}
-use Rattle.reach.specs.Search.{Kind, RE, UN, Entry, openInput, entries, verdict}
+use Rattle.reach.specs.declared.Kind.{Kind}
+use Rattle.reach.specs.declared.PathEnd.{PathEnd}
+use Rattle.reach.specs.declared.PathEnd.the-variants.{Unlisted, Listed}
+use Rattle.reach.specs.declared.Counts.{Counts}
+use Rattle.reach.specs.Search.{Entry, openInput, entries, oneMore, verdictBy, verdict}
 use Rattle.reach.specs.Lists.{entryBytes, listBytes, written}
 use Rattle.reach.specs.Answers.{check, accepted}
 use Rattle.machine.specs.Cells.{Cells}
@@ -22,10 +25,7 @@ use Rattle.depths.specs.Table.{padded}
 use Rattle.choices.specs.Choices.{Setting, Given, AllOpen}
 use Rattle.choices.specs.Returning.{setting}
 use Rattle.moves.specs.declared.Walk.{Walk}
-use Rattle.moves.specs.declared.Listing.{Listing}
-use Rattle.moves.specs.declared.Listing.the-variants as Listing
 use Rattle.moves.specs.Moving.{UnderWay, Active}
-use Rattle.listing.specs.declared.Mark.the-variants as Mark
 use Rattle.listing.specs.declared.Written.{Written}
 use Rattle.listing.specs.declared.Written.the-variants as Written
 use Rattle.listing.specs.Entry.{Listable, WroteEntry}
@@ -43,37 +43,31 @@ pub record Opened (file w w′ : List ℕ) (base first n depth : ℕ) : Type 0 w
 
 -- the walk at the beginning
 abbrev pub firstWalk : ℕ → Registers → Walk
-firstWalk parameters from = record { paths = 1; registers = from; cells = parameters; done = 0; height = 0 }
+firstWalk parameters from = record { going = true; registers = from; cells = parameters; done = 0; height = 0 }
 
 -- whether the search goes on
 abbrev pub GoesOn : Walk → Bool → Type 0
 GoesOn x true = Active x
-GoesOn x false = (x .paths ≡ 0) × (x .height ≡ 0)
+GoesOn x false = (x .going ≡ false) × (x .height ≡ 0)
 
--- the verdict when one entry more is listed
-abbrev pub joined : Verdict → Kind → Verdict
-joined v RE = Found
-joined Found UN = Found
-joined Undecided UN = Undecided
-joined None UN = Undecided
+-- the verdict of what was listed before, whatever that was, becomes that of one entry more
+abbrev pub WithEntry : Verdict → Kind → Verdict → Type 0
+WithEntry v kind r = (c : Counts) → v ≡ verdictBy c → r ≡ verdictBy (oneMore kind c)
 
 -- the verdict after what a path lists
-abbrev pub verdictAfter : Verdict → Listing → Verdict
-verdictAfter v Listing.Nothing = v
-verdictAfter v Listing.Reached = joined v RE
-verdictAfter v Listing.Unfinished = joined v UN
+abbrev pub VerdictAfter : Verdict → PathEnd → Verdict → Type 0
+VerdictAfter v Unlisted r = r ≡ v
+VerdictAfter v (Listed kind) r = WithEntry v kind r
 
 -- What a path lists can be written.
-abbrev pub ListableAs : List ℕ → List ℕ → List ℕ → ℕ → ℕ → Listing → Type 0
-ListableAs file types w parameters cells Listing.Nothing = Unit {0}
-ListableAs file types w parameters cells Listing.Reached = Listable file types w parameters cells
-ListableAs file types w parameters cells Listing.Unfinished = Listable file types w parameters cells
+abbrev pub ListableAs : List ℕ → List ℕ → List ℕ → ℕ → ℕ → PathEnd → Type 0
+ListableAs file types w parameters cells Unlisted = Unit {0}
+ListableAs file types w parameters cells (Listed kind) = Listable file types w parameters cells
 
 -- it was written, if it fits
-abbrev pub WroteAs : List ℕ → List ℕ → List ℕ → ℕ → ℕ → ℕ → Listing → List ℕ → List ℕ → ℕ → Written → Type 0
-WroteAs file types w parameters cells steps Listing.Nothing l l′ place r = (r ≡ Written.Behind place) × (l′ ≡ l)
-WroteAs file types w parameters cells steps Listing.Reached l l′ place r = WroteEntry file types w parameters cells Mark.Reach steps place l l′ r
-WroteAs file types w parameters cells steps Listing.Unfinished l l′ place r = WroteEntry file types w parameters cells Mark.Unfinished steps place l l′ r
+abbrev pub WroteAs : List ℕ → List ℕ → List ℕ → ℕ → ℕ → ℕ → PathEnd → List ℕ → List ℕ → ℕ → Written → Type 0
+WroteAs file types w parameters cells steps Unlisted l l′ place r = (r ≡ Written.Behind place) × (l′ ≡ l)
+WroteAs file types w parameters cells steps (Listed kind) l l′ place r = WroteEntry file types w parameters cells kind steps place l l′ r
 
 -- The list of a program was written whole, in a slice that held `before`, and every parameter is open again.
 pub record WholeList (g : Setting) (before after w′ : List ℕ) (n : ℕ) (v : Verdict) : Type 0 where

@@ -7,17 +7,17 @@ ghost use lib.ListN.{length};
 ghost use Rattle.reach.specs.Syntax.{Program};
 ghost use Rattle.skipping.specs.Ends.{Ends};
 ghost use Rattle.search.specs.Answering.{Promised};
-ghost use Rattle.search.specs.Exploring.{Opened, firstWalk, GoesOn, verdictAfter, ListableAs, WroteAs, SomeBegins, Explores, Searchable, settingOf, Explored};
+ghost use Rattle.search.specs.Exploring.{Opened, firstWalk, GoesOn, WithEntry, VerdictAfter, ListableAs, WroteAs, SomeBegins, Explores, Searchable, settingOf, Explored};
 use cells::start_cells;
 use depths::Depths;
 use entries::room;
-use listing::Mark;
 use listing::Written;
 use listing::write_entry;
 use lookups::head_of;
-use moves::Listing;
 use moves::Walk;
 use moves::make_moves;
+use reach::Kind;
+use reach::PathEnd;
 use reach::Refusal;
 use reach::Verdict;
 use rulefile::Checked;
@@ -42,31 +42,40 @@ pub enum Answer {
 fn is_active(walk: Walk) -> bool
     ensures { λ r. ⌜ GoesOn walk r ⌝ }
 {
-    if 0 < walk.paths {
+    if walk.going {
         return true;
     }
     0 < walk.height
 }
 
 // The verdict after what a path lists.
-fn verdict_after(verdict: Verdict, listing: Listing) -> Verdict
-    ensures { λ r. ⌜ r ≡ verdictAfter verdict listing ⌝ }
+fn verdict_after(verdict: Verdict, listing: PathEnd) -> Verdict
+    ensures { λ r. ⌜ VerdictAfter verdict listing r ⌝ }
 {
     match listing {
-        Listing::Nothing => verdict,
-        Listing::Reached => Verdict::Found,
-        Listing::Unfinished => with_unfinished(verdict),
+        PathEnd::Unlisted => return verdict,
+        PathEnd::Listed(kind) => return with_entry(verdict, kind),
+    }
+}
+
+// The verdict when one more entry is listed.
+fn with_entry(verdict: Verdict, kind: Kind) -> Verdict
+    ensures { λ r. ⌜ WithEntry verdict kind r ⌝ }
+{
+    match kind {
+        Kind::RE => return Verdict::Found,
+        Kind::UN => return with_unfinished(verdict),
     }
 }
 
 // The verdict when an unfinished entry is listed.
 fn with_unfinished(verdict: Verdict) -> Verdict
-    ensures { λ r. ⌜ r ≡ verdictAfter verdict Listing.Unfinished ⌝ }
+    ensures { λ r. ⌜ WithEntry verdict Kind.UN r ⌝ }
 {
     match verdict {
-        Verdict::Found => Verdict::Found,
-        Verdict::Undecided => Verdict::Undecided,
-        Verdict::None => Verdict::Undecided,
+        Verdict::Found => return Verdict::Found,
+        Verdict::Undecided => return Verdict::Undecided,
+        Verdict::None => return Verdict::Undecided,
     }
 }
 
@@ -78,7 +87,7 @@ fn write_listing<'a>(
     parameters: usize,
     cells: usize,
     steps: usize,
-    listing: Listing,
+    listing: PathEnd,
     list: &mut [u8],
     at: usize,
 ) -> Written
@@ -86,32 +95,9 @@ fn write_listing<'a>(
     ensures { λ r. ⌜ WroteAs (now (file .entry)) (now (types .entry)) (now (work .entry)) parameters cells steps listing (now (list .entry)) (now (list .exit)) at r ⌝ }
 {
     match listing {
-        Listing::Nothing => return Written::Behind(at),
-        Listing::Reached => {
-            return write_entry(
-                file,
-                types,
-                work,
-                parameters,
-                cells,
-                Mark::Reach,
-                steps,
-                list,
-                at,
-            );
-        }
-        Listing::Unfinished => {
-            return write_entry(
-                file,
-                types,
-                work,
-                parameters,
-                cells,
-                Mark::Unfinished,
-                steps,
-                list,
-                at,
-            );
+        PathEnd::Unlisted => return Written::Behind(at),
+        PathEnd::Listed(kind) => {
+            return write_entry(file, types, work, parameters, cells, kind, steps, list, at);
         }
     }
 }
@@ -121,7 +107,7 @@ fn first_walk(parameters: usize, from: Registers) -> Walk
     ensures { λ r. ⌜ r ≡ firstWalk parameters from ⌝ }
 {
     Walk {
-        paths: 1,
+        going: true,
         registers: from,
         cells: parameters,
         done: 0,

@@ -1,7 +1,6 @@
 -- `listing::put_header` meets its contract: mark, steps and length are stored one behind the other. Rests on Bytes.
 use mathlib.Core.Path.{_∙_}
 use borrow.Author.Needs.{needs}
-use Rattle.listing.specs.Entry.{kindOf}
 use Rattle.listing.proofs.Bytes.{header-stored}
 use Rattle.listing.proofs.put_header.Statement.{statement}
 use Rattle.listing.proofs.put_header.Tie as tie
@@ -10,7 +9,7 @@ returns : tie.Need-returns
 returns c =
     let a = c .before .before .before .before .before .before .before .before .before .before .before .before .before .args in
     c .before .before .put-word2 .ensures
-    ∙ rw (c .before .before .before .before .before .before .put-word .ensures, c .before .before .before .before .before .before .before .before .before .before .put-mark .ensures) (header-stored (kindOf (a .mark)) (a .steps) (a .bytes) (a .at) (a .list .now))
+    ∙ rw (c .before .before .before .before .before .before .put-word .ensures, c .before .before .before .before .before .before .before .before .before .before .put-mark .ensures) (header-stored (a .kind) (a .steps) (a .bytes) (a .at) (a .list .now))
 
 pub put-header-spec : {M : Type 1} → statement M
 put-header-spec =

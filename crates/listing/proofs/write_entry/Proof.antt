@@ -26,7 +26,7 @@ returns-2 c =
     let a = k .args in
     entry-written (a .file .now) (a .types .now)
     (λ i. omega (arith, c .before .before .before .before .before .before .before .before .before .before .before .before .shared-slice-known .given i))
-    (a .work .now) (a .cells) (k .pre .0 .1) (a .mark) (a .steps) (a .at) (a .list .now)
+    (a .work .now) (a .cells) (k .pre .0 .1) (a .kind) (a .steps) (a .at) (a .list .now)
     (omega (arith, c .before .before .before .before .before .before .before .before .if1 .left))
     (c .before .before .before .before .before .before .put-header .ensures)
     (c .before .before .write-row .ensures)

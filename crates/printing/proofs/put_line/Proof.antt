@@ -1,26 +1,24 @@
 -- `printing::put_line` meets its contract: the pieces stand in the definition's order, and the steps are below 65,536.
--- Rests on Lines and Walk.
+-- Rests on Lines.
 use native.Mathlib.Omega.{arith}
-use lib.ListN.{getD, drop}
+use lib.ListN.{drop}
 use borrow.Author.Needs.{needs}
 use Rattle.reach.specs.Places.{wordAt}
-use Rattle.reach.specs.Lists.{decoded}
+use Rattle.reach.specs.Lists.{kindAt, decoded}
 use Rattle.printing.proofs.Lines.{line-put, number-end, kind-end}
-use Rattle.printing.proofs.Walk.{kindBy}
 use Rattle.printing.proofs.put_line.Tie as tie
 use Rattle.printing.proofs.put_line.Statement.{statement}
 
 put-number-requires : tie.Need-put-number-requires
 unfolding wordAt
 put-number-requires c κs =
-    let a = c .before .before .before .before .before .before .before .before .before .args in
     let pre = c .before .before .before .before .before .before .before .before .before .pre in
     let shared-slice-known = c .before .before .before .before .before .before .before .before .shared-slice-known in
     let put-kind = c .before .before .before .before .put-kind in
     omega (
       arith,
       pre,
-      kind-end (kindBy (getD (a .entry .now) 0 0)) (put-kind .ensures),
+      kind-end _ (put-kind .ensures),
       c .word-at .ensures,
       shared-slice-known .given 2,
       shared-slice-known .given 3,
@@ -29,7 +27,6 @@ put-number-requires c κs =
 put-parts-requires : tie.Need-put-parts-requires
 unfolding wordAt
 put-parts-requires c κs =
-    let a = c .before .before .before .before .before .before .before .before .before .before .before .before .before .args in
     let pre = c .before .before .before .before .before .before .before .before .before .before .before .before .before .pre in
     let shared-slice-known = c .before .before .before .before .before .before .before .before .before .before .before .before .shared-slice-known in
     let put-kind = c .before .before .before .before .before .before .before .before .put-kind in
@@ -40,7 +37,7 @@ put-parts-requires c κs =
       omega (
         arith,
         pre,
-        kind-end (kindBy (getD (a .entry .now) 0 0)) (put-kind .ensures),
+        kind-end _ (put-kind .ensures),
         number-end _ (put-number .ensures),
         word-at .ensures,
         shared-slice-known .given 2,
@@ -51,7 +48,6 @@ put-parts-requires c κs =
 put-byte-requires : tie.Need-put-byte-requires
 unfolding wordAt
 put-byte-requires c κs =
-    let a = c .before .before .before .before .before .before .before .before .before .before .before .before .before .before .before .before .before .args in
     let pre = c .before .before .before .before .before .before .before .before .before .before .before .before .before .before .before .before .before .pre in
     let shared-slice-known = c .before .before .before .before .before .before .before .before .before .before .before .before .before .before .before .before .shared-slice-known in
     let put-kind = c .before .before .before .before .before .before .before .before .before .before .before .before .put-kind in
@@ -61,7 +57,7 @@ put-byte-requires c κs =
     omega (
       arith,
       pre,
-      kind-end (kindBy (getD (a .entry .now) 0 0)) (put-kind .ensures),
+      kind-end _ (put-kind .ensures),
       number-end _ (put-number .ensures),
       put-parts .ensures .1,
       word-at .ensures,
@@ -75,17 +71,18 @@ returns c =
     let a = c .before .before .before .before .before .before .before .before .before .before .before .before .before .before .before .before .before .before .before .before .args in
     let pre = c .before .before .before .before .before .before .before .before .before .before .before .before .before .before .before .before .before .before .before .before .pre in
     let shared-slice-known = c .before .before .before .before .before .before .before .before .before .before .before .before .before .before .before .before .before .before .before .shared-slice-known in
+    let kind-at = c .before .before .before .before .before .before .before .before .before .before .before .before .before .before .before .before .before .kind-at in
     let put-kind = c .before .before .before .before .before .before .before .before .before .before .before .before .before .before .before .put-kind in
     let word-at = c .before .before .before .before .before .before .before .before .before .before .before .word-at in
     let put-number = c .before .before .before .before .before .before .before .before .before .before .put-number in
     let put-parts = c .before .before .before .before .before .before .put-parts in
     let put-byte = c .before .before .put-byte in (
-      line-put (kindBy (getD (a .entry .now) 0 0)) (wordAt (a .entry .now) 2) (drop 6 (a .entry .now)) (put-kind .ensures)
+      line-put (kindAt (a .entry .now) 0) (wordAt (a .entry .now) 2) (drop 6 (a .entry .now)) (rw (kind-at .ensures) at (put-kind .ensures))
           (rw (word-at .ensures) at (put-number .ensures)) (put-parts .ensures .0) (put-byte .ensures),
       omega (
         arith,
         pre,
-        kind-end (kindBy (getD (a .entry .now) 0 0)) (put-kind .ensures),
+        kind-end _ (put-kind .ensures),
         number-end _ (put-number .ensures),
         put-parts .ensures .1,
         put-byte .ensures .place,

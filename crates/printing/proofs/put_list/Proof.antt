@@ -3,33 +3,36 @@
 -- Rests on Writing, Walk, and Walk of crate entries.
 use Prim.Native.Nat.{_*_, _-_, _≤_}
 use native.Mathlib.Omega.{arith}
-use lib.ListN.{length, getD}
+use lib.ListN.{length}
 use borrow.Author.Needs.{needs}
-use Rattle.reach.specs.Search.{RE, UN}
 use Rattle.reach.specs.Lists.{decodedFrom}
-use Rattle.reach.specs.Text.{textFrom}
+use Rattle.reach.specs.Text.{textOf}
 use Rattle.entries.proofs.Walk.{stands-inside}
+use Rattle.printing.specs.Counting.{Few}
 use Rattle.printing.proofs.Writing.{Left, left-whole, puts-length}
-use Rattle.printing.proofs.Walk.{kindBy, one-few, size-some, part-least, part-most, line-next, last-missing, last-over}
+use Rattle.printing.proofs.Walk.{textFrom, text-whole, few-more, size-some, part-least, part-most, line-next, last-missing, last-over}
 use Rattle.printing.proofs.put_list.Tie as tie
 use Rattle.printing.proofs.put_list.Statement.{statement}
 
 abbrev Inv-loop : tie.InvT-loop
-Inv-loop full list text₀ at₀ to₀ reach₀ unfinished₀ more₀ text at to reach unfinished more =
-    (at ≤ length list) × (reach ≤ at) × (unfinished ≤ at) × (to ≤ 70000 * at)
-    × Left text₀ 0 (textFrom full 0 0 (decodedFrom (length list) list 0)) text to (textFrom full reach unfinished (decodedFrom more list at))
+Inv-loop full list text₀ at₀ to₀ counts₀ more₀ text at to counts more =
+    (at ≤ length list) × Few counts at × (to ≤ 70000 * at)
+    × Left text₀ 0 (textOf full (decodedFrom (length list) list 0)) text to (textFrom full counts (decodedFrom more list at))
 
 abbrev μ-loop : tie.MeasureT-loop
-μ-loop full list text₀ at₀ to₀ reach₀ unfinished₀ more₀ text at to reach unfinished more = more
+μ-loop full list text₀ at₀ to₀ counts₀ more₀ text at to counts more = more
 
 loop-holds : tie.Need-loop-holds Inv-loop μ-loop
-loop-holds c = (omega arith, omega arith, omega arith, omega arith, left-whole _ _ _)
+loop-holds c =
+    let a = c .before .before .args in
+    let whole = text-whole (a .full) (decodedFrom (length (a .list .now)) (a .list .now) 0) in
+    (omega arith, (omega arith, omega arith), omega arith, rw (← whole) (left-whole _ _ _))
 
 size-at-requires : tie.Need-size-at-requires Inv-loop μ-loop
 size-at-requires c κs = omega arith
 
 put-last-requires : tie.Need-put-last-requires Inv-loop μ-loop
-put-last-requires c κs = (omega arith, omega arith, omega arith)
+put-last-requires c κs = (omega arith, (omega arith, omega arith))
 
 same-length : tie.Need-same-length Inv-loop μ-loop
 same-length c =
@@ -39,7 +42,7 @@ same-length c =
     let enum-told = c .before .before .before .before .enum-told in
     let put-last = c .before .before .put-last in
     puts-length
-    (last-missing (a .list .now) (turn .at) (size-at .ensures) (a .full) (turn .reach) (turn .unfinished) (turn .more) (turn .inv .4) (enum-told .given .1) (put-last .ensures))
+    (last-missing (a .list .now) (turn .at) (size-at .ensures) (a .full) (turn .counts) (turn .more) (turn .inv .3) (enum-told .given .1) (put-last .ensures))
 
 returns : tie.Need-returns Inv-loop μ-loop
 returns c =
@@ -48,8 +51,7 @@ returns c =
     let size-at = c .before .before .before .before .before .before .size-at in
     let enum-told = c .before .before .before .before .enum-told in
     let put-last = c .before .before .put-last in
-    last-missing (a .list .now) (turn .at) (size-at .ensures) (a .full) (turn .reach) (turn .unfinished) (turn .more) (turn .inv .4)
-    (enum-told .given .1) (put-last .ensures)
+    last-missing (a .list .now) (turn .at) (size-at .ensures) (a .full) (turn .counts) (turn .more) (turn .inv .3) (enum-told .given .1) (put-last .ensures)
 
 add-stop : tie.Need-add-stop Inv-loop μ-loop
 add-stop c =
@@ -86,41 +88,20 @@ put-line-requires c κs =
       omega arith,
     )
 
-shared-slice-read-reach-one : tie.Need-shared-slice-read-reach-one Inv-loop μ-loop
-shared-slice-read-reach-one c =
-    let a = c .before .before .before .before .before .before .before .before .before .before .before .before .before .before .args in
-    let turn = c .before .before .before .before .before .before .before .before .before .before .before .loop in
-    let size-at = c .before .before .before .before .before .before .before .before .before .size-at in
-    let n = c .before .before .before .before .before .before .before .n in
+kind-at-requires : tie.Need-kind-at-requires Inv-loop μ-loop
+kind-at-requires c κs =
+    let a = c .before .before .before .before .before .before .before .before .before .before .before .before .before .args in
+    let turn = c .before .before .before .before .before .before .before .before .before .before .loop in
+    let size-at = c .before .before .before .before .before .before .before .before .size-at in
+    let n = c .before .before .before .before .before .before .n in
     omega (
       arith,
       size-some (a .list .now) (turn .at) (size-at .ensures) (n .given .1),
       stands-inside (a .list .now) (turn .at) (size-at .ensures) (n .given .1),
     )
 
-add-reach : tie.Need-add-reach Inv-loop μ-loop
-add-reach c =
-    let a = c .before .before .before .before .before .before .before .before .before .before .before .before .before .before .before .args in
-    let turn = c .before .before .before .before .before .before .before .before .before .before .before .before .loop in
-    omega (arith, c .reach-one .ensures, one-few RE (kindBy (getD (a .list .now) (turn .at) 0)))
-
-shared-slice-read-unfinished-one : tie.Need-shared-slice-read-unfinished-one Inv-loop μ-loop
-shared-slice-read-unfinished-one c =
-    let a = c .before .before .before .before .before .before .before .before .before .before .before .before .before .before .before .before .args in
-    let turn = c .before .before .before .before .before .before .before .before .before .before .before .before .before .loop in
-    let size-at = c .before .before .before .before .before .before .before .before .before .before .before .size-at in
-    let n = c .before .before .before .before .before .before .before .before .before .n in
-    omega (
-      arith,
-      size-some (a .list .now) (turn .at) (size-at .ensures) (n .given .1),
-      stands-inside (a .list .now) (turn .at) (size-at .ensures) (n .given .1),
-    )
-
-add-unfinished : tie.Need-add-unfinished Inv-loop μ-loop
-add-unfinished c =
-    let a = c .before .before .before .before .before .before .before .before .before .before .before .before .before .before .before .before .before .args in
-    let turn = c .before .before .before .before .before .before .before .before .before .before .before .before .before .before .loop in
-    omega (arith, c .unfinished-one .ensures, one-few UN (kindBy (getD (a .list .now) (turn .at) 0)))
+one-more-requires : tie.Need-one-more-requires Inv-loop μ-loop
+one-more-requires c κs = (omega arith, omega arith)
 
 sub-more : tie.Need-sub-more Inv-loop μ-loop
 sub-more c = omega arith
@@ -130,48 +111,37 @@ loop-less c = omega arith
 
 loop-again : tie.Need-loop-again Inv-loop μ-loop
 loop-again c =
-    let a = c .before .before .before .before .before .before .before .before .before .before .before .before .before .before .before .before .before .args in
-    let turn = c .before .before .before .before .before .before .before .before .before .before .before .before .before .before .loop in
-    let loop-test = c .before .before .before .before .before .before .before .before .before .before .before .before .before .loop-test in
-    let size-at = c .before .before .before .before .before .before .before .before .before .before .before .before .size-at in
-    let n = c .before .before .before .before .before .before .before .before .before .before .n in
-    let put-line = c .before .before .before .before .before .before .put-line in
-    let reach-one = c .before .before .reach-one in (
+    let a = c .before .before .before .before .before .before .before .before .before .before .before .before .before .before .before .args in
+    let turn = c .before .before .before .before .before .before .before .before .before .before .before .before .loop in
+    let loop-test = c .before .before .before .before .before .before .before .before .before .before .before .loop-test in
+    let size-at = c .before .before .before .before .before .before .before .before .before .before .size-at in
+    let n = c .before .before .before .before .before .before .before .before .n in
+    let put-line = c .before .before .before .before .put-line in
+    let kind-at = c .before .kind-at in
+    let some = size-some (a .list .now) (turn .at) (size-at .ensures) (n .given .1) in (
       stands-inside (a .list .now) (turn .at) (size-at .ensures) (n .given .1),
-      omega (
-        arith,
-        size-some (a .list .now) (turn .at) (size-at .ensures) (n .given .1),
-        reach-one .ensures,
-        one-few RE (kindBy (getD (a .list .now) (turn .at) 0)),
-      ),
-      omega (
-        arith,
-        size-some (a .list .now) (turn .at) (size-at .ensures) (n .given .1),
-        c .unfinished-one .ensures,
-        one-few UN (kindBy (getD (a .list .now) (turn .at) 0)),
-      ),
+      rw (c .one-more .ensures) (few-more (kind-at .result) (turn .counts) (turn .at) _ (turn .inv .1) (omega (arith, some))),
       omega (arith, put-line .ensures .1, part-most (a .list .now) (turn .at) (size-at .ensures) (n .given .1)),
-      line-next (a .list .now) (turn .at) (size-at .ensures) (a .full) (turn .reach) (turn .unfinished) (turn .more) (turn .inv .4) _
-          (loop-test .taken) (n .given .1) (put-line .ensures .0) (reach-one .ensures) (c .unfinished-one .ensures),
+      line-next (a .list .now) (turn .at) (size-at .ensures) (a .full) (turn .counts) (turn .more) (turn .inv .3) _ (loop-test .taken) (n .given .1)
+          (put-line .ensures .0) (kind-at .ensures) (c .one-more .ensures),
     )
 
 put-last-requires-2 : tie.Need-put-last-requires-2 Inv-loop μ-loop
-put-last-requires-2 c κs = (omega arith, omega arith, omega arith)
+put-last-requires-2 c κs = (omega arith, (omega arith, omega arith))
 
 same-length-2 : tie.Need-same-length-2 Inv-loop μ-loop
 same-length-2 c =
     let a = c .before .before .before .before .before .before .before .before .args in
     let turn = c .before .before .before .before .before .loop in
     let put-last2 = c .before .before .put-last2 in
-    puts-length
-    (last-over (a .full) (a .list .now) (turn .at) (turn .reach) (turn .unfinished) (turn .more) (turn .inv .4) (omega arith) (put-last2 .ensures))
+    puts-length (last-over (a .full) (a .list .now) (turn .at) (turn .counts) (turn .more) (turn .inv .3) (omega arith) (put-last2 .ensures))
 
 returns-2 : tie.Need-returns-2 Inv-loop μ-loop
 returns-2 c =
     let a = c .before .before .before .before .before .before .before .before .args in
     let turn = c .before .before .before .before .before .loop in
     let put-last2 = c .before .before .put-last2 in
-    last-over (a .full) (a .list .now) (turn .at) (turn .reach) (turn .unfinished) (turn .more) (turn .inv .4) (omega arith) (put-last2 .ensures)
+    last-over (a .full) (a .list .now) (turn .at) (turn .counts) (turn .more) (turn .inv .3) (omega arith) (put-last2 .ensures)
 
 pub put-list-spec : {M : Type 1} → statement M
 put-list-spec =
@@ -191,12 +161,8 @@ put-list-spec =
     part-put-line-start
     part-put-line-end
     put-line-requires
-    shared-slice-read-reach-one
-    (λ c κs. search needs)
-    add-reach
-    shared-slice-read-unfinished-one
-    (λ c κs. search needs)
-    add-unfinished
+    kind-at-requires
+    one-more-requires
     sub-more
     loop-less
     loop-again

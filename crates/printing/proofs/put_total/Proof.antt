@@ -2,7 +2,7 @@
 -- Rests on Lines.
 use native.Mathlib.Omega.{arith}
 use borrow.Author.Needs.{needs}
-use Rattle.reach.specs.Text.{verdictBy}
+use Rattle.reach.specs.Search.{verdictBy}
 use Rattle.printing.proofs.Lines.{total-put, number-end, verdict-end, share-few}
 use Rattle.printing.proofs.put_total.Tie as tie
 use Rattle.printing.proofs.put_total.Statement.{statement}
@@ -30,7 +30,7 @@ put-number-requires-3 c κs =
       number-end _ (put-number .ensures),
       number-end _ (put-number2 .ensures),
       c .share-of .ensures,
-      share-few (a .reach) (a .unfinished),
+      share-few (a .counts .reach) (a .counts .unfinished),
     )
 
 put-verdict-requires : tie.Need-put-verdict-requires
@@ -50,7 +50,7 @@ put-verdict-requires c κs =
       number-end _ (put-number2 .ensures),
       number-end _ (put-number3 .ensures),
       share-of .ensures,
-      share-few (a .reach) (a .unfinished),
+      share-few (a .counts .reach) (a .counts .unfinished),
     )
 
 put-byte-requires : tie.Need-put-byte-requires
@@ -71,8 +71,8 @@ put-byte-requires c κs =
       number-end _ (put-number2 .ensures),
       number-end _ (put-number3 .ensures),
       share-of .ensures,
-      share-few (a .reach) (a .unfinished),
-      verdict-end (verdictBy (a .reach) (a .unfinished)) (put-verdict .ensures),
+      share-few (a .counts .reach) (a .counts .unfinished),
+      verdict-end (verdictBy (a .counts)) (put-verdict .ensures),
     )
 
 returns : tie.Need-returns
@@ -85,7 +85,7 @@ returns c =
     let put-number3 = c .before .before .before .before .before .before .before .before .before .before .put-number3 in
     let put-verdict = c .before .before .before .before .before .before .put-verdict in
     let put-byte = c .before .before .put-byte in
-    total-put (a .reach) (a .unfinished) (verdictBy (a .reach) (a .unfinished)) (put-word .ensures) (put-number .ensures) (put-number2 .ensures)
+    total-put (a .counts) (put-word .ensures) (put-number .ensures) (put-number2 .ensures)
     (rw (share-of .ensures) at (put-number3 .ensures)) (put-verdict .ensures) (put-byte .ensures)
 
 pub put-total-spec : {M : Type 1} → statement M

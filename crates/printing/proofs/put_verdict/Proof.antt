@@ -2,35 +2,35 @@
 -- Rests on nothing of this crate.
 use borrow.Author.Tests.{lt-ltb, le-ltb}
 use borrow.Author.Needs.{needs}
-use Rattle.reach.specs.Text.{verdictBy}
+use Rattle.reach.specs.Search.{verdictBy}
 use Rattle.printing.proofs.put_verdict.Tie as tie
 use Rattle.printing.proofs.put_verdict.Statement.{statement}
 
 returns : tie.Need-returns
 unfolding verdictBy
 returns c =
-    let a = c .before .before .before .before .before .before .before .args in
+    let a = c .before .before .before .before .before .before .before .before .args in
     let if1 = c .before .before .before .before .before .if1 in
     let put-word = c .before .before .put-word in
-    rw (lt-ltb 0 (a .reach) (if1 .taken)) (put-word .ensures)
+    rw (lt-ltb 0 (a .counts .reach) (if1 .taken)) (put-word .ensures)
 
 returns-2 : tie.Need-returns-2
 unfolding verdictBy
 returns-2 c =
-    let a = c .before .before .before .before .before .before .before .before .args in
-    let if1 = c .before .before .before .before .before .before .if1 in
+    let a = c .before .before .before .before .before .before .before .before .before .before .args in
+    let if1 = c .before .before .before .before .before .before .before .if1 in
     let if2 = c .before .before .before .before .before .if2 in
     let put-word2 = c .before .before .put-word2 in
-    rw (le-ltb 0 (a .reach) (if1 .left), lt-ltb 0 (a .unfinished) (if2 .taken)) (put-word2 .ensures)
+    rw (le-ltb 0 (a .counts .reach) (if1 .left), lt-ltb 0 (a .counts .unfinished) (if2 .taken)) (put-word2 .ensures)
 
 returns-3 : tie.Need-returns-3
 unfolding verdictBy
 returns-3 c =
-    let a = c .before .before .before .before .before .before .before .before .args in
-    let if1 = c .before .before .before .before .before .before .if1 in
+    let a = c .before .before .before .before .before .before .before .before .before .before .args in
+    let if1 = c .before .before .before .before .before .before .before .if1 in
     let if2 = c .before .before .before .before .before .if2 in
     let put-word3 = c .before .before .put-word3 in
-    rw (le-ltb 0 (a .reach) (if1 .left), le-ltb 0 (a .unfinished) (if2 .left)) (put-word3 .ensures)
+    rw (le-ltb 0 (a .counts .reach) (if1 .left), le-ltb 0 (a .counts .unfinished) (if2 .left)) (put-word3 .ensures)
 
 pub put-verdict-spec : {M : Type 1} → statement M
 put-verdict-spec =

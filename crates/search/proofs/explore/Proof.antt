@@ -70,7 +70,7 @@ loop-again : tie.Need-loop-again Inv-loop μ-loop
 loop-again c =
     let a = c .before .before .before .before .before .before .before .before .before .before .before .before .before .before .before .before .before .before .before .before .before .before .before .before .args in
     let l = c .before .before .before .before .before .before .before .before .before .before .before .before .before .before .before .before .loop in
-    (move-length (a .file .now) (a .types .now) (a .functions .now) (a .least .of) (a .label) (a .work .now) (a .limit) (a .base) (a .stack) (a .parameters) (a .from) (a .list .now) (l .work) (l .walk) (l .list) (l .at) (l .verdict) (l .inv .2 (a .from) (c .before .before .before .before .before .before .before .before .before .before .before .before .before .before .before .before .before .first-walk .ensures)) (c .before .before .before .before .before .before .before .before .before .before .before .before .make-moves .ensures) (l .inv .0) (c .before .before .before .before .before .before .before .before .before .before .before .before .before .before .before .before .before .before .before .before .before .before .before .before .pre .0), c .before .before .before .before .before .before .write-listing .kept .1 .1 .1 .1 .1 .1 .1 .0 ∙ l .inv .1, λ r is. rw (c .verdict-after .ensures) (came-on (a .file .now) (a .types .now) (a .functions .now) (a .least .of) (a .label) (a .work .now) (a .limit) (a .base) (a .stack) (a .parameters) r (a .list .now) (l .work) (l .walk) (l .list) (l .at) (l .verdict) (l .inv .2 r is) (c .before .before .before .before .before .before .before .before .before .before .before .before .make-moves .ensures) (l .inv .0) _ _ (c .before .before .before .before .before .before .write-listing .ensures) (c .before .before .written .given .1)))
+    (move-length (a .file .now) (a .types .now) (a .functions .now) (a .least .of) (a .label) (a .work .now) (a .limit) (a .base) (a .stack) (a .parameters) (a .from) (a .list .now) (l .work) (l .walk) (l .list) (l .at) (l .verdict) (l .inv .2 (a .from) (c .before .before .before .before .before .before .before .before .before .before .before .before .before .before .before .before .before .first-walk .ensures)) (c .before .before .before .before .before .before .before .before .before .before .before .before .make-moves .ensures) (l .inv .0) (c .before .before .before .before .before .before .before .before .before .before .before .before .before .before .before .before .before .before .before .before .before .before .before .before .pre .0), c .before .before .before .before .before .before .write-listing .kept .1 .1 .1 .1 .1 .1 .1 .0 ∙ l .inv .1, λ r is. came-on (a .file .now) (a .types .now) (a .functions .now) (a .least .of) (a .label) (a .work .now) (a .limit) (a .base) (a .stack) (a .parameters) r (a .list .now) (l .work) (l .walk) (l .list) (l .at) (l .verdict) (l .inv .2 r is) (c .before .before .before .before .before .before .before .before .before .before .before .before .make-moves .ensures) (l .inv .0) _ _ (c .before .before .before .before .before .before .write-listing .ensures) (c .before .before .written .given .1) (c .verdict-after .ensures))
 
 same-length-3 : tie.Need-same-length-3 Inv-loop μ-loop
 same-length-3 c = search needs
