@@ -166,7 +166,7 @@ pick-finds P true a b s i passed failed = passed refl
 pick-finds P false a b s i passed failed = failed refl
 
 module _ (d : Declarations) (n : ℕ) (s : List ℕ) where
-  -- an expression of these declarations that stands from i up to next and nests at most n deep; and so for operands and alternatives
+  -- an expression with these declarations that stands from i up to next and nests at most n deep; and so for operands and alternatives
   abbrev Found : ℕ → Expr → ℕ → Type 0
   Found i e next = Reads s i (encode e) next × Arity d e × (nesting e ≤ n)
 
@@ -393,7 +393,7 @@ module _ (s : List ℕ) where
       (λ g r. any-then _ _ (atEnd TrailingBytes s r)
       (λ u next. (first, others))))))))
 
--- A body of a file that declares these stands in the file at the place and with the length that its head tells.
+-- A body stands in the file at the place and with the length that its head tells, with the arities that the declarations ask for.
 pub record BodyAt (d : Declarations) (file : List ℕ) (h : Head) (g : Function) : Type 0 where
   pub stands : drop (h .body) file ≡ encode (g .body) ++ drop (h .body + h .size) file
   pub size : length (encode (g .body)) ≡ h .size
