@@ -20,7 +20,7 @@ use marks::wide;
 use reach::Counts;
 use reach::Kind;
 use reach::Refusal;
-use reach::number;
+use refusals::number;
 
 // Writes one byte.
 fn put_byte(text: &mut [u8], at: usize, b: u8) -> usize

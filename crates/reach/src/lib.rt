@@ -1,8 +1,6 @@
-// What every layer speaks of: the refusals and their numbers, the end of a run, the kinds of entries and their counts, the verdict of a
-// search. specs/Words.antt says which number or word of the papers each case is. There is no other code in this crate: the rest of it is
-// definitions (specs/) and what is proved of them (proofs/).
-ghost use mathlib.Core.Path.{_≡_};
-ghost use Rattle.reach.specs.Words.{numberOf};
+// What every layer speaks of: the refusals, the end of a run, the kinds of entries and their counts, the verdict of a search.
+// specs/Words.antt says which number or word of the papers each case is. There is no code in this crate: the rest of it is definitions
+// (specs/) and what is proved of them (proofs/).
 
 // Why a call gave no result. The comments give the word of the papers' table.
 pub enum Refusal {
@@ -62,24 +60,4 @@ pub enum Verdict {
     Found,
     Undecided,
     None,
-}
-
-// The number that the papers give a refusal.
-pub fn number(why: Refusal) -> u64
-    ensures { λ r. ⌜ r ≡ numberOf why ⌝ }
-{
-    match why {
-        Refusal::Truncated => 1,
-        Refusal::UnexpectedMark => 2,
-        Refusal::OutOfRange => 3,
-        Refusal::UnknownNumber => 4,
-        Refusal::UnknownCode => 5,
-        Refusal::TypeMismatch => 6,
-        Refusal::TrailingBytes => 7,
-        Refusal::EmptyType => 8,
-        Refusal::DepthTooSmall => 9,
-        Refusal::BadInput => 10,
-        Refusal::WorkTooShort => 11,
-        Refusal::ListFull => 12,
-    }
 }

@@ -14,7 +14,7 @@ use entries::span_of;
 use reach::Outcome;
 use reach::Refusal;
 use reach::Verdict;
-use reach::number;
+use refusals::number;
 use rulefile::Checked;
 use rulefile::check;
 

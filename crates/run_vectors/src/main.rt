@@ -39,7 +39,7 @@ fn print_answer(answer: Answer) {
         Answer::Ran(outcome) => print_outcome(outcome),
         Answer::Refused(why) => {
             io::write_all(STDOUT_FILENO, b"refused ");
-            io::print_decimal(STDOUT_FILENO, reach::number(why));
+            io::print_decimal(STDOUT_FILENO, refusals::number(why));
             io::write_all(STDOUT_FILENO, b"\n");
         }
     }

@@ -88,7 +88,7 @@ fn print_count(count: usize) {
 
 fn print_refused(why: Refusal) {
     io::write_all(STDOUT_FILENO, b"refused ");
-    io::print_decimal(STDOUT_FILENO, reach::number(why));
+    io::print_decimal(STDOUT_FILENO, refusals::number(why));
 }
 
 fn print_verdict(verdict: Verdict) {
