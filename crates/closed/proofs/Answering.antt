@@ -1,5 +1,5 @@
 -- The answer of the whole run, by what the check, the reading of the input and the evaluation found.
--- Rests on specs/Answering and specs/Running, on loaded's Files and Loaded, on rulefile's Tabled and inputs' Closed.
+-- Rests on specs/Answering and specs/Evaluating, on loaded's Files and Loaded, on rulefile's Tabled and inputs' Closed.
 use Prim.Native.Nat.{ℕ, _+_, _≤_, _<_}
 use mathlib.Core.Path.{_≡_, sym, _∙_, subst}
 use mathlib.Core.Bool.{Bool, true, false, not}
@@ -29,8 +29,10 @@ use Rattle.rulefile.proofs.Tabled.{program-types, program-source, program-depth
 use Rattle.machine.proofs.Cells.{kept-cells}
 use Rattle.loaded.proofs.Files.{given-file}
 use Rattle.loaded.proofs.Loaded.{loaded-accepted, goal-small}
-use Rattle.closed.specs.Answering.{LookedAt, Leaves, answerOf, Promised, HasRun}
-use Rattle.closed.specs.Running.{GivenInput, Runnable, RunsAs}
+use Rattle.running.specs.Looked.{LookedAt}
+use Rattle.running.specs.Running.{GivenInput}
+use Rattle.closed.specs.Answering.{Leaves, answerOf, Promised, HasRun}
+use Rattle.closed.specs.Evaluating.{Runnable, RunsAs}
 use Rattle.closed.specs.declared.Answer.{Answer}
 use Rattle.closed.specs.declared.Answer.the-variants as Answer
 

@@ -1,5 +1,5 @@
 -- The run begins: in the words that `open_input` and then `note_values` leave, the run of the program on the closed input is under way with no step
--- taken. Rests on specs/Running, on loaded's Beginning, on values' Binding and on steps' Standing.
+-- taken. Rests on running's Running, on loaded's Beginning, on values' Binding and on steps' Standing.
 use Prim.Native.Nat.{ℕ}
 use mathlib.Core.Path.{_≡_, sym, _∙_, ap, subst}
 use mathlib.Core.List.{List, map}
@@ -27,8 +27,8 @@ use Rattle.steps.specs.declared.Registers.{Registers}
 use Rattle.steps.proofs.Standing.{stands-below}
 use Rattle.loaded.specs.Beginning.{Opened, startRegisters}
 use Rattle.loaded.proofs.Beginning as Begin
-use Rattle.closed.specs.Running.{GivenInput, Underway}
-use Rattle.closed.specs.Answering.{LookedAt}
+use Rattle.running.specs.Looked.{LookedAt}
+use Rattle.running.specs.Running.{GivenInput, Underway}
 
 module _ {file types functions input : List ℕ} {goal : ℕ} {p : Program} {j : Parts} (given : GivenInput file types functions input goal p j) where
   module _ {limit : ℕ} (limit-read : limit ≡ (goalAt file goal) .steps) where

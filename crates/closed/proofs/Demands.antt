@@ -27,9 +27,10 @@ use Rattle.reach.proofs.Base.{clash, picked}
 use Rattle.reach.proofs.Evaluation.{run-spent}
 use Rattle.reach.proofs.ClosedInputs.{input-exactly}
 use Rattle.reach.proofs.Refusals.{turned-back-by}
+use Rattle.running.specs.Looked.{LookedAt}
 use Rattle.closed.specs.declared.Answer.{Answer}
 use Rattle.closed.specs.declared.Answer.the-variants as Answer
-use Rattle.closed.specs.Answering.{answerOf, Unchanged, LookedAt, Leaves, Promised, IsInput}
+use Rattle.closed.specs.Answering.{answerOf, Unchanged, Leaves, Promised, IsInput}
 
 -- What the answer of an accepted file says.
 abbrev RunMeans : Program → List ℕ → ℕ → RunAnswer → Type 0

@@ -1,5 +1,5 @@
 -- What a caller of `run` reads: the answer and the words afterwards, in terms of reach's definition.
--- Rests on reach's Answers, Input and Eval, on machine's Cells for what the words stand for, and on the enum of src/lib.rt.
+-- Rests on reach's Answers and Input, on running's Looked for what the words stand for, and on the enum of src/lib.rt.
 use Prim.Native.Nat.{ℕ}
 use mathlib.Core.Path.{_≡_}
 use mathlib.Core.List.{List}
@@ -7,12 +7,11 @@ use mathlib.Core.Option.{some}
 use lib.ListN.{length, drop}
 use Rattle.reach.specs.Limits.{workWords}
 use Rattle.reach.specs.Syntax.{Program}
-use Rattle.reach.specs.Parts.{Parts, _⊑_, prefix}
-use Rattle.reach.specs.Types.{sourceSlots, WithinDepth}
-use Rattle.reach.specs.Eval.{start, eval}
+use Rattle.reach.specs.Parts.{Parts, prefix}
+use Rattle.reach.specs.Types.{WithinDepth}
 use Rattle.reach.specs.Input.{inputOf}
 use Rattle.reach.specs.Answers.{check, accepted, RunAnswer, noRun, ran, runAnswer}
-use Rattle.machine.specs.Cells.{Cells}
+use Rattle.running.specs.Looked.{LookedAt}
 use Rattle.closed.specs.declared.Answer.{Answer}
 use Rattle.closed.specs.declared.Answer.the-variants as Answer
 
@@ -25,15 +24,6 @@ answerOf (ran o) = Answer.Ran o
 abbrev pub Unchanged : Answer → List ℕ → List ℕ → List ℕ → Type 0
 Unchanged (Answer.Refused why) file w w′ = w′ ≡ w
 Unchanged (Answer.Ran o) file w w′ = (p : Program) → check file ≡ accepted p → drop (workWords (p .steps)) w′ ≡ drop (workWords (p .steps)) w
-
--- What words w stand for after a run of at most `limit` steps: a partial input below the closed one, on which the evaluation comes to the same end. So
--- each part that is bound has the constructor that the closed input has there, and no step of the run looked at a part that is open.
-pub record LookedAt (p : Program) (j : Parts) (limit : ℕ) (w : List ℕ) : Type 0 where
-  pub cells : ℕ
-  pub input : Parts
-  pub stands : Cells (p .types) (sourceSlots p) w cells input
-  pub below : input ⊑ j
-  pub enough : eval p input limit 0 (start p) ≡ eval p j limit 0 (start p)
 
 -- After a run the words stand for a part of the closed input that has all that its steps looked at. What the evaluation's records left behind the
 -- cells is not said.

@@ -23,7 +23,7 @@ use Rattle.reach.specs.Lists.{onFound, kindAt, entrySize, Decoded, decoded, dec
 use Rattle.reach.specs.Search.{oneMore, countFrom, counts, verdictBy}
 use Rattle.reach.specs.Text.{spaced, lineFrom, decimal, kindWord, partWord, lineSaying, share, totalLine, refusalLine, lastLine, textOf, listText}
 use Rattle.reach.proofs.ReadBack.{size-inside}
-use Rattle.printing.proofs.Digits.{decimal-one, decimal-more}
+use Rattle.writing.proofs.Digits.{decimal-one, decimal-more}
 use Rattle.printing.proofs.Lines.{kind-few, verdict-few, number-few}
 use Rattle.printing.specs.Counting.{Few}
 use Rattle.printing.proofs.Walk.{size-least, few-more}

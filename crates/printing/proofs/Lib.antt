@@ -1,6 +1,4 @@
 -- Lemmas of this crate; the proof of each function stands in its own folder.
-pub mod Writing
-pub mod Digits
 pub mod Lines
 pub mod Walk
 pub mod Lengths

@@ -1,5 +1,5 @@
 -- The pieces of a line behind one another, and how long they are.
--- Rests on Writing, Digits, and Text of crate reach.
+-- Rests on Writing and Digits of crate writing, and on Text of crate reach.
 use Prim.Native.Nat.{ℕ, suc, _+_, _*_, _/_, _≤_, _<_}
 use mathlib.Core.Bool.{Bool, true, false}
 use mathlib.Core.List.{List, [], _∷_, map, flatMap}
@@ -20,18 +20,9 @@ use Rattle.reach.specs.declared.Kind.{Kind}
 use Rattle.reach.specs.declared.Kind.the-variants.{RE, UN}
 use Rattle.reach.specs.Search.{verdictBy}
 use Rattle.reach.specs.Text.{space, lineFeed, spaced, lineFrom, decimal, kindWord, partWord, lineSaying, share, totalLine, refusalLine}
-use Rattle.printing.specs.Writing.{Puts}
-use Rattle.printing.proofs.Writing.{puts-none, puts-then, Left, left-next, left-none}
-use Rattle.printing.proofs.Digits.{decimal-few, part-few}
-
--- A word, byte by byte.
-module _ (w : List ℕ) (i : ℕ) {t whole u : List ℕ} {at to : ℕ} where
-  pub word-next : {v : List ℕ} {m : ℕ} → Left t at whole u to (drop i w) → i < length w → Puts u to (getD w i 0 ∷ []) v m
-      → Left t at whole v m (drop (i + 1) w)
-  word-next l h p = rw add-one (left-next {a = getD w i 0 ∷ []} {b = drop (suc i) w} (rw (drop-cons w i 0 h) at l) p)
-
-  pub word-done : Left t at whole u to (drop i w) → length w ≤ i → Puts t at whole u to
-  word-done l h = left-none (rw (drop-of-length-le w h) at l)
+use Rattle.writing.specs.Writing.{Puts}
+use Rattle.writing.proofs.Writing.{puts-none, puts-then, Left, left-next, left-none}
+use Rattle.writing.proofs.Digits.{decimal-few, part-few}
 
 -- The parameters of an entry, byte by byte.
 module _ (e : List ℕ) (i : ℕ) {t whole u : List ℕ} {at to : ℕ} where

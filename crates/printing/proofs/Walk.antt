@@ -24,8 +24,8 @@ use Rattle.entries.specs.declared.Size.the-variants.{Bytes, Missing}
 use Rattle.entries.specs.Spans.{sizeOf}
 use Rattle.entries.proofs.Walk.{stands, stands-inside}
 use Rattle.printing.specs.Counting.{Few}
-use Rattle.printing.specs.Writing.{Puts, Fronts}
-use Rattle.printing.proofs.Writing.{Left, left-next, left-last, puts-front}
+use Rattle.writing.specs.Writing.{Puts, Fronts}
+use Rattle.writing.proofs.Writing.{Left, left-next, left-last, puts-front}
 
 -- an entry has a whole header
 pub size-least : (l : List ℕ) (i n : ℕ) → entrySize l i ≡ some n → 6 ≤ n

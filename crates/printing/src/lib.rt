@@ -1,16 +1,15 @@
-// The printed text of a list, written into a lent slice. Every function that writes answers with the place behind its text, also where the
-// slice is too short for it: so a caller sees by the place whether all of it was written. Rests on crates reach, marks and
-// entries.
+// The printed text of a list, written into a lent slice: lines of entries, the total line, the line of a refusal. Rests on crates marks, entries,
+// refusals and writing.
 ghost use mathlib.Core.Path.{_≡_};
-ghost use mathlib.Core.List.{[], _∷_, map};
+ghost use mathlib.Core.List.{_∷_, map};
 ghost use Prim.Native.Nat.{_+_, _*_, _≤_, _<_};
 ghost use lib.ListN.{length, drop};
 ghost use Rattle.reach.specs.Search.{oneMore, verdictBy};
 ghost use Rattle.reach.specs.Lists.{decoded, decodedFrom};
 ghost use Rattle.reach.specs.Words.{verdictWord};
-ghost use Rattle.reach.specs.Text.{space, spaced, digit, decimal, kindWord, partWord, lineSaying, share, totalLine, refusalLine, lastLine, textOf, listText};
+ghost use Rattle.reach.specs.Text.{space, spaced, kindWord, partWord, lineSaying, share, totalLine, refusalLine, lastLine, textOf, listText};
 ghost use Rattle.printing.specs.Counting.{Few};
-ghost use Rattle.printing.specs.Writing.{Fronts, Puts};
+ghost use Rattle.writing.specs.Writing.{Fronts, Puts};
 use entries::Size;
 use entries::kind_at;
 use entries::room;
@@ -21,60 +20,9 @@ use reach::Counts;
 use reach::Kind;
 use reach::Refusal;
 use refusals::number;
-
-// Writes one byte.
-fn put_byte(text: &mut [u8], at: usize, b: u8) -> usize
-    requires { ⌜ at < 9223372036854775808 ⌝ }
-    ensures { λ r. ⌜ Puts (now (text .entry)) at (b ∷ []) (now (text .exit)) r ⌝ }
-{
-    if text.len() <= at {
-        return at + 1;
-    }
-    text[at] = b;
-    at + 1
-}
-
-// Writes the bytes of a word.
-fn put_word(word: &[u8], text: &mut [u8], at: usize) -> usize
-    requires { ⌜ (length (now word) ≤ 4096) × (at < 4611686018427387904) ⌝ }
-    ensures { λ r. ⌜ Puts (now (text .entry)) at (now (word .entry)) (now (text .exit)) r ⌝ }
-{
-    let mut i: usize = 0;
-    let mut to = at;
-    while i < word.len() {
-        to = put_byte(text, to, word[i]);
-        i += 1;
-    }
-    to
-}
-
-// The last digit of a number, in ASCII.
-fn last_digit(n: u64) -> u8
-    ensures { λ r. ⌜ r ≡ digit n ⌝ }
-{
-    48 + (n % 10) as u8
-}
-
-// Writes a number in decimal: the digits before the last one, if there are any, and the last.
-fn put_decimal(text: &mut [u8], at: usize, n: u64) -> usize
-    requires { ⌜ at + n < 9223372036854775808 ⌝ }
-    ensures { λ r. ⌜ Puts (now (text .entry)) at (decimal n) (now (text .exit)) r ⌝ }
-{
-    if n < 10 {
-        return put_byte(text, at, last_digit(n));
-    }
-    let last = put_decimal(text, at, n / 10);
-    put_byte(text, last, last_digit(n))
-}
-
-// Writes a space and a number.
-fn put_number(text: &mut [u8], at: usize, n: u64) -> usize
-    requires { ⌜ at + n < 4611686018427387904 ⌝ }
-    ensures { λ r. ⌜ Puts (now (text .entry)) at (space ∷ decimal n) (now (text .exit)) r ⌝ }
-{
-    let digits = put_byte(text, at, b' ');
-    put_decimal(text, digits, n)
-}
+use writing::put_byte;
+use writing::put_number;
+use writing::put_word;
 
 // Writes a space and a byte of the prefix form.
 fn put_part(text: &mut [u8], at: usize, b: u8) -> usize

@@ -18,8 +18,8 @@ use Rattle.reach.proofs.Base.{clash}
 use Rattle.reach.proofs.ReadBack.{span-counted, part-counted, span-inside}
 use Rattle.rulefile.specs.declared.Checked.the-variants as Checked
 use Rattle.rulefile.specs.Answering.{checkedOf}
-use Rattle.search.specs.declared.Answer.{Answer}
-use Rattle.search.specs.declared.Answer.the-variants as Answer
+use Rattle.exploring.specs.declared.Answer.{Answer}
+use Rattle.exploring.specs.declared.Answer.the-variants as Answer
 use Rattle.search.specs.Answering.{answerOf, lengthIn}
 use Rattle.search.proofs.Called.{length-is, listed-room}
 use Rattle.closed.specs.declared.Answer.{Answer as Ended}

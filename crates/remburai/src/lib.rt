@@ -72,9 +72,10 @@ pub extern "C" fn remburai_search<'a>(file: &'a [u8], work: &mut [u32], list: &m
     ensures slices { λ r. ⌜ Searched (now (file .entry)) (now (work .entry)) (now (work .exit)) (now (list .entry)) (now (list .exit)) ⌝ }
 {
     match search::search(file, work, list) {
-        search::Answer::Refused(why) => number(why),
-        search::Answer::Complete(n, verdict) => 256 * verdict_number(verdict) + 65536 * (n as u64),
-        search::Answer::Full(n) => number(Refusal::ListFull) + 65536 * (n as u64),
+        exploring::Answer::Refused(why) => number(why),
+        exploring::Answer::Complete(n, verdict) => 256 * verdict_number(verdict)
+            + 65536 * (n as u64),
+        exploring::Answer::Full(n) => number(Refusal::ListFull) + 65536 * (n as u64),
     }
 }
 

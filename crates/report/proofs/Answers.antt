@@ -1,5 +1,5 @@
 -- The text of an answer, by the answer that the search gave and the bytes that it wrote.
--- Rests on reach's Text (the text by the bytes of a list), on search's Called and Cutting (where the list stands) and on printing's Lengths.
+-- Rests on reach's Text (the text by the bytes of a list), on search's Called and exploring's Cutting (where the list stands) and on printing's Lengths.
 use Prim.Native.Nat.{ℕ, _+_, _*_, _≤_}
 use native.Mathlib.Omega.{arith}
 use mathlib.Core.Path.{_≡_, ap, subst, _∙_}
@@ -13,12 +13,12 @@ use Rattle.reach.specs.Answers.{SearchAnswer, noSearch, complete, cutShort, sea
 use Rattle.reach.specs.Text.{refusalLine, listText}
 use Rattle.reach.proofs.Base.{clash}
 use Rattle.reach.proofs.Text.{textBy, text-written}
-use Rattle.printing.specs.Writing.{Fronts}
+use Rattle.writing.specs.Writing.{Fronts}
 use Rattle.printing.proofs.Lengths.{Bytes, part-bytes, text-short}
-use Rattle.search.specs.declared.Answer.{Answer}
-use Rattle.search.specs.declared.Answer.the-variants as Answer
+use Rattle.exploring.specs.declared.Answer.{Answer}
+use Rattle.exploring.specs.declared.Answer.the-variants as Answer
 use Rattle.search.specs.Answering.{answerOf, lengthIn}
-use Rattle.search.proofs.Cutting.{written-length}
+use Rattle.exploring.proofs.Cutting.{written-length}
 use Rattle.search.proofs.Called.{length-is, listed-room, written-take, room-inside}
 use Rattle.report.specs.Answers.{reportText}
 

@@ -1,5 +1,5 @@
 -- The text of the program `reachlist`: it fits its slice whole; and of standard input the first bytes are enough, since a longer one is refused anyway.
--- Rests on specs/Answers, on printing's Writing and on reach's Answers.
+-- Rests on specs/Answers, on writing's Writing and on reach's Answers.
 use Prim.Native.Nat.{ℕ, _≤_, _<_}
 use native.Mathlib.Omega.{arith}
 use mathlib.Core.Path.{_≡_, sym, ap, _∙_}
@@ -13,7 +13,7 @@ use Rattle.reach.specs.Limits.{fileLimit}
 use Rattle.reach.specs.RuleFile.{sizeInLimit, ruleFile}
 use Rattle.reach.specs.Answers.{turnedBack, check}
 use Rattle.reach.proofs.Answers.{search-turned-back}
-use Rattle.printing.specs.Writing.{fronted, Fronts}
+use Rattle.writing.specs.Writing.{fronted, Fronts}
 use Rattle.report.specs.Answers.{printed}
 
 -- a text that fits its slice stands there whole

@@ -1,5 +1,5 @@
 -- What the calls `report` and `program_text` promise, in terms of reach's definitions.
--- Rests on reach's Answers, Limits and Text, on search's Answering and on printing's Writing.
+-- Rests on reach's Answers, Limits and Text, on search's Answering and on writing's Writing.
 use Prim.Native.Nat.{ℕ, _+_, _*_, _≤_}
 use mathlib.Core.Path.{_≡_}
 use mathlib.Core.List.{List}
@@ -8,7 +8,7 @@ use Rattle.reach.specs.Limits.{fileLimit}
 use Rattle.reach.specs.Answers.{searchAnswer}
 use Rattle.reach.specs.Text.{text}
 use Rattle.search.specs.Answering.{Searched}
-use Rattle.printing.specs.Writing.{Fronts}
+use Rattle.writing.specs.Writing.{Fronts}
 
 -- the text of the answer that 01 defines for a rule file, with so many words and so many bytes for the list
 abbrev pub reportText : List ℕ → ℕ → ℕ → List ℕ

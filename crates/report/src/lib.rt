@@ -3,9 +3,9 @@
 ghost use Prim.Native.Nat.{_≤_};
 ghost use lib.ListN.{length};
 ghost use Rattle.report.specs.Answers.{Promised, Prints};
+use exploring::Answer;
 use printing::list_text;
 use printing::refusal_text;
-use search::Answer;
 
 // Searches a rule file in the lent words and list, writes the text of the search's answer to the front of a slice, and answers with the text's length.
 // A slice that is too short has as many bytes of the text as it holds: one with 4 times the list's bytes, and 64 more, holds it all.

@@ -1,5 +1,5 @@
 -- The answer of the whole search, by what the check and the exploration found; the list slice, of which only its room was lent on; and the words.
--- Rests on specs/Answering and specs/Exploring, on Cutting, and on the laws of loaded files.
+-- Rests on specs/Answering and exploring's Exploring, on exploring's Cutting, and on the laws of loaded files.
 use Prim.Native.Nat.{ℕ, _+_, _≤_, _<_, min}
 use mathlib.Core.Path.{_≡_, refl, sym, _∙_, ap, subst}
 use mathlib.Core.List.{List, [], _∷_, _++_}
@@ -23,11 +23,12 @@ use Rattle.rulefile.specs.Loading.{typePlaces, functionPlaces, Tabled, Loads}
 use Rattle.rulefile.proofs.Tabled.{program-steps}
 use Rattle.loaded.proofs.Files.{given-file}
 use Rattle.loaded.proofs.Loaded.{loaded-accepted, loaded-refused, behind-kept}
-use Rattle.search.specs.declared.Answer.{Answer}
-use Rattle.search.specs.declared.Answer.the-variants as Answer
+use Rattle.exploring.specs.declared.Answer.{Answer}
+use Rattle.exploring.specs.declared.Answer.the-variants as Answer
 use Rattle.search.specs.Answering.{Promised}
-use Rattle.search.specs.Exploring.{WholeList, FirstEntries, Explored, Searchable, settingOf}
-use Rattle.search.proofs.Cutting.{written-none, written-front, answer-complete, answer-full, answer-short, answer-refused}
+use Rattle.exploring.specs.Exploring.{WholeList, FirstEntries, Explored}
+use Rattle.search.specs.Searching.{Searchable, settingOf}
+use Rattle.exploring.proofs.Cutting.{written-none, written-front, answer-complete, answer-full, answer-short, answer-refused}
 
 -- a refusal leaves the list as it was
 refused-list : (why : Refusal) (list : List ℕ) → list ≡ written (listed (noSearch why)) list

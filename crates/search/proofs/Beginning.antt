@@ -1,5 +1,5 @@
 -- The search begins: in the words that `open_input` leaves, a path is under way from the source's body with no step taken and every parameter open.
--- Rests on specs/Exploring and on loaded's Beginning.
+-- Rests on exploring's Exploring and on loaded's Beginning.
 use Prim.Native.Nat.{ℕ}
 use mathlib.Core.Path.{_≡_, sym, _∙_, ap, subst}
 use mathlib.Core.List.{List}
@@ -18,8 +18,9 @@ use Rattle.loaded.specs.Beginning.{Opened, startRegisters}
 use Rattle.loaded.proofs.Beginning as Begin
 use Rattle.choices.specs.Choices.{Given, no-choice}
 use Rattle.choices.specs.Returning.{setting}
-use Rattle.search.specs.declared.Answer.{Answer}
-use Rattle.search.specs.Exploring.{Begins, Explores, Explored, Searchable, settingOf}
+use Rattle.exploring.specs.declared.Answer.{Answer}
+use Rattle.exploring.specs.Exploring.{Begins, Explores, Explored}
+use Rattle.search.specs.Searching.{Searchable, settingOf}
 
 module _ {file types functions least : List ℕ} {goal : ℕ} {w : List ℕ} {p : Program} (given : Searchable file types functions least goal w p) where
   module _

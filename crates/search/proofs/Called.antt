@@ -1,5 +1,5 @@
 -- What the definition's answer is, by the answer that a call gave: under which condition it is given, and where its list stands in the slice.
--- Rests on specs/Answering, on Cutting and Refusals, and on reach's Answers.
+-- Rests on specs/Answering, on exploring's Cutting and Refusals, and on reach's Answers.
 use Prim.Native.Nat.{ℕ, zero, suc, _+_, _≤_, _<_}
 use native.Mathlib.Omega.{arith}
 use mathlib.Core.Path.{_≡_, refl, sym, ap, subst, _∙_}
@@ -26,10 +26,10 @@ use Rattle.reach.proofs.Base.{clash}
 use Rattle.reach.proofs.Lists.{none-empty}
 use Rattle.reach.proofs.Answers.{Means, search-means, search-turned-back}
 use Rattle.reach.proofs.Refusals.{turned-back-by}
-use Rattle.search.specs.declared.Answer.{Answer}
-use Rattle.search.specs.declared.Answer.the-variants as Answer
+use Rattle.exploring.specs.declared.Answer.{Answer}
+use Rattle.exploring.specs.declared.Answer.the-variants as Answer
 use Rattle.search.specs.Answering.{answerOf, Promised, Searched, lengthIn, refusalIn, verdictIn}
-use Rattle.search.proofs.Cutting.{size-more, answer-complete, answer-full, answer-short, answer-refused}
+use Rattle.exploring.proofs.Cutting.{size-more, answer-complete, answer-full, answer-short, answer-refused}
 
 -- what a call promises of its own answer holds of the definition's
 pub searched-so : {file work work′ before after : List ℕ} {r : Answer} → Promised file work work′ before after r → Searched file work work′ before after

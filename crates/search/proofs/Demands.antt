@@ -35,10 +35,10 @@ use Rattle.reach.proofs.Lists as Verdicts
 use Rattle.reach.proofs.Answers.{listed-in, complete-is}
 use Rattle.reach.proofs.ReadBack.{listed-fits, written-read-back}
 use Rattle.reach.proofs.Demands as Reach
-use Rattle.search.specs.declared.Answer.{Answer}
-use Rattle.search.specs.declared.Answer.the-variants as Answer
+use Rattle.exploring.specs.declared.Answer.{Answer}
+use Rattle.exploring.specs.declared.Answer.the-variants as Answer
 use Rattle.search.specs.Answering.{WordsAfter, Promised, lengthIn, refusalIn, verdictIn, ReadsAs}
-use Rattle.search.proofs.Cutting.{size-more, written-none, written-length}
+use Rattle.exploring.proofs.Cutting.{size-more, written-none, written-length}
 use Rattle.search.proofs.Called.{length-is, refusal-is, verdict-is, refused-when, full-when, complete-when, complete-lists, full-lists, refused-lists, listed-room, room-inside, written-take, written-drop, member-number, no-numbers, none-lists, says-spent}
 use Rattle.search.proofs.Reading.{part-of, reads-exactly, reads-or-empty}
 

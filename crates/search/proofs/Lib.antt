@@ -1,5 +1,3 @@
-pub mod Cutting
-pub mod Exploring
 pub mod Beginning
 pub mod Answering
 pub mod Reading

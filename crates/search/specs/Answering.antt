@@ -1,6 +1,6 @@
 -- What a caller of `search` reads: the answer, the list in the caller's slice and the words afterwards, in terms of reach's definition; and what a caller
 -- takes from an answer and from the bytes of its list.
--- Rests on reach's Answers, Search and Lists, on machine's Cells for what the words stand for, and on the enum of src/lib.rt.
+-- Rests on reach's Answers, Search and Lists, on machine's Cells for what the words stand for, and on the enum of crate exploring.
 use Prim.Native.Nat.{ℕ, _+_, _*_}
 use mathlib.Core.Path.{_≡_}
 use mathlib.Core.List.{List, [], _∷_, _++_}
@@ -16,8 +16,8 @@ use Rattle.reach.specs.Search.{Entry, openInput, entries, verdict}
 use Rattle.reach.specs.Lists.{listBytes, written, entryPart, sayingOf, decoded}
 use Rattle.reach.specs.Answers.{check, accepted, SearchAnswer, noSearch, complete, cutShort, searchAnswer, listed}
 use Rattle.machine.specs.Cells.{Cells}
-use Rattle.search.specs.declared.Answer.{Answer}
-use Rattle.search.specs.declared.Answer.the-variants as Answer
+use Rattle.exploring.specs.declared.Answer.{Answer}
+use Rattle.exploring.specs.declared.Answer.the-variants as Answer
 
 -- the answer of reach's definition, as the enum shows it: the length of the list in bytes, and the verdict where the list is complete
 abbrev pub answerOf : SearchAnswer → Answer

@@ -1,2 +1,2 @@
-pub mod Exploring
+pub mod Searching
 pub mod Answering

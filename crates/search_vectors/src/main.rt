@@ -1,11 +1,11 @@
 // Runs the search on every case of a container and prints two lines for each: the answer, then the bytes of the list with what became
 // of the rest of the lent slices. tests/make_searches.py makes the container and the lines, and says what stands in them.
 ghost use Prim.Native.Nat.{_≤_};
+use exploring::Answer;
 use libc::STDIN_FILENO;
 use libc::STDOUT_FILENO;
 use reach::Refusal;
 use reach::Verdict;
-use search::Answer;
 
 // The words of the longest work slice and the bytes of the longest list slice that a case may ask for.
 const WORDS: usize = 300000;

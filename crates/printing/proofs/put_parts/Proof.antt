@@ -6,7 +6,7 @@ use mathlib.Core.List.{map}
 use native.Mathlib.Omega.{arith}
 use lib.ListN.{length, getD, drop}
 use Rattle.reach.specs.Text.{spaced, partWord}
-use Rattle.printing.proofs.Writing.{Left, left-whole, puts-length}
+use Rattle.writing.proofs.Writing.{Left, left-whole, puts-length}
 use Rattle.printing.proofs.Lines.{parts-next, parts-done, part-end}
 use Rattle.printing.proofs.put_parts.Tie as tie
 use Rattle.printing.proofs.put_parts.Statement.{statement}

@@ -3,7 +3,7 @@
 use native.Mathlib.Omega.{arith}
 use borrow.Author.Needs.{needs}
 use Rattle.printing.proofs.Lines.{refusal-put, number-few}
-use Rattle.printing.proofs.Digits.{decimal-few}
+use Rattle.writing.proofs.Digits.{decimal-few}
 use Rattle.printing.proofs.put_refusal.Tie as tie
 use Rattle.printing.proofs.put_refusal.Statement.{statement}
 

@@ -1,7 +1,7 @@
 -- `printing::refusal_text` meets its contract: the line is written from the front on.
 -- Rests on Writing.
 use borrow.Author.Needs.{needs}
-use Rattle.printing.proofs.Writing.{puts-front}
+use Rattle.writing.proofs.Writing.{puts-front}
 use Rattle.printing.proofs.refusal_text.Tie as tie
 use Rattle.printing.proofs.refusal_text.Statement.{statement}
 

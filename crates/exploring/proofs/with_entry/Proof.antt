@@ -1,0 +1,15 @@
+-- `exploring::with_entry` meets its contract, by the kind of the entry. Rests on reach's Lists.
+use mathlib.Core.Path.{sym}
+use borrow.Author.Needs.{needs}
+use Rattle.reach.proofs.Lists.{found-with-reach}
+use Rattle.exploring.proofs.with_entry.Statement.{statement}
+use Rattle.exploring.proofs.with_entry.Tie as tie
+
+returns : tie.Need-returns
+returns c counts is = rw (c .enum-told .given .1) (sym (found-with-reach counts))
+
+returns-2 : tie.Need-returns-2
+returns-2 c counts is = rw (c .before .enum-told2 .given .1) (c .with-unfinished .ensures counts is)
+
+pub with-entry-spec : {M : Type 1} → statement M
+with-entry-spec = tie.close (tie.spec (λ c. search needs) returns (λ c. search needs) (λ c κs. search needs) returns-2)

@@ -1,0 +1,4 @@
+pub mod Reached
+pub mod Bound
+pub mod Advancing
+pub mod Looping

@@ -1,0 +1,24 @@
+-- What the search of a checked file starts from.
+-- Rests on reach's Types and Limits, on machine's Layout, loaded's Beginning and choices' Returning.
+use Prim.Native.Nat.{ℕ}
+use mathlib.Core.Path.{_≡_}
+use mathlib.Core.List.{List}
+use lib.ListN.{length}
+use Rattle.reach.specs.Limits.{workWords}
+use Rattle.reach.specs.Syntax.{Program}
+use Rattle.reach.specs.Types.{leastDepths}
+use Rattle.machine.specs.Layout.{recordsAt, choicesAt}
+use Rattle.loaded.specs.Beginning.{GivenFile}
+use Rattle.depths.specs.Table.{padded}
+use Rattle.choices.specs.Choices.{Setting}
+use Rattle.choices.specs.Returning.{setting}
+
+-- A checked file with its tables and its least depths, and as many words as its search needs.
+pub record Searchable (file types functions least : List ℕ) (goal : ℕ) (w : List ℕ) (p : Program) : Type 0 where
+  pub of-file : GivenFile file types functions goal p
+  pub least-are : least ≡ padded (leastDepths (p .types))
+  pub long : length w ≡ workWords (p .steps)
+
+-- the setting of its search
+abbrev pub settingOf : List ℕ → List ℕ → List ℕ → List ℕ → Program → Setting
+settingOf file types functions least p = setting file types functions least p (p .steps) (recordsAt (p .steps)) (choicesAt (p .steps))
