@@ -1,5 +1,5 @@
 -- The text of the program `reachlist`: it fits its slice whole; and of standard input the first bytes are enough, since a longer one is refused anyway.
--- Rests on specs/Answers, on writing's Writing and on reach's Answers.
+-- Rests on specs/Answers, on writing's Writing and on reach's Answers and Stages.
 use Prim.Native.Nat.{ℕ, _≤_, _<_}
 use native.Mathlib.Omega.{arith}
 use mathlib.Core.Path.{_≡_, sym, ap, _∙_}
@@ -7,12 +7,10 @@ use mathlib.Core.Logic.{_⊎_, ⊎-elim}
 use mathlib.Core.List.{List, _++_}
 use lib.ListN.{length, take, drop}
 use lib.Seq.{take-all, take-append-seam, drop-append-seam}
-use borrow.Author.Tests.{lt-leb}
 use Rattle.reach.specs.declared.Refusal.the-variants.{OutOfRange}
 use Rattle.reach.specs.Limits.{fileLimit}
-use Rattle.reach.specs.RuleFile.{sizeInLimit, ruleFile}
-use Rattle.reach.specs.Answers.{turnedBack, check}
 use Rattle.reach.proofs.Answers.{search-turned-back}
+use Rattle.reach.proofs.Stages.{size-refused}
 use Rattle.writing.specs.Writing.{fronted, Fronts}
 use Rattle.report.specs.Answers.{printed}
 
@@ -36,10 +34,6 @@ first-bytes input size counted =
     (λ h. (omega arith, rw (h .1) (take-all (length input) input (omega arith) ∙ sym (take-all size input (h .0)))))
 
 -- 01: "file size" is refusal 3, and is tested first
-long-refused : (file : List ℕ) → fileLimit < length file → check file ≡ turnedBack OutOfRange
-unfolding check ruleFile sizeInLimit
-long-refused file long = rw (lt-leb _ _ long)
-
 pub long-printed : (file other : List ℕ) → fileLimit < length file → fileLimit < length other → printed file ≡ printed other
 long-printed file other long too =
-    rw (search-turned-back file _ _ OutOfRange (long-refused file long), search-turned-back other _ _ OutOfRange (long-refused other too))
+    rw (search-turned-back file _ _ OutOfRange (size-refused file long), search-turned-back other _ _ OutOfRange (size-refused other too))

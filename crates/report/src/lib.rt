@@ -2,7 +2,7 @@
 // that program. Rests on crates search and printing.
 ghost use Prim.Native.Nat.{_≤_};
 ghost use lib.ListN.{length};
-ghost use Rattle.report.specs.Answers.{Promised, Prints};
+ghost use Rattle.report.specs.Answers.{Promised, programPage, Prints};
 use exploring::Answer;
 use printing::list_text;
 use printing::refusal_text;
@@ -21,7 +21,7 @@ pub fn report<'a>(file: &'a [u8], work: &mut [u32], list: &mut [u8], text: &mut 
 
 // What the program `reachlist` prints for the first `size` bytes that it read, with its buffers: 16,384 words and 32,768 bytes for the list.
 fn printed_text<'a>(input: &'a [u8], size: usize, text: &mut [u8]) -> usize
-    requires { ⌜ 131136 ≤ length (now text) ⌝ }
+    requires { ⌜ programPage ≤ length (now text) ⌝ }
     ensures { λ r. ⌜ Prints (now (input .entry)) size (now (text .entry)) (now (text .exit)) r ⌝ }
 {
     let mut work = [0u32; 16384];

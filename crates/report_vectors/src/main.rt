@@ -5,7 +5,7 @@ use libc::STDIN_FILENO;
 use libc::STDOUT_FILENO;
 use report::program_text;
 
-// The bytes of the longest file of a container, those that are handed on, and those that may be left.
+// The bytes of the longest file of a container, and those of a file that are handed on.
 const LONGEST: usize = 100000;
 
 const READ: usize = 16385;
