@@ -24,8 +24,8 @@ use Rattle.reach.specs.Search.{oneMore, countFrom, counts, verdictBy}
 use Rattle.reach.specs.Text.{spaced, lineFrom, decimal, kindWord, partWord, lineSaying, share, totalLine, refusalLine, lastLine, textOf, listText}
 use Rattle.reach.proofs.ReadBack.{size-inside}
 use Rattle.writing.proofs.Digits.{decimal-one, decimal-more}
-use Rattle.printing.proofs.Lines.{kind-few, verdict-few, number-few}
-use Rattle.printing.specs.Counting.{Few}
+use Rattle.lines.proofs.Lines.{kind-few, verdict-few, number-few}
+use Rattle.lines.specs.Counting.{Few}
 use Rattle.printing.proofs.Walk.{size-least, few-more}
 
 -- one digit, or one more than the tenth has

@@ -1,4 +1,3 @@
 -- Lemmas of this crate; the proof of each function stands in its own folder.
-pub mod Lines
 pub mod Walk
 pub mod Lengths

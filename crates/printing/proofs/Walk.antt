@@ -23,7 +23,7 @@ use Rattle.entries.specs.declared.Size.{Size}
 use Rattle.entries.specs.declared.Size.the-variants.{Bytes, Missing}
 use Rattle.entries.specs.Spans.{sizeOf}
 use Rattle.entries.proofs.Walk.{stands, stands-inside}
-use Rattle.printing.specs.Counting.{Few}
+use Rattle.lines.specs.Counting.{Few}
 use Rattle.writing.specs.Writing.{Puts, Fronts}
 use Rattle.writing.proofs.Writing.{Left, left-next, left-last, puts-front}
 

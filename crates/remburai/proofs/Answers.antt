@@ -28,7 +28,7 @@ use Rattle.closed.specs.Answering as Closed
 use Rattle.entries.specs.declared.Span.{Span}
 use Rattle.entries.specs.declared.Span.the-variants as span
 use Rattle.entries.specs.Spans.{spanOf}
-use Rattle.remburai.specs.Packing.{verdictNumber, outcomeNumber, checkNumber, searchNumber, runNumber, partNumber, PartAt}
+use Rattle.packing.specs.Packing.{verdictNumber, outcomeNumber, checkNumber, searchNumber, runNumber, partNumber, PartAt}
 
 -- The check.
 

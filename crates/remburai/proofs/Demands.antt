@@ -18,9 +18,9 @@ use Rattle.search.proofs.Called.{listed-room}
 use Rattle.closed.specs.Answering.{answerOf, HasRun}
 use Rattle.closed.proofs.Demands.{refused-file, steps-spent}
 use Rattle.entries.specs.Spans.{partPlace}
-use Rattle.remburai.specs.Packing.{checkNumber, searchNumber, runNumber, partNumber}
-use Rattle.remburai.specs.Unpacking.{countBits, decodedCheck, checkRead, SearchRead, decodedSearch, searchRead, decodedRun, runRead, decodedPart}
-use Rattle.remburai.proofs.Unpacked.{refused-parted, ran-parted, check-reads, search-reads, run-reads, read-one, part-reads}
+use Rattle.packing.specs.Packing.{checkNumber, searchNumber, runNumber, partNumber}
+use Rattle.packing.specs.Unpacking.{countBits, decodedCheck, checkRead, SearchRead, decodedSearch, searchRead, decodedRun, runRead, decodedPart}
+use Rattle.packing.proofs.Unpacked.{refused-parted, ran-parted, check-reads, search-reads, run-reads, read-one, part-reads}
 
 -- The check. `r ≡ checkNumber (check file)` is the contract of `remburai_check`: the call answered r. Of the other calls likewise.
 

@@ -1,58 +1,22 @@
 // The calls for C and Rust: the check of a rule file, its search, a closed run, and where an entry of a list stands. Each answers with
-// one number, which specs/Packing.antt defines; include/remburai.h has the numbers for C. Rests on crates rulefile, search, closed and entries.
+// one number, which specs/Packing.antt of crate packing defines; include/remburai.h has the numbers for C. Rests on crates rulefile, search,
+// closed, entries and packing.
 ghost use mathlib.Core.Path.{_≡_};
-ghost use Prim.Native.Nat.{_≤_};
 ghost use lib.ListN.{length};
-ghost use Rattle.reach.specs.Words.{stepsOf};
 ghost use Rattle.reach.specs.Answers as Answers;
 ghost use Rattle.search.specs.Answering.{Searched};
 ghost use Rattle.closed.specs.Answering.{HasRun};
-ghost use Rattle.remburai.specs.Packing.{verdictNumber, outcomeNumber, checkNumber, searchNumber, runNumber, partNumber, PartAt};
+ghost use Rattle.packing.specs.Packing.{checkNumber, searchNumber, runNumber, partNumber, PartAt};
 use entries::Span;
 use entries::room;
 use entries::span_of;
-use reach::Outcome;
+use packing::outcome_number;
+use packing::steps_of;
+use packing::verdict_number;
 use reach::Refusal;
-use reach::Verdict;
 use refusals::number;
 use rulefile::Checked;
 use rulefile::check;
-
-// The number of a verdict.
-fn verdict_number(verdict: Verdict) -> u64
-    ensures { λ r. ⌜ r ≡ verdictNumber verdict ⌝ }
-    ensures small { λ r. ⌜ r ≤ 3 ⌝ }
-{
-    match verdict {
-        Verdict::Found => 1,
-        Verdict::Undecided => 2,
-        Verdict::None => 3,
-    }
-}
-
-// The number of how a run ended.
-fn outcome_number(outcome: Outcome) -> u64
-    ensures { λ r. ⌜ r ≡ outcomeNumber outcome ⌝ }
-    ensures small { λ r. ⌜ r ≤ 3 ⌝ }
-{
-    match outcome {
-        Outcome::Reached(_) => 1,
-        Outcome::Ended(_) => 2,
-        Outcome::Unfinished(_) => 3,
-    }
-}
-
-// The steps that a run took.
-fn steps_of(outcome: Outcome) -> u64
-    ensures { λ r. ⌜ r ≡ stepsOf outcome ⌝ }
-    ensures small { λ r. ⌜ r ≤ 65535 ⌝ }
-{
-    match outcome {
-        Outcome::Reached(n) => n as u64,
-        Outcome::Ended(n) => n as u64,
-        Outcome::Unfinished(n) => n as u64,
-    }
-}
 
 // The check of a rule file: 0, or the number of its refusal.
 #[no_mangle]

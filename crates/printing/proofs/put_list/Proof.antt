@@ -8,7 +8,7 @@ use borrow.Author.Needs.{needs}
 use Rattle.reach.specs.Lists.{decodedFrom}
 use Rattle.reach.specs.Text.{textOf}
 use Rattle.entries.proofs.Walk.{stands-inside}
-use Rattle.printing.specs.Counting.{Few}
+use Rattle.lines.specs.Counting.{Few}
 use Rattle.writing.proofs.Writing.{Left, left-whole, puts-length}
 use Rattle.printing.proofs.Walk.{textFrom, text-whole, few-more, size-some, part-least, part-most, line-next, last-missing, last-over}
 use Rattle.printing.proofs.put_list.Tie as tie

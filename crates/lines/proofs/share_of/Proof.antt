@@ -4,8 +4,8 @@ use Prim.Native.Nat.{_+_}
 use borrow.Author.Tests.{eq-eqb, ne-eqb}
 use borrow.Author.Needs.{needs}
 use Rattle.reach.specs.Text.{share}
-use Rattle.printing.proofs.share_of.Tie as tie
-use Rattle.printing.proofs.share_of.Statement.{statement}
+use Rattle.lines.proofs.share_of.Tie as tie
+use Rattle.lines.proofs.share_of.Statement.{statement}
 
 returns : tie.Need-returns
 unfolding share

@@ -3,9 +3,9 @@
 use native.Mathlib.Omega.{arith}
 use borrow.Author.Needs.{needs}
 use Rattle.reach.specs.Search.{verdictBy}
-use Rattle.printing.proofs.Lines.{total-put, number-end, verdict-end, share-few}
-use Rattle.printing.proofs.put_total.Tie as tie
-use Rattle.printing.proofs.put_total.Statement.{statement}
+use Rattle.lines.proofs.Lines.{total-put, number-end, verdict-end, share-few}
+use Rattle.lines.proofs.put_total.Tie as tie
+use Rattle.lines.proofs.put_total.Statement.{statement}
 
 put-number-requires : tie.Need-put-number-requires
 put-number-requires c κs = omega (arith, c .before .before .before .put-word .ensures .place)

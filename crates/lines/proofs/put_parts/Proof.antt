@@ -7,9 +7,9 @@ use native.Mathlib.Omega.{arith}
 use lib.ListN.{length, getD, drop}
 use Rattle.reach.specs.Text.{spaced, partWord}
 use Rattle.writing.proofs.Writing.{Left, left-whole, puts-length}
-use Rattle.printing.proofs.Lines.{parts-next, parts-done, part-end}
-use Rattle.printing.proofs.put_parts.Tie as tie
-use Rattle.printing.proofs.put_parts.Statement.{statement}
+use Rattle.lines.proofs.Lines.{parts-next, parts-done, part-end}
+use Rattle.lines.proofs.put_parts.Tie as tie
+use Rattle.lines.proofs.put_parts.Statement.{statement}
 
 abbrev Inv-loop : tie.InvT-loop
 Inv-loop entry text₀ at i₀ to₀ text i to = (6 ≤ i) × (i ≤ length entry) × (to + 257 * 6 ≤ at + 257 * i)

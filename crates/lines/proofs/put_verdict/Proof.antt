@@ -3,8 +3,8 @@
 use borrow.Author.Tests.{lt-ltb, le-ltb}
 use borrow.Author.Needs.{needs}
 use Rattle.reach.specs.Search.{verdictBy}
-use Rattle.printing.proofs.put_verdict.Tie as tie
-use Rattle.printing.proofs.put_verdict.Statement.{statement}
+use Rattle.lines.proofs.put_verdict.Tie as tie
+use Rattle.lines.proofs.put_verdict.Statement.{statement}
 
 returns : tie.Need-returns
 unfolding verdictBy

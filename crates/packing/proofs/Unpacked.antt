@@ -19,8 +19,8 @@ use Rattle.reach.specs.Lists.{listBytes, roomOf, onFound, entrySpan, entryPart}
 use Rattle.reach.specs.Answers.{Checked, accepted, turnedBack, SearchAnswer, noSearch, complete, cutShort, listed, refusalOf, verdictOf, RunAnswer, noRun, ran}
 use Rattle.entries.specs.Spans.{partPlace}
 use Rattle.entries.proofs.Demands.{found-within}
-use Rattle.remburai.specs.Packing.{verdictNumber, outcomeNumber, checkNumber, searchNumber, runNumber, partNumber}
-use Rattle.remburai.specs.Unpacking.{refusalBits, caseBits, countBits, placeBits, sizeBits, refusalNamed, verdictNamed, outcomeNamed, decodedCheck, checkRead, decodedSearch, searchRead, RunRead, decodedRun, runRead, decodedPart}
+use Rattle.packing.specs.Packing.{verdictNumber, outcomeNumber, checkNumber, searchNumber, runNumber, partNumber}
+use Rattle.packing.specs.Unpacking.{refusalBits, caseBits, countBits, placeBits, sizeBits, refusalNamed, verdictNamed, outcomeNamed, decodedCheck, checkRead, decodedSearch, searchRead, RunRead, decodedRun, runRead, decodedPart}
 
 -- The parts of a packed number are what was packed: each of the two lower ones fills a byte at most.
 pub record Parted (number low middle count : ℕ) : Type 0 where

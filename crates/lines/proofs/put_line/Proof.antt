@@ -5,9 +5,9 @@ use lib.ListN.{drop}
 use borrow.Author.Needs.{needs}
 use Rattle.reach.specs.Places.{wordAt}
 use Rattle.reach.specs.Lists.{kindAt, decoded}
-use Rattle.printing.proofs.Lines.{line-put, number-end, kind-end}
-use Rattle.printing.proofs.put_line.Tie as tie
-use Rattle.printing.proofs.put_line.Statement.{statement}
+use Rattle.lines.proofs.Lines.{line-put, number-end, kind-end}
+use Rattle.lines.proofs.put_line.Tie as tie
+use Rattle.lines.proofs.put_line.Statement.{statement}
 
 put-number-requires : tie.Need-put-number-requires
 unfolding wordAt

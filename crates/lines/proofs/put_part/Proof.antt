@@ -3,8 +3,8 @@
 use borrow.Author.Tests.{eq-eqb, ne-eqb}
 use borrow.Author.Needs.{needs}
 use Rattle.reach.specs.Text.{partWord}
-use Rattle.printing.proofs.put_part.Tie as tie
-use Rattle.printing.proofs.put_part.Statement.{statement}
+use Rattle.lines.proofs.put_part.Tie as tie
+use Rattle.lines.proofs.put_part.Statement.{statement}
 
 returns : tie.Need-returns
 unfolding partWord

@@ -2,10 +2,10 @@
 -- Rests on Lines and Digits.
 use native.Mathlib.Omega.{arith}
 use borrow.Author.Needs.{needs}
-use Rattle.printing.proofs.Lines.{refusal-put, number-few}
+use Rattle.lines.proofs.Lines.{refusal-put, number-few}
 use Rattle.writing.proofs.Digits.{decimal-few}
-use Rattle.printing.proofs.put_refusal.Tie as tie
-use Rattle.printing.proofs.put_refusal.Statement.{statement}
+use Rattle.lines.proofs.put_refusal.Tie as tie
+use Rattle.lines.proofs.put_refusal.Statement.{statement}
 
 put-number-requires : tie.Need-put-number-requires
 put-number-requires c κs =
