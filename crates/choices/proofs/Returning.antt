@@ -16,12 +16,12 @@ use Rattle.reach.proofs.Limits.{accepted-keeps}
 use Rattle.machine.specs.Cells.{cellWord}
 use Rattle.forks.specs.declared.Candidate.{Candidate}
 use Rattle.forks.specs.declared.Candidate.the-variants as Candidate
-use Rattle.forks.specs.Untried.{untried, NextFork}
+use Rattle.forks.specs.Untried.{untried}
 use Rattle.forks.proofs.Untried.{untried-padded}
 use Rattle.choices.specs.declared.Return.the-variants as Return
 use Rattle.choices.specs.Choices.{Setting, Given, choiceWord, reopened, ChoiceAt, ChoicesAt, no-choice, one-choice}
 use Rattle.choices.specs.Weights.{weight}
-use Rattle.choices.specs.Returning.{setting, NextAt, ReturnsTo, ReturnMeans, Returns, SomeChoices}
+use Rattle.choices.specs.Returning.{NextForkAt, setting, NextAt, ReturnsTo, ReturnMeans, Returns, SomeChoices}
 use Rattle.choices.proofs.Keeping.{reopened-length, cell-below, cells-fit, cell-fits}
 use Rattle.choices.proofs.Weights.{weight-dropped}
 
@@ -75,14 +75,14 @@ module _ {g : Setting} (given : Given g) where
 
     -- a choice point without a constructor left
     pub exhausted :
-        NextFork (g .file) (g .types) (g .least) (cellWord w (choiceWord (g .stack) w h 0) 2) (cellWord w (choiceWord (g .stack) w h 0) 3) (cellWord w (choiceWord (g .stack) w h 0) 0) Candidate.NoMore
+        NextForkAt (g .file) (g .types) (g .least) (g .stack) w h Candidate.NoMore
         → c .untried ≡ []
     exhausted none = sym left-are ∙ none
 
     -- one with a constructor left
     pub next-found :
         (n i k : ℕ)
-        → NextFork (g .file) (g .types) (g .least) (cellWord w (choiceWord (g .stack) w h 0) 2) (cellWord w (choiceWord (g .stack) w h 0) 3) (cellWord w (choiceWord (g .stack) w h 0) 0) (Candidate.Take n i k)
+        → NextForkAt (g .file) (g .types) (g .least) (g .stack) w h (Candidate.Take n i k)
         → NextAt g w c h n i k
     next-found n i k (untried-is, known, deep, from, near, few, small) = record {
       choice-at = at-h;
@@ -152,7 +152,7 @@ module _ (file types least w₀ : List ℕ) (stack height : ℕ) where
 
     -- the last choice point has no constructor left, and is dropped
     came-back :
-        NextFork file types least (cellWord w (choiceWord stack w (h - 1) 0) 2) (cellWord w (choiceWord stack w (h - 1) 0) 3) (cellWord w (choiceWord stack w (h - 1) 0) 0) Candidate.NoMore
+        NextForkAt file types least stack w (h - 1) Candidate.NoMore
         → 0 < h → CameTo (reopened stack w (h - 1)) (h - 1)
     came-back none higher functions p limit base cells records cs given at-first =
         let now = came functions p limit base cells records cs given at-first in
@@ -171,7 +171,7 @@ module _ (file types least w₀ : List ℕ) (stack height : ℕ) where
     -- or it has, and is the one that the return leads to
     came-to :
         (n i k : ℕ)
-        → NextFork file types least (cellWord w (choiceWord stack w (h - 1) 0) 2) (cellWord w (choiceWord stack w (h - 1) 0) 3) (cellWord w (choiceWord stack w (h - 1) 0) 0) (Candidate.Take n i k)
+        → NextForkAt file types least stack w (h - 1) (Candidate.Take n i k)
         → 0 < h → length w ≡ length w₀ → Returns file types least w₀ w stack height (Return.To (h - 1) n i k)
     came-to n i k found higher same-length functions p limit base cells records cs given at-first =
         let now = came functions p limit base cells records cs given at-first in
@@ -201,9 +201,9 @@ module _ (file types least w₀ : List ℕ) (stack height : ℕ) where
         (same-length, (λ es. now .returns es ∙ ap (λ ds. return p (leastDepths (p .types)) ds es) (none .0) ∙ return-none p (leastDepths (p .types)) es, (now .cells, now .records, at-none)))
 
     -- the same by what `candidate` answers
-    module _ {a : Candidate} (answer : NextFork file types least (cellWord w (choiceWord stack w (h - 1) 0) 2) (cellWord w (choiceWord stack w (h - 1) 0) 3) (cellWord w (choiceWord stack w (h - 1) 0) 0) a) (higher : 0 < h) where
+    module _ {a : Candidate} (answer : NextForkAt file types least stack w (h - 1) a) (higher : 0 < h) where
       pub drops : {w′ : List ℕ} → a ≡ Candidate.NoMore → w′ ≡ reopened stack w (h - 1) → CameTo w′ (h - 1)
-      drops is written = rw written (came-back (subst (NextFork file types least (cellWord w (choiceWord stack w (h - 1) 0) 2) (cellWord w (choiceWord stack w (h - 1) 0) 3) (cellWord w (choiceWord stack w (h - 1) 0) 0)) is answer) higher)
+      drops is written = rw written (came-back (subst (NextForkAt file types least stack w (h - 1)) is answer) higher)
 
       pub leads : {n i k : ℕ} → a ≡ Candidate.Take n i k → length w ≡ length w₀ → Returns file types least w₀ w stack height (Return.To (h - 1) n i k)
-      leads {n} {i} {k} is same-length = came-to n i k (subst (NextFork file types least (cellWord w (choiceWord stack w (h - 1) 0) 2) (cellWord w (choiceWord stack w (h - 1) 0) 3) (cellWord w (choiceWord stack w (h - 1) 0) 0)) is answer) higher same-length
+      leads {n} {i} {k} is same-length = came-to n i k (subst (NextForkAt file types least stack w (h - 1)) is answer) higher same-length

@@ -3,10 +3,8 @@
 ghost use mathlib.Core.Path.{_≡_};
 ghost use Prim.Native.Nat.{_+_, _*_, _≤_, _<_};
 ghost use lib.ListN.{length};
-ghost use Rattle.machine.specs.Cells.{cellWord};
-ghost use Rattle.forks.specs.Untried.{NextFork};
 ghost use Rattle.choices.specs.Choices.{choiceWord, reopened, Pushes};
-ghost use Rattle.choices.specs.Returning.{Returns, SomeChoices};
+ghost use Rattle.choices.specs.Returning.{NextForkAt, Returns, SomeChoices};
 use cells::open_again;
 use depths::Depths;
 use forks::Candidate;
@@ -76,7 +74,7 @@ fn candidate<'a>(
     h: usize,
 ) -> Candidate
     requires { ⌜ (stack ≤ 1000000) × (h ≤ 1000000) × (choiceWord stack (now work) h 0 ≤ 1000000) ⌝ }
-    ensures { λ r. ⌜ NextFork (now (file .entry)) (now (types .entry)) (least .of) (cellWord (now (work .entry)) (choiceWord stack (now (work .entry)) h 0) 2) (cellWord (now (work .entry)) (choiceWord stack (now (work .entry)) h 0) 3) (cellWord (now (work .entry)) (choiceWord stack (now (work .entry)) h 0) 0) r ⌝ }
+    ensures { λ r. ⌜ NextForkAt (now (file .entry)) (now (types .entry)) (least .of) stack (now (work .entry)) h r ⌝ }
 {
     let x = choice_word(work, stack, h, 0);
     next_fork(

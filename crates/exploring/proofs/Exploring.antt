@@ -31,7 +31,7 @@ use Rattle.choices.proofs.Returning.{limit-few}
 use Rattle.moves.specs.declared.Position.the-variants as Position
 use Rattle.moves.specs.declared.Walk.{Walk}
 use Rattle.moves.specs.declared.Moved.{Moved}
-use Rattle.moves.specs.Moving.{positionOf, PositionAt, StandsAs, EntryIn, Lists, walkWeight, Makes, ActiveAt, Active, Standing, Moves}
+use Rattle.moves.specs.Moving.{positionOf, PositionAt, StandsAs, EntryIn, Lists, walkWeight, Makes, ActiveAt, Active, SearchStands, Moves}
 use Rattle.listing.specs.declared.Written.{Written}
 use Rattle.listing.specs.declared.Written.the-variants as Written
 use Rattle.listing.specs.Entry.{InputIn, Listable, entryFor, WroteFor, WroteEntry}
@@ -114,7 +114,7 @@ module _ (file types functions least : List ℕ) (label : ℕ) (w₀ : List ℕ)
 
   module _ (w : List ℕ) (x : Walk) (l : List ℕ) (n : ℕ) (v : Verdict) (came : CameTo w x l n v) where
     -- so it stands somewhere
-    pub came-standing : SomeBegins file types functions least label w₀ limit base stack parameters from → Standing file types functions least label w limit base stack x
+    pub came-standing : SomeBegins file types functions least label w₀ limit base stack parameters from → SearchStands file types functions least label w limit base stack x
     came-standing (p, begins) = let now = came p begins in (p, now .position, now .choices, begins .given, begins .sought, now .stands)
 
     -- the list is as long as the slice

@@ -19,7 +19,7 @@ use reach::Refusal;
 use refusals::number;
 use writing::put_byte;
 use writing::put_number;
-use writing::put_word;
+use writing::put_bytes;
 
 // Writes a space and a byte of the prefix form.
 fn put_part(text: &mut [u8], at: usize, b: u8) -> usize
@@ -27,7 +27,7 @@ fn put_part(text: &mut [u8], at: usize, b: u8) -> usize
     ensures { λ r. ⌜ Puts (now (text .entry)) at (space ∷ partWord b) (now (text .exit)) r ⌝ }
 {
     if b == 255 {
-        return put_word(b" _", text, at);
+        return put_bytes(b" _", text, at);
     }
     put_number(text, at, wide(b) as u64)
 }
@@ -52,8 +52,8 @@ fn put_kind(kind: Kind, text: &mut [u8], at: usize) -> usize
     ensures { λ r. ⌜ Puts (now (text .entry)) at (kindWord kind) (now (text .exit)) r ⌝ }
 {
     match kind {
-        Kind::RE => return put_word(b"reach", text, at),
-        Kind::UN => return put_word(b"unfinished", text, at),
+        Kind::RE => return put_bytes(b"reach", text, at),
+        Kind::UN => return put_bytes(b"unfinished", text, at),
     }
 }
 
@@ -86,12 +86,12 @@ fn put_verdict(text: &mut [u8], at: usize, counts: Counts) -> usize
     ensures { λ r. ⌜ Puts (now (text .entry)) at (space ∷ verdictWord (verdictBy counts)) (now (text .exit)) r ⌝ }
 {
     if 0 < counts.reach {
-        return put_word(b" found", text, at);
+        return put_bytes(b" found", text, at);
     }
     if 0 < counts.unfinished {
-        return put_word(b" undecided", text, at);
+        return put_bytes(b" undecided", text, at);
     }
-    put_word(b" none", text, at)
+    put_bytes(b" none", text, at)
 }
 
 // Writes the total line.
@@ -99,7 +99,7 @@ fn put_total(text: &mut [u8], at: usize, counts: Counts) -> usize
     requires { ⌜ (at < 1152921504606846976) × Few counts 16777216 ⌝ }
     ensures { λ r. ⌜ Puts (now (text .entry)) at (totalLine counts) (now (text .exit)) r ⌝ }
 {
-    let first = put_word(b"total", text, at);
+    let first = put_bytes(b"total", text, at);
     let second = put_number(text, first, counts.reach);
     let third = put_number(text, second, counts.unfinished);
     let verdict = put_number(text, third, share_of(counts.reach, counts.unfinished));
@@ -112,7 +112,7 @@ pub fn put_refusal(text: &mut [u8], at: usize, why: Refusal) -> usize
     requires { ⌜ at < 1152921504606846976 ⌝ }
     ensures { λ r. ⌜ Puts (now (text .entry)) at (refusalLine why) (now (text .exit)) r ⌝ }
 {
-    let refusal = put_word(b"refused", text, at);
+    let refusal = put_bytes(b"refused", text, at);
     let end = put_number(text, refusal, number(why));
     put_byte(text, end, b'\n')
 }

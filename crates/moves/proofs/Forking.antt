@@ -25,7 +25,7 @@ use Rattle.cells.proofs.Rooms.{cell-room}
 use Rattle.steps.specs.declared.Registers.{Registers}
 use Rattle.steps.specs.declared.Next.{Next}
 use Rattle.steps.specs.declared.Next.the-variants as Next
-use Rattle.steps.specs.Stepping.{StepMeans, Stepped}
+use Rattle.steps.specs.Stepping.{partKind, StepMeans, Stepped}
 use Rattle.steps.specs.Running.{AtBoundPart}
 use Rattle.steps.proofs.Waiting.{waits-control}
 use Rattle.choices.specs.Choices.{Setting, Given, choiceWord, reopened, waitingAt, Path, ChoicesAt}
@@ -195,7 +195,7 @@ module _
     (done-is : done ≡ choiceWord stack w h 5) (binds : Binds w w₁ x n cells k (bytesAt file i k) (cellWord w x 3 - 1))
   where
     abbrev from : Registers
-    from = record { kind = 1; place = x; env = 0; frame = frame; records = records }
+    from = record { kind = partKind; place = x; env = 0; frame = frame; records = records }
 
     bound-there : Binds w w₁ (choiceWord stack w h 0) n (choiceWord stack w h 4) k (bytesAt file i k) (cellWord w (choiceWord stack w h 0) 3 - 1)
     bound-there = rw (x-is, cells-is) at binds

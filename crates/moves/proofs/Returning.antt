@@ -24,7 +24,7 @@ use Rattle.moves.specs.declared.Position.{Position}
 use Rattle.moves.specs.declared.Position.the-variants as Position
 use Rattle.moves.specs.declared.Walk.{Walk}
 use Rattle.moves.specs.declared.Moved.{Moved}
-use Rattle.moves.specs.Moving.{positionOf, endedWalk, PositionAt, StandsAs, positionWeight, walkWeight, ComesTo, ResumesAt, SomeUnderWay, Arrives, SomeForking, Takes, ActiveAt, Active, Resumable, Resumes, Standing, Moves}
+use Rattle.moves.specs.Moving.{positionOf, endedWalk, PositionAt, StandsAs, positionWeight, walkWeight, ComesTo, ResumesAt, SomeUnderWay, Arrives, SomeForking, Takes, ActiveAt, Active, Resumable, Resumes, SearchStands, Moves}
 use Rattle.moves.proofs.Arriving.{ended, moves-none}
 
 move-over : (p : Program) (table : List ℕ) (cs : List Choice) (es : List Entry) → moveFrom p table Model.over cs es ≡ return p table cs es
@@ -168,7 +168,7 @@ module _
     none-moves is p at cs given sought stands = resumed Position.Over is p at cs given stands
 
     module _ {r : Registers} (is : position ≡ Position.On r) where
-      pub on-some : Standing file types functions least label w limit base stack x → SomeUnderWay file types functions label w₁ limit base stack (x₁ .cells) (x₁ .done) (x₁ .height) r
+      pub on-some : SearchStands file types functions least label w limit base stack x → SomeUnderWay file types functions label w₁ limit base stack (x₁ .cells) (x₁ .done) (x₁ .height) r
       on-some (p, at, cs, given, sought, stands) =
           let comes = resumed (Position.On r) is p at cs given stands in
           (least, p, comes .input, comes .state, comes .choices, given, sought, comes .under)

@@ -18,6 +18,7 @@ use Rattle.reach.specs.Moves as Model
 use Rattle.reach.specs.Moves.{Choice, takeFork, moveFrom}
 use Rattle.machine.specs.Cells.{Cells}
 use Rattle.steps.specs.declared.Registers.{Registers}
+use Rattle.steps.specs.Stepping.{missingKind}
 use Rattle.choices.specs.Choices.{Setting, Given, choiceWord, reopened, Path, ChoicesAt}
 use Rattle.choices.specs.Weights.{power, weight}
 use Rattle.choices.specs.Returning.{setting, NextAt}
@@ -34,7 +35,7 @@ positionOf true r = Position.On r
 -- the walk behind the end of a path, whose registers say nothing
 abbrev pub endedWalk : ℕ → ℕ → ℕ → Walk
 endedWalk cells done height =
-    record { going = false; registers = record { kind = 0; place = 0; env = 0; frame = 0; records = 0 }; cells = cells; done = done; height = height }
+    record { going = false; registers = record { kind = missingKind; place = 0; env = 0; frame = 0; records = 0 }; cells = cells; done = done; height = height }
 
 -- A path under way: the steps done are no more than the limit, and there are no more choice points than steps.
 pub record UnderWay (g : Setting) (w : List ℕ) (cells done height : ℕ) (r : Registers) (e : Parts) (s : State) (cs : List Choice) : Type 0 where
@@ -162,8 +163,8 @@ Resumes file types functions least w w′ base stack x x′ =
     (positionOf (x′ .going) (x′ .registers))
 
 -- it stands somewhere, in a search of this label
-abbrev pub Standing : List ℕ → List ℕ → List ℕ → List ℕ → ℕ → List ℕ → ℕ → ℕ → ℕ → Walk → Type 0
-Standing file types functions least label w limit base stack x =
+abbrev pub SearchStands : List ℕ → List ℕ → List ℕ → List ℕ → ℕ → List ℕ → ℕ → ℕ → ℕ → Walk → Type 0
+SearchStands file types functions least label w limit base stack x =
     (p : Program) × (position : Model.Position) × (cs : List Choice) × Given (setting file types functions least p limit base stack) × (label ≡ p .label)
     × StandsAs (setting file types functions least p limit base stack) w x position cs
 

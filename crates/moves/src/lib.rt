@@ -4,7 +4,7 @@ ghost use mathlib.Core.Path.{_≡_};
 ghost use mathlib.Core.Bool.{false};
 ghost use Prim.Native.Nat.{_≤_};
 ghost use Rattle.skipping.specs.Ends.{Ends};
-ghost use Rattle.moves.specs.Moving.{positionOf, endedWalk, SomeUnderWay, Arrives, SomeForking, Takes, Active, Resumable, Resumes, Standing, Moves};
+ghost use Rattle.moves.specs.Moving.{positionOf, endedWalk, SomeUnderWay, Arrives, SomeForking, Takes, Active, Resumable, Resumes, SearchStands, Moves};
 use cells::bind_cell;
 use choices::Return;
 use choices::choice_word;
@@ -243,7 +243,7 @@ pub fn make_moves<'a>(
     stack: usize,
     walk: Walk,
 ) -> Moved
-    requires { ⌜ Standing (now file) (now types) (now functions) (least .of) label (now work) limit base stack walk × Active walk ⌝ }
+    requires { ⌜ SearchStands (now file) (now types) (now functions) (least .of) label (now work) limit base stack walk × Active walk ⌝ }
     requires { ⌜ Ends (now file) (now types) (now functions) (now ends) ⌝ }
     ensures { λ m. ⌜ Moves (now (file .entry)) (now (types .entry)) (now (functions .entry)) (least .of) label (now (work .entry)) (now (work .exit)) limit base stack walk m ⌝ }
 {

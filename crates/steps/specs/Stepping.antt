@@ -1,5 +1,5 @@
 -- What the registers and the lent words stand for, and what a step promises: it is one step of the published evaluation.
--- Rests on machine's Cells, Records and Walks, on reach's Eval, Places and States, and on the types of src/lib.rt.
+-- Rests on machine's Cells, Records and Walks, on skipping's Ends, on reach's Eval, Places and States, and on the types of src/lib.rt.
 use Prim.Native.Nat.{ℕ, zero, suc, _+_, _*_, _-_, _≤_, _<_}
 use mathlib.Core.Path.{_≡_}
 use mathlib.Core.List.{List, map}
@@ -15,6 +15,7 @@ use Rattle.reach.specs.Places.{typeAt, headAt, declarationsAt}
 use Rattle.reach.specs.States.{StateIn, Sound}
 use Rattle.machine.specs.Cells.{Cells, cellOf}
 use Rattle.machine.specs.Records.{Code, Holds, OnlyTop, Wrote, recordWord, Control, environmentOf, StateAt, expressionAt, partIn, nothingLeft}
+use Rattle.skipping.specs.Ends.{Ends}
 use Rattle.machine.specs.Walks.{Behind, OperandAt, ChosenAt, VariableAt, outsideOf}
 use Rattle.steps.specs.declared.Registers.{Registers}
 use Rattle.steps.specs.declared.Alternative.{Alternative}
@@ -125,6 +126,16 @@ pub record Stepped (file types functions w w′ : List ℕ) (base label : ℕ) (
   pub only-top : OnlyTop w w′ base (r .records)
   pub steps : (p : Program) → label ≡ p .label → Steps file types functions w w′ base r p n
 
+-- The same by a table of the ends of expressions, for every program whose file has these ends.
+
+abbrev pub LeadsBy : (file ends w w′ : List ℕ) (base : ℕ) (r r′ : Registers) → Type 0
+LeadsBy file ends w w′ base r r′ = (types functions : List ℕ) → Ends file types functions ends → Leads file types functions w w′ base r r′
+
+-- whatever the functions and the sought label
+abbrev pub SteppedBy : (file types ends w w′ : List ℕ) (base : ℕ) (r : Registers) → Next → Type 0
+SteppedBy file types ends w w′ base r n =
+    (functions : List ℕ) (label : ℕ) → Ends file types functions ends → Stepped file types functions w w′ base label r n
+
 -- What the parts of a step find.
 
 -- record r′ is on the walk outward from record r to the group of variable n, whatever the variable stands for
@@ -169,3 +180,7 @@ module _ (file types functions : List ℕ) where
         → Wrote w w′ base (r .records) (recordWord w base (r .frame) 2) (recordWord w base (recordWord w base (r .frame) 2) 1 + k) first inner
         → Found (recordWord w base (r .frame) 0) c (Alternative.Present i)
         → Chose w w′ base r c k first inner (record { kind = expressionKind; place = i; env = r .records; frame = recordWord w base (r .frame) 3; records = r .records + 1 })
+
+-- the same by a table of the ends
+abbrev pub ChoseBy : (file ends w w′ : List ℕ) (base : ℕ) (r : Registers) (c k first inner : ℕ) → Registers → Type 0
+ChoseBy file ends w w′ base r c k first inner x = (types functions : List ℕ) → Ends file types functions ends → Chose file types functions w w′ base r c k first inner x

@@ -5,9 +5,8 @@ ghost use mathlib.Core.List.{List};
 ghost use Prim.Native.Nat.{ℕ, _≤_, _<_};
 ghost use Rattle.machine.specs.Records.{recordWord, expressionAt, partIn};
 ghost use Rattle.machine.specs.Walks.{outsideOf};
-ghost use Rattle.steps.specs.Stepping.{controlIn, Space, Standing, Ready, Leads, Stepped, VariableThere, Group, Found, Chose};
-ghost use Rattle.steps.specs.Running.{AtBoundPart, Onward, RunsOn};
-ghost use Rattle.steps.specs.declared.Next.the-variants as Next;
+ghost use Rattle.steps.specs.Stepping.{controlIn, Space, Standing, Ready, Leads, LeadsBy, Stepped, SteppedBy, VariableThere, Group, Found, ChoseBy};
+ghost use Rattle.steps.specs.Running.{AtBoundPart, EntersBy, Onward, RunsOn};
 ghost use Rattle.skipping.specs.Ends.{Ends};
 use lookups::field_count;
 use lookups::head_of;
@@ -111,7 +110,7 @@ fn step_variable<'a>(
     r: Registers,
 ) -> Registers
     requires { ⌜ ((types functions : List ℕ) × Standing (now file) types functions (now work) base r) × Ready (now file) (now work) base r 0 at env ⌝ }
-    ensures { λ x. ⌜ ((types functions : List ℕ) → Ends (now (file .entry)) types functions (now (ends .entry)) → Leads (now (file .entry)) types functions (now (work .entry)) (now (work .entry)) base r x) ⌝ }
+    ensures { λ x. ⌜ LeadsBy (now (file .entry)) (now (ends .entry)) (now (work .entry)) (now (work .entry)) base r x ⌝ }
 {
     let n = byte_or_zero(file, at + 1);
     let group = group_of(work, base, env, n);
@@ -176,7 +175,7 @@ fn choose<'a>(
 ) -> Registers
     requires { ⌜ Space (now work) base r ⌝ }
     requires { ⌜ (c < 4294967296) × (recordWord (now work) base (r .frame) 2 < r .records) × (k ≤ 255) × (first < 4294967296) × (inner < 4294967296) ⌝ }
-    ensures { λ x. ⌜ ((types functions : List ℕ) → Ends (now (file .entry)) types functions (now (ends .entry)) → Chose (now (file .entry)) types functions (now (work .entry)) (now (work .exit)) base r c k first inner x) ⌝ }
+    ensures { λ x. ⌜ ChoseBy (now (file .entry)) (now (ends .entry)) (now (work .entry)) (now (work .exit)) base r c k first inner x ⌝ }
 {
     let frame = r.frame;
     let top = r.records;
@@ -215,7 +214,7 @@ fn step_construct<'a>(
     r: Registers,
 ) -> Next
     requires { ⌜ ((functions : List ℕ) × Standing (now file) (now types) functions (now work) base r) × Ready (now file) (now work) base r 2 at env ⌝ }
-    ensures { λ x. ⌜ ((functions : List ℕ) (label : ℕ) → Ends (now (file .entry)) (now (types .entry)) functions (now (ends .entry)) → Stepped (now (file .entry)) (now (types .entry)) functions (now (work .entry)) (now (work .exit)) base label r x) ⌝ }
+    ensures { λ x. ⌜ SteppedBy (now (file .entry)) (now (types .entry)) (now (ends .entry)) (now (work .entry)) (now (work .exit)) base r x ⌝ }
 {
     let frame = r.frame;
     if frame == 0 {
@@ -238,7 +237,7 @@ fn step_case<'a>(
     r: Registers,
 ) -> Registers
     requires { ⌜ Ready (now file) (now work) base r 3 at env ⌝ }
-    ensures { λ x. ⌜ ((types functions : List ℕ) → Ends (now (file .entry)) types functions (now (ends .entry)) → Leads (now (file .entry)) types functions (now (work .entry)) (now (work .exit)) base r x) ⌝ }
+    ensures { λ x. ⌜ LeadsBy (now (file .entry)) (now (ends .entry)) (now (work .entry)) (now (work .exit)) base r x ⌝ }
 {
     let top = r.records;
     let alternatives = place_or_zero(ends, at + 2);
@@ -263,7 +262,7 @@ fn step_let<'a>(
     r: Registers,
 ) -> Registers
     requires { ⌜ Ready (now file) (now work) base r 4 at env ⌝ }
-    ensures { λ x. ⌜ ((types functions : List ℕ) → Ends (now (file .entry)) types functions (now (ends .entry)) → Leads (now (file .entry)) types functions (now (work .entry)) (now (work .exit)) base r x) ⌝ }
+    ensures { λ x. ⌜ LeadsBy (now (file .entry)) (now (ends .entry)) (now (work .entry)) (now (work .exit)) base r x ⌝ }
 {
     let top = r.records;
     let body = place_or_zero(ends, at + 2);
@@ -290,7 +289,7 @@ pub fn enter_part<'a>(
     first: usize,
 ) -> Registers
     requires { ⌜ ((types functions : List ℕ) × (cell : ℕ) × AtBoundPart (now file) types functions (now work) base cell r c k first) ⌝ }
-    ensures { λ x. ⌜ ((types functions : List ℕ) (cell label : ℕ) → AtBoundPart (now (file .entry)) types functions (now (work .entry)) base cell r c k first → Ends (now (file .entry)) types functions (now (ends .entry)) → Stepped (now (file .entry)) types functions (now (work .entry)) (now (work .exit)) base label r (Next.Goes x)) ⌝ }
+    ensures { λ x. ⌜ EntersBy (now (file .entry)) (now (ends .entry)) (now (work .entry)) (now (work .exit)) base r c k first x ⌝ }
 {
     choose(file, ends, work, base, r, c, k, first, 0)
 }
@@ -306,7 +305,7 @@ fn step_part<'a>(
     r: Registers,
 ) -> Next
     requires { ⌜ ((functions : List ℕ) × Standing (now file) (now types) functions (now work) base r) × (controlIn r ≡ partIn cell) ⌝ }
-    ensures { λ x. ⌜ ((functions : List ℕ) (label : ℕ) → Ends (now (file .entry)) (now (types .entry)) functions (now (ends .entry)) → Stepped (now (file .entry)) (now (types .entry)) functions (now (work .entry)) (now (work .exit)) base label r x) ⌝ }
+    ensures { λ x. ⌜ SteppedBy (now (file .entry)) (now (types .entry)) (now (ends .entry)) (now (work .entry)) (now (work .exit)) base r x ⌝ }
 {
     let frame = r.frame;
     if frame == 0 {

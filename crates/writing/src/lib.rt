@@ -20,7 +20,7 @@ pub fn put_byte(text: &mut [u8], at: usize, b: u8) -> usize
 }
 
 // Writes the bytes of a word.
-pub fn put_word(word: &[u8], text: &mut [u8], at: usize) -> usize
+pub fn put_bytes(word: &[u8], text: &mut [u8], at: usize) -> usize
     requires { ⌜ (length (now word) ≤ 4096) × (at < 4611686018427387904) ⌝ }
     ensures { λ r. ⌜ Puts (now (text .entry)) at (now (word .entry)) (now (text .exit)) r ⌝ }
 {

@@ -1,4 +1,4 @@
--- `printing::put_kind` meets its contract: each byte string is the word of its kind.
+-- `lines::put_kind` meets its contract: each byte string is the word of its kind.
 -- Rests on nothing of this crate.
 use borrow.Author.Needs.{needs}
 use Rattle.reach.specs.Text.{kindWord}

@@ -1,4 +1,4 @@
--- `printing::put_last` meets its contract: a list that was cut short is tried first.
+-- `lines::put_last` meets its contract: a list that was cut short is tried first.
 -- Rests on nothing of this crate.
 use borrow.Author.Needs.{needs}
 use Rattle.reach.specs.Text.{lastLine}

@@ -1,4 +1,4 @@
--- `printing::put_line` meets its contract: the pieces stand in the definition's order, and the steps are below 65,536.
+-- `lines::put_line` meets its contract: the pieces stand in the definition's order, and the steps are below 65,536.
 -- Rests on Lines.
 use native.Mathlib.Omega.{arith}
 use lib.ListN.{drop}

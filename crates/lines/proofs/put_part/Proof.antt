@@ -1,4 +1,4 @@
--- `printing::put_part` meets its contract: an open part is tried first, as in the definition.
+-- `lines::put_part` meets its contract: an open part is tried first, as in the definition.
 -- Rests on nothing of this crate.
 use borrow.Author.Tests.{eq-eqb, ne-eqb}
 use borrow.Author.Needs.{needs}

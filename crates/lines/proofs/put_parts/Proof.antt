@@ -1,4 +1,4 @@
--- `printing::put_parts` meets its contract. The invariant: what is left of the parameters gives what all of them give, and no byte takes more
+-- `lines::put_parts` meets its contract. The invariant: what is left of the parameters gives what all of them give, and no byte takes more
 -- than 257 bytes of text.
 -- Rests on Writing and Lines.
 use Prim.Native.Nat.{_+_, _*_, _-_, _≤_}

@@ -1,4 +1,4 @@
--- `printing::put_refusal` meets its contract: the pieces stand in the definition's order.
+-- `lines::put_refusal` meets its contract: the pieces stand in the definition's order.
 -- Rests on Lines and Digits.
 use native.Mathlib.Omega.{arith}
 use borrow.Author.Needs.{needs}

@@ -1,4 +1,4 @@
--- `printing::put_total` meets its contract: the pieces stand in the definition's order.
+-- `lines::put_total` meets its contract: the pieces stand in the definition's order.
 -- Rests on Lines.
 use native.Mathlib.Omega.{arith}
 use borrow.Author.Needs.{needs}

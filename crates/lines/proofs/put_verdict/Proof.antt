@@ -1,4 +1,4 @@
--- `printing::put_verdict` meets its contract: the counts are tried in the definition's order.
+-- `lines::put_verdict` meets its contract: the counts are tried in the definition's order.
 -- Rests on nothing of this crate.
 use borrow.Author.Tests.{lt-ltb, le-ltb}
 use borrow.Author.Needs.{needs}

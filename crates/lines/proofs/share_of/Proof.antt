@@ -1,4 +1,4 @@
--- `printing::share_of` meets its contract: both counts together are tried for 0 before they divide.
+-- `lines::share_of` meets its contract: both counts together are tried for 0 before they divide.
 -- Rests on nothing of this crate.
 use Prim.Native.Nat.{_+_}
 use borrow.Author.Tests.{eq-eqb, ne-eqb}

@@ -1,12 +1,12 @@
--- `writing::put_word` meets its contract. The invariant: what is left of the word gives what the whole gives.
+-- `writing::put_bytes` meets its contract. The invariant: what is left of the word gives what the whole gives.
 -- Rests on Writing.
 use Prim.Native.Nat.{_+_, _-_, _≤_}
 use native.Mathlib.Omega.{arith}
 use lib.ListN.{length, drop}
 use Rattle.writing.proofs.Writing.{Left, left-whole, puts-length}
 use Rattle.writing.proofs.Writing.{word-next, word-done}
-use Rattle.writing.proofs.put_word.Statement.{statement}
-use Rattle.writing.proofs.put_word.Tie as tie
+use Rattle.writing.proofs.put_bytes.Statement.{statement}
+use Rattle.writing.proofs.put_bytes.Tie as tie
 
 abbrev Inv-loop : tie.InvT-loop
 Inv-loop word text₀ at i₀ to₀ text i to = (i ≤ length word) × (to ≤ at + i) × Left text₀ at word text to (drop i word)
