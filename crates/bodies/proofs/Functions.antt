@@ -22,7 +22,9 @@ use Rattle.records.proofs.Answers.{step-got, step-refused}
 use Rattle.lookups.specs.declared.Head as Looked
 use Rattle.lookups.specs.Heads.{headOf}
 use Rattle.lookups.proofs.Tables.{parameters-many}
-use Rattle.bodies.specs.Check.{declared, expressionAt, bodyAt, Small, BodyThere, bodiesStep}
+use Rattle.bodies.specs.declared.Judged.{Judged}
+use Rattle.bodies.specs.declared.Judged.the-variants as Judged
+use Rattle.bodies.specs.Check.{declared, expressionAt, bodyAt, Small, BodyThere, bodiesOf}
 use Rattle.bodies.proofs.Steps.{both-next}
 
 -- where a body ends, and the expression in it
@@ -71,12 +73,12 @@ pub few-parameters :
 few-parameters {file} {f = f} small more h is = omega (arith, parameters-many file h is, small .parameters-limit f more)
 
 -- the bodies from number f on; the place behind them is left out
-abbrev pub bodiesFrom : List ℕ → List ℕ → List ℕ → ℕ → Step
+abbrev pub bodiesFrom : List ℕ → List ℕ → List ℕ → ℕ → Judged
 bodiesFrom file types functions f =
-    bodiesStep (stepOf (functionsOf (declared file types functions) (map (headAt file) (drop f functions)) file 0))
+    bodiesOf (stepOf (functionsOf (declared file types functions) (map (headAt file) (drop f functions)) file 0))
 
 -- no body is read from the place behind the one before
-anywhere : (d : Declarations) (s : List ℕ) (hs : List Head) (i j : ℕ) → bodiesStep (stepOf (functionsOf d hs s i)) ≡ bodiesStep (stepOf (functionsOf d hs s j))
+anywhere : (d : Declarations) (s : List ℕ) (hs : List Head) (i j : ℕ) → bodiesOf (stepOf (functionsOf d hs s i)) ≡ bodiesOf (stepOf (functionsOf d hs s j))
 unfolding functionsOf
 anywhere d s [] i j = refl
 anywhere d s (h ∷ hs) i j = refl
@@ -98,16 +100,16 @@ module _ (file types functions : List ℕ) (f : ℕ) where
     body-next {next} e =
         rw (add-one, drop-cons functions f 0 more)
         (anywhere d file others 0 next
-        ∙ ap bodiesStep
+        ∙ ap bodiesOf
         (sym
         (both-next {C = List Function} (λ s here. bodyOf d first s) (functionsOf d others)
         (λ x fs. record { parameters = first .parameters; result = first .result; body = x } ∷ fs)
         file 0 (sym told ∙ e))))
 
-    pub body-stops : {why : Refusal} → step ≡ Refused why → bodiesStep step ≡ bodiesFrom file types functions f
+    pub body-stops : {why : Refusal} → step ≡ Refused why → Judged.Refused why ≡ bodiesFrom file types functions f
     unfolding functionsOf
-    body-stops e = rw (e, drop-cons functions f 0 more, step-refused (bodyOf d first file) (sym told ∙ e))
+    body-stops e = rw (drop-cons functions f 0 more, step-refused (bodyOf d first file) (sym told ∙ e))
 
-  pub bodies-done : length functions ≤ f → Next 0 ≡ bodiesFrom file types functions f
+  pub bodies-done : length functions ≤ f → Judged.Fit ≡ bodiesFrom file types functions f
   unfolding functionsOf
   bodies-done h = rw (drop-of-length-le functions h)

@@ -17,6 +17,8 @@ use Rattle.reach.specs.Places.{bytesAt, typeAt, headAt, declarationsAt}
 use Rattle.records.specs.declared.Step.{Step}
 use Rattle.records.specs.declared.Step.the-variants.{Next, Refused}
 use Rattle.bodies.specs.declared.View.{View}
+use Rattle.bodies.specs.declared.Judged.{Judged}
+use Rattle.bodies.specs.declared.Judged.the-variants as Judged
 
 -- the types of the variables in view
 abbrev pub viewOf : View → List ℕ
@@ -98,6 +100,6 @@ module _ (file types functions : List ℕ) where
   functionsAt = functionsOf declared (map (headAt file) functions) file 0
 
 -- whether all was read, the place apart
-abbrev pub bodiesStep : Step → Step
-bodiesStep (Next next) = Next 0
-bodiesStep (Refused why) = Refused why
+abbrev pub bodiesOf : Step → Judged
+bodiesOf (Next next) = Judged.Fit
+bodiesOf (Refused why) = Judged.Refused why

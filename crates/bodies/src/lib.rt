@@ -7,7 +7,7 @@ ghost use Prim.Native.Nat.{_+_, _≤_, _<_};
 ghost use lib.ListN.{length, getD, getElem?};
 ghost use Rattle.reach.specs.Places.{bytesAt, constructorsAt};
 ghost use Rattle.records.specs.Steps.{stepOf};
-ghost use Rattle.bodies.specs.Check.{viewOf, Limits, Small, Narrow, variableAt, callAt, constructAt, caseAt, letAt, targetAt, expressionAt, operandsAt, alternativeAt, alternativesAt, BodyThere, bodyAt, BodiesThere, functionsAt, bodiesStep};
+ghost use Rattle.bodies.specs.Check.{viewOf, Limits, Small, Narrow, variableAt, callAt, constructAt, caseAt, letAt, targetAt, expressionAt, operandsAt, alternativeAt, alternativesAt, BodyThere, bodyAt, BodiesThere, functionsAt, bodiesOf};
 use lookups::Fields;
 use lookups::constructors_of;
 use lookups::fields_of;
@@ -27,6 +27,12 @@ const NESTING_LIMIT: usize = 32;
 pub struct View {
     pub types: [u8; 40],
     pub count: usize,
+}
+
+// The answer of the third pass: every body fits, or why the first that does not is refused.
+pub enum Judged {
+    Fit,
+    Refused(Refusal),
 }
 
 // The view with one more variable.
@@ -113,7 +119,7 @@ fn expression<'a>(
         1 => call(file, body, types, functions, next, left, view, expected),
         2 => construct(file, body, types, functions, next, left, view, expected),
         3 => case(file, body, types, functions, next, left, view, expected),
-        4 => bind(file, body, types, functions, next, left, view, expected),
+        4 => let_expression(file, body, types, functions, next, left, view, expected),
         5 => target(file, body, types, functions, next, left, view, expected),
         _ => Step::Refused(Refusal::UnknownCode),
     }
@@ -247,7 +253,7 @@ fn case<'a>(
 }
 
 // A let: the type's number, the bound expression, and the body, which sees one more variable.
-fn bind<'a>(
+fn let_expression<'a>(
     file: &'a [u8],
     body: &'a [u8],
     types: &'a [u16],
@@ -461,17 +467,16 @@ fn body_of<'a>(file: &'a [u8], types: &'a [u16], functions: &'a [u16], f: usize)
 }
 
 // All bodies, in file order.
-pub fn bodies<'a>(file: &'a [u8], types: &'a [u16], functions: &'a [u16]) -> Step
+pub fn bodies<'a>(file: &'a [u8], types: &'a [u16], functions: &'a [u16]) -> Judged
     requires { ⌜ Small (now file) (now types) (now functions) × BodiesThere (now file) (now functions) ⌝ }
-    ensures { λ r. ⌜ bodiesStep r ≡ bodiesStep (stepOf (functionsAt (now (file .entry)) (now (types .entry)) (now (functions .entry)))) ⌝ }
+    ensures { λ r. ⌜ r ≡ bodiesOf (stepOf (functionsAt (now (file .entry)) (now (types .entry)) (now (functions .entry)))) ⌝ }
 {
     let mut f: usize = 0;
     while f < functions.len() {
-        let step = body_of(file, types, functions, f);
-        let Step::Next(_) = step else {
-            return step;
-        };
+        if let Step::Refused(why) = body_of(file, types, functions, f) {
+            return Judged::Refused(why);
+        }
         f += 1;
     }
-    Step::Next(0)
+    Judged::Fit
 }

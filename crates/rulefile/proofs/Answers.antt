@@ -14,12 +14,13 @@ use Rattle.reach.specs.Types.{leastDepths}
 use Rattle.reach.specs.RuleFile.{Outline, outline, numbersExist, programOf, noEmptyType, deepEnough}
 use Rattle.reach.specs.Places.{typeAt, goalAt, declarationsAt, outlineAt}
 use Rattle.reach.specs.Answers.{turnedBack, check}
-use Rattle.records.specs.declared.Step.{Step}
-use Rattle.records.specs.declared.Step.the-variants.{Next, Refused}
+use Rattle.records.specs.declared.Step.the-variants.{Next}
 use Rattle.records.specs.Steps.{stepOf}
 use Rattle.outline.specs.declared.Outlined.{Outlined}
 use Rattle.outline.specs.Tables.{outlinedOf, InLimits}
-use Rattle.bodies.specs.Check.{functionsAt, bodiesStep}
+use Rattle.bodies.specs.declared.Judged.{Judged}
+use Rattle.bodies.specs.declared.Judged.the-variants as Judged
+use Rattle.bodies.specs.Check.{functionsAt, bodiesOf}
 use Rattle.depths.specs.Table.{padded}
 use Rattle.depths.proofs.Rounds.{least-front}
 use Rattle.rulefile.specs.declared.Checked.{Checked}
@@ -82,14 +83,14 @@ module _ (s : List ℕ) (o : Outlined) where
     exist : not r ≡ false → numbersExist whole ≡ true
     exist e = sym tested ∙ not-false r e
 
-    module _ (passed : not r ≡ false) {b : Step} (told : bodiesStep b ≡ bodiesStep (stepOf (functionsAt s (typesIn o) (functionsIn o)))) where
-      pub body-refused : {why : Refusal} → b ≡ Refused why → check s ≡ turnedBack why
+    module _ (passed : not r ≡ false) {b : Judged} (told : b ≡ bodiesOf (stepOf (functionsAt s (typesIn o) (functionsIn o)))) where
+      pub body-refused : {why : Refusal} → b ≡ Judged.Refused why → check s ≡ turnedBack why
       unfolding outlineAt
       body-refused e =
           bodies-refused s (out .size) (out .read) (exist passed)
           (Passes.bodies-refused s (typesIn o) (functionsIn o) (out .behind) told e)
 
-      pub bodies-passed : {n : ℕ} → b ≡ Next n → Reads s o
+      pub bodies-passed : b ≡ Judged.Fit → Reads s o
       bodies-passed e =
           let (fs, end, read) = Passes.bodies-got s (typesIn o) (functionsIn o) (out .behind) told e in
           record {

@@ -14,11 +14,11 @@ use Rattle.reach.specs.Base.{Each}
 use Rattle.reach.proofs.Base.{clash, nth-member, each-member}
 use Rattle.reach.proofs.Limits.{IfFound, ConstructorKept, TypeKept, HeadKept, OutlineKept, outline-kept}
 use Rattle.reach.proofs.Encoding.{BodyInside, outline-inside}
-use Rattle.records.specs.declared.Step.{Step}
-use Rattle.records.specs.declared.Step.the-variants.{Next, Refused}
 use Rattle.records.specs.Steps.{stepOf}
 use Rattle.lookups.proofs.Tables.{found}
-use Rattle.bodies.specs.Check.{Small, BodiesThere, functionsAt, bodiesStep}
+use Rattle.bodies.specs.declared.Judged.{Judged}
+use Rattle.bodies.specs.declared.Judged.the-variants as Judged
+use Rattle.bodies.specs.Check.{Small, BodiesThere, functionsAt, bodiesOf}
 
 -- ---- the tables keep to the limits, and the bodies end inside the file
 
@@ -63,11 +63,11 @@ module _ (d : Declarations) (s : List ℕ) (i j : ℕ) where
   got-anywhere (h ∷ hs) {m = m} e = (m, e)
 
 -- what the answer of the third pass tells
-step-got : {A : Type 0} (g : Got A) {r : Step} {n : ℕ} → bodiesStep r ≡ bodiesStep (stepOf g) → r ≡ Next n → (a : A) × (m : ℕ) × (g ≡ got a m)
+step-got : {A : Type 0} (g : Got A) {r : Judged} → r ≡ bodiesOf (stepOf g) → r ≡ Judged.Fit → (a : A) × (m : ℕ) × (g ≡ got a m)
 step-got (got a m) told e = (a, m, refl)
 step-got (refused why) told e = absurd (clash (let z = rw e at told in cc))
 
-step-refused : {A : Type 0} (g : Got A) {r : Step} {why : Refusal} → bodiesStep r ≡ bodiesStep (stepOf g) → r ≡ Refused why → g ≡ refused why
+step-refused : {A : Type 0} (g : Got A) {r : Judged} {why : Refusal} → r ≡ bodiesOf (stepOf g) → r ≡ Judged.Refused why → g ≡ refused why
 step-refused (got a m) told e = absurd (clash (let z = rw e at told in cc))
 step-refused (refused w) told e = let z = rw e at told in cc
 
@@ -75,15 +75,15 @@ module _ (s types functions : List ℕ) (i : ℕ) where
   abbrev bodiesRead : Got (List Function)
   bodiesRead = functionsOf (declarationsAt s types functions) ((declarationsAt s types functions) .heads) s i
 
-  module _ {r : Step} (told : bodiesStep r ≡ bodiesStep (stepOf (functionsAt s types functions))) where
-    pub bodies-got : {n : ℕ} → r ≡ Next n → (fs : List Function) × (m : ℕ) × (bodiesRead ≡ got fs m)
+  module _ {r : Judged} (told : r ≡ bodiesOf (stepOf (functionsAt s types functions))) where
+    pub bodies-got : r ≡ Judged.Fit → (fs : List Function) × (m : ℕ) × (bodiesRead ≡ got fs m)
     unfolding declarationsAt
     bodies-got e =
         let all = step-got (functionsAt s types functions) told e in
         let here = got-anywhere (declarationsAt s types functions) s 0 i (map (headAt s) functions) (all .2) in
         (all .0, here .0, here .1)
 
-    pub bodies-refused : {why : Refusal} → r ≡ Refused why → bodiesRead ≡ refused why
+    pub bodies-refused : {why : Refusal} → r ≡ Judged.Refused why → bodiesRead ≡ refused why
     unfolding declarationsAt
     bodies-refused e =
         refused-anywhere (declarationsAt s types functions) s 0 i (map (headAt s) functions) (step-refused (functionsAt s types functions) told e)

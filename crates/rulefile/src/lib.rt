@@ -8,6 +8,7 @@ ghost use lib.ListN.{getD};
 ghost use Rattle.reach.specs.Places.{goalAt};
 ghost use Rattle.rulefile.specs.Answering.{Promised};
 ghost use Rattle.rulefile.specs.Loading.{goalOf, Outlines, Reads, Loads, sourceShallow};
+use bodies::Judged;
 use bodies::bodies;
 use depths::Depths;
 use depths::all_shallow;
@@ -153,8 +154,8 @@ fn with_outline(file: &[u8], o: Outlined) -> Loaded
         return turned_back(Refusal::UnknownNumber);
     }
     match bodies(file, &type_at[..types], &function_at[..functions]) {
-        Step::Next(_) => with_depths(file, o),
-        Step::Refused(why) => turned_back(why),
+        Judged::Fit => with_depths(file, o),
+        Judged::Refused(why) => turned_back(why),
     }
 }
 

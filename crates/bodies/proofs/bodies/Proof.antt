@@ -25,8 +25,8 @@ body-of-requires c κs =
 
 returns : tie.Need-returns Inv-loop μ-loop
 returns c =
-    let k = c .before .before in
-    body-stops _ _ _ _ (k .before .loop-test .taken) (k .body-of .ensures) (c .enum-told2 .given .1) ∙ k .before .before .loop .inv
+    let k = c .before .before .before in
+    body-stops _ _ _ _ (k .before .loop-test .taken) (k .body-of .ensures) (c .before .why .given .1) ∙ k .before .before .loop .inv
 
 loop-again : tie.Need-loop-again Inv-loop μ-loop
 loop-again c =
@@ -45,8 +45,8 @@ bodies-spec =
     loop-holds
     body-of-requires
     (λ c. search needs)
-    (λ c. search needs)
     returns
+    (λ c. search needs)
     (λ c. search needs)
     (λ c. search needs)
     loop-again

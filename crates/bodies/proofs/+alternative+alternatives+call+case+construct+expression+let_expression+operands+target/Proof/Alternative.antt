@@ -6,8 +6,8 @@ use borrow.Author.Needs.{needs}
 use Rattle.marks.proofs.Answers.{byte-got, byte-short}
 use Rattle.bodies.proofs.Sequences.{alternative-short, alternative-unknown, alternative-none, alternative-goes}
 use Rattle.bodies.proofs.alternative.Reads as reads
-use Rattle.bodies.proofs.+alternative+alternatives+bind+call+case+construct+expression+operands+target.Lts-alternative as lts
-use Rattle.bodies.proofs.+alternative+alternatives+bind+call+case+construct+expression+operands+target.Proof.Claims.{alternative-at, alternative-claims}
+use Rattle.bodies.proofs.+alternative+alternatives+call+case+construct+expression+let_expression+operands+target.Lts-alternative as lts
+use Rattle.bodies.proofs.+alternative+alternatives+call+case+construct+expression+let_expression+operands+target.Proof.Claims.{alternative-at, alternative-claims}
 
 module _ (t : ℕ) where
   returns : lts.Need-returns (alternative-claims t) (alternative-at t) reads.Post

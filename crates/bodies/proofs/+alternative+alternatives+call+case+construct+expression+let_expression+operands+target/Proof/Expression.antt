@@ -6,8 +6,8 @@ use borrow.Author.Needs.{needs}
 use Rattle.marks.proofs.Answers.{byte-got, byte-short}
 use Rattle.bodies.proofs.Expressions.{expression-short, expression-variable, expression-call, expression-construct, expression-case, expression-let, expression-target, expression-unknown}
 use Rattle.bodies.proofs.expression.Reads as reads
-use Rattle.bodies.proofs.+alternative+alternatives+bind+call+case+construct+expression+operands+target.Lts-expression as lts
-use Rattle.bodies.proofs.+alternative+alternatives+bind+call+case+construct+expression+operands+target.Proof.Claims.{expression-at, expression-claims}
+use Rattle.bodies.proofs.+alternative+alternatives+call+case+construct+expression+let_expression+operands+target.Lts-expression as lts
+use Rattle.bodies.proofs.+alternative+alternatives+call+case+construct+expression+let_expression+operands+target.Proof.Claims.{expression-at, expression-claims}
 
 module _ (t : ℕ) where
   returns : lts.Need-returns (expression-claims t) (expression-at t) reads.Post
@@ -53,7 +53,7 @@ module _ (t : ℕ) where
       expression-let _ _ _ _ _ _ _ _
       (byte-got _ _ (k .before .before .take-byte .ensures) (k .code .given .1))
       (c .before .match2 .keys5)
-      (c .bind .ensures)
+      (c .let-expression .ensures)
 
   returns-7 : lts.Need-returns-7 (expression-claims t) (expression-at t) reads.Post
   returns-7 c =

@@ -8,8 +8,8 @@ use Rattle.lookups.proofs.Tables.{near-at}
 use Rattle.bodies.proofs.Views.{limits-nested}
 use Rattle.bodies.proofs.Expressions.{construct-short, construct-short-2, construct-unknown, construct-over, construct-mismatch, construct-goes}
 use Rattle.bodies.proofs.construct.Reads as reads
-use Rattle.bodies.proofs.+alternative+alternatives+bind+call+case+construct+expression+operands+target.Lts-construct as lts
-use Rattle.bodies.proofs.+alternative+alternatives+bind+call+case+construct+expression+operands+target.Proof.Claims.{construct-at, construct-claims}
+use Rattle.bodies.proofs.+alternative+alternatives+call+case+construct+expression+let_expression+operands+target.Lts-construct as lts
+use Rattle.bodies.proofs.+alternative+alternatives+call+case+construct+expression+let_expression+operands+target.Proof.Claims.{construct-at, construct-claims}
 
 module _ (t : ℕ) where
   returns : lts.Need-returns (construct-claims t) (construct-at t) reads.Post

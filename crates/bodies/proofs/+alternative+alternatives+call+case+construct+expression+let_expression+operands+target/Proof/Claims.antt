@@ -6,31 +6,31 @@ use borrow.Fn.Kinds.{In}
 use borrow.Fn.PlainCycle.{Measures, is, falls, and}
 use Rattle.bodies.proofs.alternative.Reads as alternative
 use Rattle.bodies.proofs.alternative.Kinds as alternative-kinds
-use Rattle.bodies.proofs.+alternative+alternatives+bind+call+case+construct+expression+operands+target.Lts-alternative as alternative-lts
+use Rattle.bodies.proofs.+alternative+alternatives+call+case+construct+expression+let_expression+operands+target.Lts-alternative as alternative-lts
 use Rattle.bodies.proofs.alternatives.Reads as alternatives
 use Rattle.bodies.proofs.alternatives.Kinds as alternatives-kinds
-use Rattle.bodies.proofs.+alternative+alternatives+bind+call+case+construct+expression+operands+target.Lts-alternatives as alternatives-lts
-use Rattle.bodies.proofs.bind.Reads as bind
-use Rattle.bodies.proofs.bind.Kinds as bind-kinds
-use Rattle.bodies.proofs.+alternative+alternatives+bind+call+case+construct+expression+operands+target.Lts-bind as bind-lts
+use Rattle.bodies.proofs.+alternative+alternatives+call+case+construct+expression+let_expression+operands+target.Lts-alternatives as alternatives-lts
+use Rattle.bodies.proofs.let_expression.Reads as let-expression
+use Rattle.bodies.proofs.let_expression.Kinds as let-expression-kinds
+use Rattle.bodies.proofs.+alternative+alternatives+call+case+construct+expression+let_expression+operands+target.Lts-let_expression as let-expression-lts
 use Rattle.bodies.proofs.call.Reads as call
 use Rattle.bodies.proofs.call.Kinds as call-kinds
-use Rattle.bodies.proofs.+alternative+alternatives+bind+call+case+construct+expression+operands+target.Lts-call as call-lts
+use Rattle.bodies.proofs.+alternative+alternatives+call+case+construct+expression+let_expression+operands+target.Lts-call as call-lts
 use Rattle.bodies.proofs.case.Reads as case
 use Rattle.bodies.proofs.case.Kinds as case-kinds
-use Rattle.bodies.proofs.+alternative+alternatives+bind+call+case+construct+expression+operands+target.Lts-case as case-lts
+use Rattle.bodies.proofs.+alternative+alternatives+call+case+construct+expression+let_expression+operands+target.Lts-case as case-lts
 use Rattle.bodies.proofs.construct.Reads as construct
 use Rattle.bodies.proofs.construct.Kinds as construct-kinds
-use Rattle.bodies.proofs.+alternative+alternatives+bind+call+case+construct+expression+operands+target.Lts-construct as construct-lts
+use Rattle.bodies.proofs.+alternative+alternatives+call+case+construct+expression+let_expression+operands+target.Lts-construct as construct-lts
 use Rattle.bodies.proofs.expression.Reads as expression
 use Rattle.bodies.proofs.expression.Kinds as expression-kinds
-use Rattle.bodies.proofs.+alternative+alternatives+bind+call+case+construct+expression+operands+target.Lts-expression as expression-lts
+use Rattle.bodies.proofs.+alternative+alternatives+call+case+construct+expression+let_expression+operands+target.Lts-expression as expression-lts
 use Rattle.bodies.proofs.operands.Reads as operands
 use Rattle.bodies.proofs.operands.Kinds as operands-kinds
-use Rattle.bodies.proofs.+alternative+alternatives+bind+call+case+construct+expression+operands+target.Lts-operands as operands-lts
+use Rattle.bodies.proofs.+alternative+alternatives+call+case+construct+expression+let_expression+operands+target.Lts-operands as operands-lts
 use Rattle.bodies.proofs.target.Reads as target
 use Rattle.bodies.proofs.target.Kinds as target-kinds
-use Rattle.bodies.proofs.+alternative+alternatives+bind+call+case+construct+expression+operands+target.Lts-target as target-lts
+use Rattle.bodies.proofs.+alternative+alternatives+call+case+construct+expression+let_expression+operands+target.Lts-target as target-lts
 use Rattle.bodies.proofs.extended.Reads as extended-reads
 use Rattle.lookups.proofs.fields_of.Reads as fields-of-reads
 use Rattle.bodies.proofs.in_limits.Reads as in-limits-reads
@@ -48,8 +48,8 @@ abbrev pub μ-alternative : Measures 1 alternative-kinds.ps ℕ
 abbrev pub μ-alternatives : Measures 1 alternatives-kinds.ps ℕ
 μ-alternatives κs a = 4 * a .1 .1 .1 .1 .1 .0 + 4
 
-abbrev pub μ-bind : Measures 1 bind-kinds.ps ℕ
-μ-bind κs a = 4 * a .1 .1 .1 .1 .1 .0 + 1
+abbrev pub μ-let-expression : Measures 1 let-expression-kinds.ps ℕ
+μ-let-expression κs a = 4 * a .1 .1 .1 .1 .1 .0 + 1
 
 abbrev pub μ-call : Measures 1 call-kinds.ps ℕ
 μ-call κs a = 4 * a .1 .1 .1 .1 .1 .0 + 1
@@ -81,11 +81,11 @@ alternatives-at t = and 1 alternatives-kinds.ps (is 1 alternatives-kinds.ps μ-a
 abbrev pub alternatives-below : ℕ → In 1 alternatives-kinds.ps
 alternatives-below t = and 1 alternatives-kinds.ps (falls 1 alternatives-kinds.ps _<_ μ-alternatives t) alternatives.Pre
 
-abbrev pub bind-at : ℕ → In 1 bind-kinds.ps
-bind-at t = and 1 bind-kinds.ps (is 1 bind-kinds.ps μ-bind t) bind.Pre
+abbrev pub let-expression-at : ℕ → In 1 let-expression-kinds.ps
+let-expression-at t = and 1 let-expression-kinds.ps (is 1 let-expression-kinds.ps μ-let-expression t) let-expression.Pre
 
-abbrev pub bind-below : ℕ → In 1 bind-kinds.ps
-bind-below t = and 1 bind-kinds.ps (falls 1 bind-kinds.ps _<_ μ-bind t) bind.Pre
+abbrev pub let-expression-below : ℕ → In 1 let-expression-kinds.ps
+let-expression-below t = and 1 let-expression-kinds.ps (falls 1 let-expression-kinds.ps _<_ μ-let-expression t) let-expression.Pre
 
 abbrev pub call-at : ℕ → In 1 call-kinds.ps
 call-at t = and 1 call-kinds.ps (is 1 call-kinds.ps μ-call t) call.Pre
@@ -141,8 +141,8 @@ alternatives-claims t = (
   alternative.Post,
 )
 
-abbrev pub bind-claims : ℕ → bind-lts.Claims
-bind-claims t = (
+abbrev pub let-expression-claims : ℕ → let-expression-lts.Claims
+let-expression-claims t = (
   take-byte-reads.Asked,
   take-byte-reads.Learnt,
   wide-reads.Asked,
@@ -211,8 +211,8 @@ expression-claims t = (
   construct.Post,
   case-below t,
   case.Post,
-  bind-below t,
-  bind.Post,
+  let-expression-below t,
+  let-expression.Post,
   target-below t,
   target.Post,
 )

@@ -1,56 +1,57 @@
--- `bodies::bind` meets its contract: a type's number, the limits, the bound expression, and the body, which sees one more variable.
--- Rests on Views and Expressions, and on the answers of crate marks.
+-- `bodies::case` meets its contract: a type's number, the limits, the subject, and an alternative or none for each constructor of the type.
+-- Rests on Tables, Views and Expressions, and on the answers of crate marks.
 use Prim.Native.Nat.{ℕ}
 use native.Mathlib.Omega.{arith}
 use borrow.Author.Needs.{needs}
 use Rattle.marks.proofs.Answers.{byte-got, byte-short}
+use Rattle.bodies.proofs.Tables.{narrow-type}
 use Rattle.bodies.proofs.Views.{limits-nested, limits-view}
-use Rattle.bodies.proofs.Expressions.{let-short, let-unknown, let-over, let-refused, let-goes}
-use Rattle.bodies.proofs.bind.Reads as reads
-use Rattle.bodies.proofs.+alternative+alternatives+bind+call+case+construct+expression+operands+target.Lts-bind as lts
-use Rattle.bodies.proofs.+alternative+alternatives+bind+call+case+construct+expression+operands+target.Proof.Claims.{bind-at, bind-claims}
+use Rattle.bodies.proofs.Expressions.{case-short, case-unknown, case-over, case-refused, case-goes}
+use Rattle.bodies.proofs.case.Reads as reads
+use Rattle.bodies.proofs.+alternative+alternatives+call+case+construct+expression+let_expression+operands+target.Lts-case as lts
+use Rattle.bodies.proofs.+alternative+alternatives+call+case+construct+expression+let_expression+operands+target.Proof.Claims.{case-at, case-claims}
 
 module _ (t : ℕ) where
-  returns : lts.Need-returns (bind-claims t) (bind-at t) reads.Post
+  returns : lts.Need-returns (case-claims t) (case-at t) reads.Post
   returns c =
       let start = c .before .before .before .before .before .before .before in
       let a = start .args in
-      let-short _ _ _ (a .left) (a .view) _ _ _
+      case-short _ _ _ (a .left) (a .view) _ _ _
       (byte-short _ _ (c .before .before .take-byte .ensures) (c .enum-told .given .1))
 
-  returns-2 : lts.Need-returns-2 (bind-claims t) (bind-at t) reads.Post
+  returns-2 : lts.Need-returns-2 (case-claims t) (case-at t) reads.Post
   returns-2 c =
       let k = c .before .before .before in
       let start = k .before .before .before .before .before .before .before in
       let a = start .args in
-      let-unknown _ _ _ (a .left) (a .view) _ _ _
+      case-unknown _ _ _ (a .left) (a .view) _ _ _
       (byte-got _ _ (k .before .before .take-byte .ensures) (k .number .given .1))
       (c .before .wide .ensures)
       (c .if1 .taken)
 
-  returns-3 : lts.Need-returns-3 (bind-claims t) (bind-at t) reads.Post
+  returns-3 : lts.Need-returns-3 (case-claims t) (case-at t) reads.Post
   returns-3 c =
       let k = c .before .before .before in
       let k₁ = k .before .before .before .before in
-      let-over _ _ _ _ _ _ _ _
+      case-over _ _ _ _ _ _ _ _
       (byte-got _ _ (k₁ .take-byte .ensures) (k .before .before .number .given .1))
       (k .wide .ensures)
       (c .before .before .if1 .left)
       (c .before .in-limits .ensures)
       (c .if2 .taken)
 
-  sub-expression : lts.Need-sub-expression (bind-claims t) (bind-at t) reads.Post
+  sub-expression : lts.Need-sub-expression (case-claims t) (case-at t) reads.Post
   sub-expression c = limits-nested (c .before .in-limits .ensures) (c .if2 .left)
 
-  expression-requires : lts.Need-expression-requires (bind-claims t) (bind-at t) reads.Post
+  expression-requires : lts.Need-expression-requires (case-claims t) (case-at t) reads.Post
   expression-requires c κs = let h = limits-nested (c .before .in-limits .ensures) (c .if2 .left) in search needs
 
-  returns-4 : lts.Need-returns-4 (bind-claims t) (bind-at t) reads.Post
+  returns-4 : lts.Need-returns-4 (case-claims t) (case-at t) reads.Post
   returns-4 c =
       let k = c .before .before .before in
       let k₁ = k .before .before .before in
       let k₂ = k₁ .before .before .before .before in
-      let-refused _ _ _ _ _ _ _ _
+      case-refused _ _ _ _ _ _ _ _
       (byte-got _ _ (k₂ .take-byte .ensures) (k₁ .before .before .number .given .1))
       (k₁ .wide .ensures)
       (k .before .before .if1 .left)
@@ -59,26 +60,29 @@ module _ (t : ℕ) where
       (c .before .before .expression .ensures)
       (c .enum-told2 .given .1)
 
-  sub-expression-2 : lts.Need-sub-expression-2 (bind-claims t) (bind-at t) reads.Post
-  sub-expression-2 c =
-      let k = c .before .before .before .before in
+  sub-alternatives : lts.Need-sub-alternatives (case-claims t) (case-at t) reads.Post
+  sub-alternatives c =
+      let k = c .before .before .before .before .before in
       limits-nested (k .before .in-limits .ensures) (k .if2 .left)
 
-  expression-requires-2 : lts.Need-expression-requires-2 (bind-claims t) (bind-at t) reads.Post
-  expression-requires-2 c κs =
+  alternatives-requires : lts.Need-alternatives-requires (case-claims t) (case-at t) reads.Post
+  alternatives-requires c κs =
       let k = c .before .before .before .before .before in
-      let start = k .before .before .before .before .before .before .before .before .before .before .before .before in
+      let k₁ = k .before .before .before in
+      let start = k₁ .before .before .before .before .before .before .before .before .before in
       let h = limits-nested (k .before .in-limits .ensures) (k .if2 .left) in
       let v = limits-view (k .before .in-limits .ensures) (k .if2 .left) in
-      (omega arith, (start .pre .1 .0, omega arith))
+      let small = start .pre .1 .0 in
+      let near = c .constructors-of .ensures .1 in
+      (omega arith, (small, v, omega arith, omega arith, narrow-type (c .constructors-of .result) small (k .before .before .if1 .left) (c .constructors-of .ensures .0)))
 
-  returns-5 : lts.Need-returns-5 (bind-claims t) (bind-at t) reads.Post
+  returns-5 : lts.Need-returns-5 (case-claims t) (case-at t) reads.Post
   returns-5 c =
       let k = c .before .before .before in
       let k₁ = k .before .before .before in
       let k₂ = k₁ .before .before .before in
       let k₃ = k₂ .before .before .before .before in
-      let-goes _ _ _ _ _ _ _ _
+      case-goes _ _ _ _ _ _ _ _
       (byte-got _ _ (k₃ .take-byte .ensures) (k₂ .before .before .number .given .1))
       (k₂ .wide .ensures)
       (k₁ .before .before .if1 .left)
@@ -86,15 +90,15 @@ module _ (t : ℕ) where
       (k₁ .if2 .left)
       (k .before .before .expression .ensures)
       (k .step .given .1)
-      (c .before .with-one .result)
-      (c .before .with-one .ensures .0)
-      (c .expression2 .ensures)
+      (c .before .constructors-of .result)
+      (c .before .constructors-of .ensures .0)
+      (c .alternatives .ensures)
 
-pub bind-spec : {M : Type 1} (t : ℕ) → lts.Closed (bind-claims t) (bind-at t) reads.Post M
-bind-spec t =
+pub case-spec : {M : Type 1} (t : ℕ) → lts.Closed (case-claims t) (case-at t) reads.Post M
+case-spec t =
     lts.spec
-    (bind-claims t)
-    (bind-at t)
+    (case-claims t)
+    (case-at t)
     reads.Post
     (λ c κs. search needs)
     (λ c. search needs)
@@ -109,7 +113,7 @@ bind-spec t =
     (λ c. search needs)
     (λ c. search needs)
     (returns-4 t)
-    (sub-expression-2 t)
-    (λ c κs. omega arith)
-    (expression-requires-2 t)
+    (λ c κs. search needs)
+    (sub-alternatives t)
+    (alternatives-requires t)
     (returns-5 t)

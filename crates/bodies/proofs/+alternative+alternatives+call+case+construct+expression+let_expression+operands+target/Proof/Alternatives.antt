@@ -11,8 +11,8 @@ use Rattle.bodies.specs.Check.{viewOf, Narrow, alternativesAt}
 use Rattle.bodies.proofs.Tables.{narrow-first, narrow-rest}
 use Rattle.bodies.proofs.Sequences.{alternative-next, alternative-refused, alternatives-done}
 use Rattle.bodies.proofs.alternatives.Reads as reads
-use Rattle.bodies.proofs.+alternative+alternatives+bind+call+case+construct+expression+operands+target.Lts-alternatives as lts
-use Rattle.bodies.proofs.+alternative+alternatives+bind+call+case+construct+expression+operands+target.Proof.Claims.{alternatives-at, alternatives-claims}
+use Rattle.bodies.proofs.+alternative+alternatives+call+case+construct+expression+let_expression+operands+target.Lts-alternatives as lts
+use Rattle.bodies.proofs.+alternative+alternatives+call+case+construct+expression+let_expression+operands+target.Proof.Claims.{alternatives-at, alternatives-claims}
 
 abbrev Inv-loop : lts.InvT-loop
 Inv-loop file body types functions at left view constructors n expected place₀ constructor₀ more₀ place constructor more =

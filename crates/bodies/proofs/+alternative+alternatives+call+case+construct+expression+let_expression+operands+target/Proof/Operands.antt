@@ -10,8 +10,8 @@ use Rattle.records.specs.Steps.{stepOf}
 use Rattle.bodies.specs.Check.{viewOf, operandsAt}
 use Rattle.bodies.proofs.Sequences.{operand-next, operand-refused, operands-done}
 use Rattle.bodies.proofs.operands.Reads as reads
-use Rattle.bodies.proofs.+alternative+alternatives+bind+call+case+construct+expression+operands+target.Lts-operands as lts
-use Rattle.bodies.proofs.+alternative+alternatives+bind+call+case+construct+expression+operands+target.Proof.Claims.{operands-at, operands-claims}
+use Rattle.bodies.proofs.+alternative+alternatives+call+case+construct+expression+let_expression+operands+target.Lts-operands as lts
+use Rattle.bodies.proofs.+alternative+alternatives+call+case+construct+expression+let_expression+operands+target.Proof.Claims.{operands-at, operands-claims}
 
 abbrev Inv-loop : lts.InvT-loop
 Inv-loop file body types functions at left view first n place₀ t₀ more₀ place t more =

@@ -7,8 +7,8 @@ use Rattle.marks.proofs.Answers.{byte-got, byte-short}
 use Rattle.bodies.proofs.Views.{limits-nested}
 use Rattle.bodies.proofs.Expressions.{call-short, call-unknown, call-over, call-mismatch, call-goes}
 use Rattle.bodies.proofs.call.Reads as reads
-use Rattle.bodies.proofs.+alternative+alternatives+bind+call+case+construct+expression+operands+target.Lts-call as lts
-use Rattle.bodies.proofs.+alternative+alternatives+bind+call+case+construct+expression+operands+target.Proof.Claims.{call-at, call-claims}
+use Rattle.bodies.proofs.+alternative+alternatives+call+case+construct+expression+let_expression+operands+target.Lts-call as lts
+use Rattle.bodies.proofs.+alternative+alternatives+call+case+construct+expression+let_expression+operands+target.Proof.Claims.{call-at, call-claims}
 
 module _ (t : ℕ) where
   returns : lts.Need-returns (call-claims t) (call-at t) reads.Post

@@ -6,8 +6,8 @@ use Rattle.marks.proofs.Answers.{byte-got, byte-short}
 use Rattle.bodies.proofs.Views.{limits-nested}
 use Rattle.bodies.proofs.Expressions.{target-short, target-over, target-goes}
 use Rattle.bodies.proofs.target.Reads as reads
-use Rattle.bodies.proofs.+alternative+alternatives+bind+call+case+construct+expression+operands+target.Lts-target as lts
-use Rattle.bodies.proofs.+alternative+alternatives+bind+call+case+construct+expression+operands+target.Proof.Claims.{target-at, target-claims}
+use Rattle.bodies.proofs.+alternative+alternatives+call+case+construct+expression+let_expression+operands+target.Lts-target as lts
+use Rattle.bodies.proofs.+alternative+alternatives+call+case+construct+expression+let_expression+operands+target.Proof.Claims.{target-at, target-claims}
 
 module _ (t : ℕ) where
   returns : lts.Need-returns (target-claims t) (target-at t) reads.Post
