@@ -12,7 +12,7 @@ use native.Mathlib.Omega.{arith}
 use borrow.Author.Tests.{lt-ltb, le-ltb, lt-leb, eq-eqb, ne-eqb}
 use Rattle.reach.specs.declared.Refusal.{Refusal}
 use Rattle.reach.specs.declared.Refusal.the-variants.{Truncated, OutOfRange, UnknownNumber, UnknownCode, TypeMismatch}
-use Rattle.reach.specs.Syntax.{call, construct, case, bind, target}
+use Rattle.reach.specs.Syntax.{call, construct, case, letIn, target}
 use Rattle.reach.specs.Reader.{got, refused, _>>=_, give, byte}
 use Rattle.reach.specs.RuleFile as RuleFile
 use Rattle.reach.specs.RuleFile.{Below, operandsOf, alternatives, variableExpr, callOf, callExpr, constructOf, constructExpr, caseOf, caseExpr, letExpr, targetExpr, expressionBy}
@@ -235,7 +235,7 @@ module _ (file types functions : List ℕ) (left : ℕ) (view : View) (expected 
             ∙ rw (read, many, lt-ltb b (length types) (omega arith), limits-kept l kept, below-is _ left (limits-nested l kept))
             (sym
             (first-refused (inner (viewOf view) b)
-            (λ x. inner (viewOf view ++ (b ∷ [])) expected >>= λ y. give (bind b x y))
+            (λ x. inner (viewOf view ++ (b ∷ [])) expected >>= λ y. give (letIn b x y))
             s next (sym bound ∙ e)))
 
         pub let-goes : {behind : ℕ} → step ≡ Next behind → (wider : View) → viewOf wider ≡ viewOf view ++ (t ∷ [])
@@ -244,7 +244,7 @@ module _ (file types functions : List ℕ) (left : ℕ) (view : View) (expected 
         let-goes e wider w ends =
             ends
             ∙ rw (read, many, lt-ltb b (length types) (omega arith), limits-kept l kept, below-is _ left (limits-nested l kept), w, same)
-            (sym (both-next (inner (viewOf view) b) (inner (viewOf view ++ (b ∷ [])) expected) (bind b) s next (sym bound ∙ e)))
+            (sym (both-next (inner (viewOf view) b) (inner (viewOf view ++ (b ∷ [])) expected) (letIn b) s next (sym bound ∙ e)))
 
   -- A target: its byte is the label.
   pub target-short : byte s at ≡ refused Truncated → Refused Truncated ≡ targetStep

@@ -8,7 +8,7 @@ use mathlib.Core.Option.{some}
 use native.Mathlib.Omega.{arith}
 use lib.ListN.{length, getD, drop}
 use Rattle.reach.specs.Limits.{nestingLimit}
-use Rattle.reach.specs.Syntax.{Expr, variable, call, construct, case, bind, target, Exprs, []ₑ, _∷ₑ_, nthExpr, Alternatives, no-more, absent, present, Function}
+use Rattle.reach.specs.Syntax.{Expr, variable, call, construct, case, letIn, target, Exprs, []ₑ, _∷ₑ_, nthExpr, Alternatives, no-more, absent, present, Function}
 use Rattle.reach.specs.Reader.{byte}
 use Rattle.reach.specs.RuleFile.{Head, Declarations}
 use Rattle.reach.specs.Encoding.{encode, ByteAt, countAlternatives, nesting}
@@ -24,7 +24,7 @@ pub data Coded : ℕ → Expr → Type 0 where
   a-call : {f : ℕ} {es : Exprs} → Coded 1 (call f es)
   a-construct : {t c : ℕ} {es : Exprs} → Coded 2 (construct t c es)
   a-case : {t : ℕ} {e : Expr} {alts : Alternatives} → Coded 3 (case t e alts)
-  a-let : {t : ℕ} {e b : Expr} → Coded 4 (bind t e b)
+  a-let : {t : ℕ} {e b : Expr} → Coded 4 (letIn t e b)
   a-target : {l : ℕ} {e : Expr} → Coded 5 (target l e)
 
 pub coded-known : (k : ℕ) (e : Expr) → Coded k e → k ≤ 5
@@ -78,7 +78,7 @@ module _ (file : List ℕ) (o : Declarations) where
         (at .0, at .1, first, found-behind (λ k. CodeAlternatives file o k alts) (i + 2) e first rest)
 
     pub code-let :
-        (t : ℕ) (e b : Expr) → Code file o i (bind t e b)
+        (t : ℕ) (e b : Expr) → Code file o i (letIn t e b)
         → ByteAt file i 4 × ByteAt file (i + 1) t × Code file o (i + 2) e × ((next : ℕ) → Behind file o (i + 2) next → Code file o next b)
     unfolding nesting
     code-let t e b code =
@@ -99,7 +99,7 @@ module _ (file : List ℕ) (o : Declarations) where
     code-kind (call f es) code = let at = code-call f es code in (at .0 .0, rw (at .0 .1) a-call)
     code-kind (construct t c es) code = let at = code-construct t c es code in (at .0 .0, rw (at .0 .1) a-construct)
     code-kind (case t e alts) code = let at = code-case t e alts code in (at .0 .0, rw (at .0 .1) a-case)
-    code-kind (bind t e b) code = let at = code-let t e b code in (at .0 .0, rw (at .0 .1) a-let)
+    code-kind (letIn t e b) code = let at = code-let t e b code in (at .0 .0, rw (at .0 .1) a-let)
     code-kind (target l e) code = let at = code-target l e code in (at .0 .0, rw (at .0 .1) a-target)
 
     -- an expression is a row of one operand

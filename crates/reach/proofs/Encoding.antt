@@ -16,7 +16,7 @@ use Rattle.reach.specs.declared.Refusal.{Refusal}
 use Rattle.reach.specs.declared.Refusal.the-variants.{Truncated, UnexpectedMark, OutOfRange, TrailingBytes}
 use Rattle.reach.specs.Base.{pick, Each}
 use Rattle.reach.specs.Limits.{fileLimit, typeLimit, functionLimit, parameterLimit, bodyLimit, viewLimit, nestingLimit}
-use Rattle.reach.specs.Syntax.{Expr, variable, call, construct, case, bind, target, Exprs, []ₑ, _∷ₑ_, Alternatives, no-more, absent, present, count, Function, Program, fieldTypes, functionAt}
+use Rattle.reach.specs.Syntax.{Expr, variable, call, construct, case, letIn, target, Exprs, []ₑ, _∷ₑ_, Alternatives, no-more, absent, present, count, Function, Program, fieldTypes, functionAt}
 use Rattle.reach.specs.Reader.{Got, got, refused, onGot, Reader, refuse, demand, byte, word, times, passed, atEnd}
 use Rattle.reach.specs.RuleFile.{Mark, TY, FN, GO, other, onMark, mark, counted, typeRecord, Head, functionRecord, goalRecord, moreTypes, moreFunctions, Declarations, Outline, outline, Below, operandsOf, alternatives, variableExpr, callOf, callExpr, constructOf, constructExpr, caseOf, caseExpr, letExpr, targetExpr, expressionBy, expression, bodyOf, functionsOf, numbersExist, programOf, noEmptyType, deepEnough, sizeInLimit, ruleFile}
 use Rattle.reach.specs.Types.{leastDepths}
@@ -59,7 +59,7 @@ coded (variable n) = omega arith
 coded (call f es) = omega arith
 coded (construct t c es) = omega arith
 coded (case t e alts) = omega arith
-coded (bind t e b) = omega arith
+coded (letIn t e b) = omega arith
 coded (target l e) = omega arith
 
 -- where an expression stands, it ends inside the bytes
@@ -97,7 +97,7 @@ module _ (s : List ℕ) (i : ℕ) where
       (at .0, at .1, parts .0, parts .1)
 
   pub stands-let :
-      (t : ℕ) (e b : Expr) → Stands s i (bind t e b)
+      (t : ℕ) (e b : Expr) → Stands s i (letIn t e b)
       → ByteAt s i 4 × ByteAt s (i + 1) t × Stands s (i + 2) e × Stands s (i + 2 + length (encode e)) b
   unfolding encode
   stands-let t e b there =
@@ -539,7 +539,7 @@ module _ (d : Declarations) where
     unique (variable n) (call f′ es′) r r′ a a′ is = (cc, cc)
     unique (variable n) (construct t′ c′ es′) r r′ a a′ is = (cc, cc)
     unique (variable n) (case t′ e′ alts′) r r′ a a′ is = (cc, cc)
-    unique (variable n) (bind t′ e′ b′) r r′ a a′ is = (cc, cc)
+    unique (variable n) (letIn t′ e′ b′) r r′ a a′ is = (cc, cc)
     unique (variable n) (target l′ e′) r r′ a a′ is = (cc, cc)
     unique (call f es) (variable n′) r r′ a a′ is = (cc, cc)
     unique (call f es) (call f′ es′) r r′ a a′ is =
@@ -547,7 +547,7 @@ module _ (d : Declarations) where
         (cc (rest .0), rest .1)
     unique (call f es) (construct t′ c′ es′) r r′ a a′ is = (cc, cc)
     unique (call f es) (case t′ e′ alts′) r r′ a a′ is = (cc, cc)
-    unique (call f es) (bind t′ e′ b′) r r′ a a′ is = (cc, cc)
+    unique (call f es) (letIn t′ e′ b′) r r′ a a′ is = (cc, cc)
     unique (call f es) (target l′ e′) r r′ a a′ is = (cc, cc)
     unique (construct t c es) (variable n′) r r′ a a′ is = (cc, cc)
     unique (construct t c es) (call f′ es′) r r′ a a′ is = (cc, cc)
@@ -555,7 +555,7 @@ module _ (d : Declarations) where
         let rest = unique-all es es′ r r′ (a .3) (a′ .3) (cc (a .1, a .2, a′ .1, a′ .2)) (cc) in
         (cc (rest .0), rest .1)
     unique (construct t c es) (case t′ e′ alts′) r r′ a a′ is = (cc, cc)
-    unique (construct t c es) (bind t′ e′ b′) r r′ a a′ is = (cc, cc)
+    unique (construct t c es) (letIn t′ e′ b′) r r′ a a′ is = (cc, cc)
     unique (construct t c es) (target l′ e′) r r′ a a′ is = (cc, cc)
     unique (case t e alts) (variable n′) r r′ a a′ is = (cc, cc)
     unique (case t e alts) (call f′ es′) r r′ a a′ is = (cc, cc)
@@ -564,22 +564,22 @@ module _ (d : Declarations) where
         let first = unique e e′ _ _ (a .3) (a′ .3) (regroup (encode e) (encodeAlternatives alts) r (encode e′) (encodeAlternatives alts′) r′ (cc)) in
         let rest = unique-alternatives alts alts′ r r′ (a .4) (a′ .4) (cc (a .1, a .2, a′ .1, a′ .2)) (first .1) in
         (cc (first .0, rest .0), rest .1)
-    unique (case t e alts) (bind t′ e′ b′) r r′ a a′ is = (cc, cc)
+    unique (case t e alts) (letIn t′ e′ b′) r r′ a a′ is = (cc, cc)
     unique (case t e alts) (target l′ e′) r r′ a a′ is = (cc, cc)
-    unique (bind t e b) (variable n′) r r′ a a′ is = (cc, cc)
-    unique (bind t e b) (call f′ es′) r r′ a a′ is = (cc, cc)
-    unique (bind t e b) (construct t′ c′ es′) r r′ a a′ is = (cc, cc)
-    unique (bind t e b) (case t′ e′ alts′) r r′ a a′ is = (cc, cc)
-    unique (bind t e b) (bind t′ e′ b′) r r′ a a′ is =
+    unique (letIn t e b) (variable n′) r r′ a a′ is = (cc, cc)
+    unique (letIn t e b) (call f′ es′) r r′ a a′ is = (cc, cc)
+    unique (letIn t e b) (construct t′ c′ es′) r r′ a a′ is = (cc, cc)
+    unique (letIn t e b) (case t′ e′ alts′) r r′ a a′ is = (cc, cc)
+    unique (letIn t e b) (letIn t′ e′ b′) r r′ a a′ is =
         let first = unique e e′ _ _ (a .1) (a′ .1) (regroup (encode e) (encode b) r (encode e′) (encode b′) r′ (cc)) in
         let rest = unique b b′ r r′ (a .2) (a′ .2) (first .1) in
         (cc (first .0, rest .0), rest .1)
-    unique (bind t e b) (target l′ e′) r r′ a a′ is = (cc, cc)
+    unique (letIn t e b) (target l′ e′) r r′ a a′ is = (cc, cc)
     unique (target l e) (variable n′) r r′ a a′ is = (cc, cc)
     unique (target l e) (call f′ es′) r r′ a a′ is = (cc, cc)
     unique (target l e) (construct t′ c′ es′) r r′ a a′ is = (cc, cc)
     unique (target l e) (case t′ e′ alts′) r r′ a a′ is = (cc, cc)
-    unique (target l e) (bind t′ e′ b′) r r′ a a′ is = (cc, cc)
+    unique (target l e) (letIn t′ e′ b′) r r′ a a′ is = (cc, cc)
     unique (target l e) (target l′ e′) r r′ a a′ is =
         let inner = unique e e′ r r′ a a′ (cc) in
         (cc (inner .0), inner .1)
@@ -678,7 +678,7 @@ module _ (d : Declarations) (s : List ℕ) where
         let others = pass-alternatives alts (i + 2 + length (encode e)) (a .4) (parts .3) (omega arith) in
         rw (code-there i 3 (parts .0), number-there i t (parts .1), a .1, ← (a .2), first, others)
         (ap (got tt) (omega (arith, length-append (encode e) (encodeAlternatives alts))))
-    pass-by (bind t e b) i a there nests =
+    pass-by (letIn t e b) i a there nests =
         let parts = stands-let s i t e b there in
         let first = below e (i + 2) (a .1) (parts .2) (omega arith) in
         let second = below b (i + 2 + length (encode e)) (a .2) (parts .3) (omega arith) in
@@ -695,7 +695,7 @@ nested (variable n) = omega arith
 nested (call f es) = omega arith
 nested (construct t c es) = omega arith
 nested (case t e alts) = omega arith
-nested (bind t e b) = omega arith
+nested (letIn t e b) = omega arith
 nested (target l e) = omega arith
 
 -- where an expression stands that nests at most n deep, the place behind it is found

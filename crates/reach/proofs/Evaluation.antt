@@ -10,7 +10,7 @@ use lib.Dec.{ltb, eqb}
 use native.Mathlib.Omega.{arith}
 use borrow.Author.Tests.{ltb-true}
 use Rattle.reach.specs.States.{EnvIn, FramesIn, StateIn}
-use Rattle.reach.specs.Syntax.{Expr, variable, call, construct, case, bind, target}
+use Rattle.reach.specs.Syntax.{Expr, variable, call, construct, case, letIn, target}
 use Rattle.reach.specs.Syntax.{Exprs, Alternatives, no-more, absent, present, nthExpr, Function, Program, functionAt, sourceTypes, parametersOf}
 use Rattle.reach.specs.Parts.{Parts, width, Place, Seen, gone, free, has, at, Closed, _⊑_, There}
 use Rattle.reach.specs.Eval.{fieldsOf, partOf, Env, empty, operands, inputParts, size, Closure, suspended, inputPart, suspend, lookup, Frame, waiting}
@@ -84,7 +84,7 @@ view-in p e (evaluating (call f es) env fs) h = enter-in e (functionAt p f) es e
 view-in p e (evaluating (construct t c es) env []) h = tt
 view-in p e (evaluating (construct t c es) env (waiting alts outer ∷ fs)) h = choose-in e alts c (operands outer es env) fs (h .1 .0, h .0) (h .1 .1)
 view-in p e (evaluating (case t x alts) env fs) h = (h .0, (h .0, h .1))
-view-in p e (evaluating (bind t x body) env fs) h = ((h .0, h .0), h .1)
+view-in p e (evaluating (letIn t x body) env fs) h = ((h .0, h .0), h .1)
 view-in p e (evaluating (target l x) env fs) h = picked (NextIn e) (eqb l (p .label)) (λ sought. tt) (λ other. h)
 view-in p e (inspecting q []) h = tt
 view-in p e (inspecting q (waiting alts env ∷ fs)) h = (h .0, h .1 .0, h .1 .1)

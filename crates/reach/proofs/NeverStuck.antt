@@ -14,7 +14,7 @@ use native.Mathlib.Omega.{arith}
 use borrow.Author.Tests.{lt-ltb, le-ltb}
 use Rattle.reach.specs.States.{Steps, no-step, one-more, PartHas, CaseOn, Chooses, Sound}
 use Rattle.reach.specs.Base.{pick}
-use Rattle.reach.specs.Syntax.{variable, call, construct, case, bind, target, Exprs, []ₑ, _∷ₑ_, count, nthExpr, Alternatives, no-more, absent, present, Types, Program, fieldTypes, functionAt, parametersOf, sourceTypes}
+use Rattle.reach.specs.Syntax.{variable, call, construct, case, letIn, target, Exprs, []ₑ, _∷ₑ_, count, nthExpr, Alternatives, no-more, absent, present, Types, Program, fieldTypes, functionAt, parametersOf, sourceTypes}
 use Rattle.reach.specs.Parts.{Parts, end, opened, bound, Place, here, after, inside, part, within, Seen, gone, free, has, at, There}
 use Rattle.reach.specs.Types.{Typed, Slot, slots, sourceSlots, fieldSlots, slotAt}
 use Rattle.reach.specs.Encoding.{countAlternatives}
@@ -234,7 +234,7 @@ module _ (p : Program) (i : Parts) where
     view-has (evaluating (construct u c es) env (waiting alts outer ∷ fs)) (ws, t, h, (us, e, same, k), (vs, r, g, covers, l)) =
         choose-has alts c (operands outer es env) fs vs us (getD (p .types) t []) r covers (rw same at e) (vs, us, ws, refl, g, h, k) l
     view-has (evaluating (case u e alts) env fs) h = (h .0, u, h .2, h .3 .1, (h .0, h .1, h .2, h .3 .2, h .4))
-    view-has (evaluating (bind u e body) env fs) h = (h .0 ++ (u ∷ []), h .1, (h .0, u ∷ [], h .0, refl, h .2, h .2, (h .3 .1, tt)), h .3 .2, h .4)
+    view-has (evaluating (letIn u e body) env fs) h = (h .0 ++ (u ∷ []), h .1, (h .0, u ∷ [], h .0, refl, h .2, h .2, (h .3 .1, tt)), h .3 .2, h .4)
     view-has (evaluating (target l e) env fs) h = picked (eqb l (p .label)) h
       where
         picked : (test : Bool) → StateHas (evaluating e env fs) → NextHas (pick test demands (goes (evaluating e env fs)))
@@ -324,7 +324,7 @@ module _ (p : Program) (i : Parts) where
       let on = case-on u alts outer vs r g (rw same covers) in
       (on, chooses u c us alts outer (operands outer es env) on e (ap (_+_ (size outer)) (count-is p es ws us k)))
   has-sound input (evaluating (case u e alts) env fs) (vs, t, h, (exists, k, covers), l) = case-on u alts env vs t h covers
-  has-sound input (evaluating (bind u e body) env fs) h = tt
+  has-sound input (evaluating (letIn u e body) env fs) h = tt
   has-sound input (evaluating (target l e) env fs) h = tt
   has-sound input (inspecting q []) h = (h .0, h .1)
   has-sound input (inspecting q (waiting alts outer ∷ fs)) (t, place, (vs, r, g, covers, l)) = (t, place, on, met)

@@ -8,7 +8,7 @@ use lib.ListN.{length, getD, getElem?, drop}
 use lib.Dec.{eqb}
 use Rattle.reach.specs.declared.Refusal.the-variants.{OutOfRange, UnknownNumber}
 use Rattle.reach.specs.Base.{pick}
-use Rattle.reach.specs.Syntax.{Expr, variable, call, construct, case, bind, target, Exprs, []ₑ, _∷ₑ_, Alternatives, no-more, absent, present, count, fieldTypes}
+use Rattle.reach.specs.Syntax.{Expr, variable, call, construct, case, letIn, target, Exprs, []ₑ, _∷ₑ_, Alternatives, no-more, absent, present, count, fieldTypes}
 use Rattle.reach.specs.Reader.{Reader, _>>=_, _>>_, give, refuse, byte}
 use Rattle.reach.specs.RuleFile.{Head, Declarations}
 
@@ -19,7 +19,7 @@ unfoldable mutual
   encode (call f es) = 1 ∷ f ∷ encodeAll es
   encode (construct t c es) = 2 ∷ t ∷ c ∷ encodeAll es
   encode (case t e alts) = 3 ∷ t ∷ (encode e ++ encodeAlternatives alts)
-  encode (bind t e b) = 4 ∷ t ∷ (encode e ++ encode b)
+  encode (letIn t e b) = 4 ∷ t ∷ (encode e ++ encode b)
   encode (target l e) = 5 ∷ l ∷ encode e
 
   pub encodeAll : Exprs → List ℕ
@@ -64,7 +64,7 @@ module _ (d : Declarations) where
     Arity (call f es) = (h : Head) × (getElem? (d .heads) f ≡ some h) × (count es ≡ length (h .parameters)) × ArityAll es
     Arity (construct t c es) = (us : List ℕ) × (fieldTypes (d .types) t c ≡ some us) × (count es ≡ length us) × ArityAll es
     Arity (case t e alts) = (cs : List (List ℕ)) × (getElem? (d .types) t ≡ some cs) × (countAlternatives alts ≡ length cs) × Arity e × ArityAlternatives alts
-    Arity (bind t e b) = (t < length (d .types)) × Arity e × Arity b
+    Arity (letIn t e b) = (t < length (d .types)) × Arity e × Arity b
     Arity (target l e) = Arity e
 
     pub ArityAll : Exprs → Type 0
@@ -83,7 +83,7 @@ unfoldable mutual
   nesting (call f es) = suc (nestingAll es)
   nesting (construct t c es) = suc (nestingAll es)
   nesting (case t e alts) = suc (max (nesting e) (nestingAlternatives alts))
-  nesting (bind t e b) = suc (max (nesting e) (nesting b))
+  nesting (letIn t e b) = suc (max (nesting e) (nesting b))
   nesting (target l e) = suc (nesting e)
 
   pub nestingAll : Exprs → ℕ

@@ -8,7 +8,7 @@ use mathlib.Core.Option.{Option, none, some}
 use lib.ListN.{length}
 use lib.Dec.{ltb, eqb}
 use Rattle.reach.specs.Base.{pick}
-use Rattle.reach.specs.Syntax.{Expr, variable, call, construct, case, bind, target, Exprs, []ₑ, _∷ₑ_, count, nthExpr, Alternatives, no-more, absent, present, Function, Program, functionAt}
+use Rattle.reach.specs.Syntax.{Expr, variable, call, construct, case, letIn, target, Exprs, []ₑ, _∷ₑ_, count, nthExpr, Alternatives, no-more, absent, present, Function, Program, functionAt}
 use Rattle.reach.specs.Parts.{Parts, Place, part, within, Seen, gone, free, has, at}
 
 -- A row of input parts: the source's parameters, or the fields of the part at a place.
@@ -116,7 +116,7 @@ view p (evaluating (call f es) env fs) = goes (enter (functionAt p f) es env fs)
 view p (evaluating (construct t c es) env []) = stops value
 view p (evaluating (construct t c es) env (waiting alts outer ∷ fs)) = goes (choose alts c (operands outer es env) fs)
 view p (evaluating (case t e alts) env fs) = goes (evaluating e env (waiting alts env ∷ fs))
-view p (evaluating (bind t e body) env fs) = goes (evaluating body (operands env (e ∷ₑ []ₑ) env) fs)
+view p (evaluating (letIn t e body) env fs) = goes (evaluating body (operands env (e ∷ₑ []ₑ) env) fs)
 view p (evaluating (target l e) env fs) = pick (eqb l (p .label)) demands (goes (evaluating e env fs))
 view p (inspecting q []) = stops value
 view p (inspecting q (waiting alts env ∷ fs)) = waits (record { place = q; alternatives = alts; environment = env; frames = fs })

@@ -1,5 +1,5 @@
 -- Reading a closed input: one closed value per parameter, in prefix form, each of its type and at most D deep; else refusal 10.
--- Rests on Reader and Types.
+-- Rests on Syntax, Parts and Reader.
 use Prim.Native.Nat.{ℕ, zero, suc}
 use mathlib.Core.List.{List, [], _∷_}
 use mathlib.Core.Option.{Option, none, some}

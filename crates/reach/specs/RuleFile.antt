@@ -10,7 +10,7 @@ use lib.Dec.{ltb, leb, eqb}
 use Rattle.reach.specs.declared.Refusal.the-variants.{UnexpectedMark, OutOfRange, UnknownNumber, UnknownCode, TypeMismatch, TrailingBytes, EmptyType, DepthTooSmall}
 use Rattle.reach.specs.Base.{pick}
 use Rattle.reach.specs.Limits.{fileLimit, typeLimit, constructorLimit, fieldLimit, functionLimit, parameterLimit, bodyLimit, depthLimit, stepLimit, viewLimit, nestingLimit}
-use Rattle.reach.specs.Syntax.{Expr, variable, call, construct, case, bind, target, Exprs, []ₑ, _∷ₑ_, Alternatives, no-more, absent, present, Types, Function, Program, fieldTypes, sourceTypes}
+use Rattle.reach.specs.Syntax.{Expr, variable, call, construct, case, letIn, target, Exprs, []ₑ, _∷ₑ_, Alternatives, no-more, absent, present, Types, Function, Program, fieldTypes, sourceTypes}
 use Rattle.reach.specs.Types.{leastDepths, shallow}
 use Rattle.reach.specs.Reader.{Got, got, refused, Reader, _>>=_, _>>_, give, refuse, demand, byte, word, times, passed, atEnd}
 
@@ -235,7 +235,7 @@ module _ (d : Declarations) (nested : Bool) (sub : Below) (view : List ℕ) (exp
     inLimits nested view
     e ← sub view t
     b ← sub (view ++ (t ∷ [])) expected
-    give (bind t e b)
+    give (letIn t e b)
 
   unfoldable pub targetExpr : Reader Expr
   targetExpr = do

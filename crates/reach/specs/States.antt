@@ -6,7 +6,7 @@ use mathlib.Core.Path.{_≡_}
 use mathlib.Core.List.{List, [], _∷_}
 use mathlib.Core.Option.{some}
 use lib.ListN.{length, getD}
-use Rattle.reach.specs.Syntax.{variable, call, construct, case, bind, target, count, Alternatives, Function, Program, fieldTypes, functionAt}
+use Rattle.reach.specs.Syntax.{variable, call, construct, case, letIn, target, count, Alternatives, Function, Program, fieldTypes, functionAt}
 use Rattle.reach.specs.Parts.{Parts, Place, has, at, There}
 use Rattle.reach.specs.Types.{sourceSlots, slotAt}
 use Rattle.reach.specs.Encoding.{countAlternatives}
@@ -63,7 +63,7 @@ Sound p i (evaluating (call f es) env fs) = (g : Function) × (functionAt p f �
 Sound p i (evaluating (construct t c es) env []) = Unit {0}
 Sound p i (evaluating (construct t c es) env (waiting alts outer ∷ fs)) = CaseOn p t alts outer × Chooses p t c alts outer (operands outer es env)
 Sound p i (evaluating (case t e alts) env fs) = CaseOn p t alts env
-Sound p i (evaluating (bind t e body) env fs) = Unit {0}
+Sound p i (evaluating (letIn t e body) env fs) = Unit {0}
 Sound p i (evaluating (target l e) env fs) = Unit {0}
 Sound p i (inspecting q []) = (t : ℕ) × PartHas p i q t
 Sound p i (inspecting q (waiting alts outer ∷ fs)) =

@@ -17,7 +17,7 @@ mutual
     -- a case: the type, the scrutinee (000: the case subject) and the alternatives
     case : ℕ → Expr → Alternatives → Expr
     -- a let: the type, the bound expression and the body
-    bind : ℕ → Expr → Expr → Expr
+    letIn : ℕ → Expr → Expr → Expr
     -- a target: its label and the expression inside it
     target : ℕ → Expr → Expr
 

@@ -6,7 +6,7 @@ use mathlib.Core.List.{List, [], _∷_, _++_, map}
 use mathlib.Core.Option.{some}
 use lib.ListN.{length, getD, getElem?}
 use Rattle.reach.specs.Base.{Each}
-use Rattle.reach.specs.Syntax.{Expr, variable, call, construct, case, bind, target, Exprs, []ₑ, _∷ₑ_, Alternatives, no-more, absent, present, Types, Function, Program, fieldTypes, functionAt}
+use Rattle.reach.specs.Syntax.{Expr, variable, call, construct, case, letIn, target, Exprs, []ₑ, _∷ₑ_, Alternatives, no-more, absent, present, Types, Function, Program, fieldTypes, functionAt}
 
 -- What a call has to know of a function.
 pub record Signature : Type 0 where
@@ -26,7 +26,7 @@ module _ (types : Types) (known : List Signature) where
     HasType (call f es) view t = (g : Signature) × (getElem? known f ≡ some g) × (g .result ≡ t) × HaveTypes es view (g .parameters)
     HasType (construct u c es) view t = (us : List ℕ) × (fieldTypes types u c ≡ some us) × (u ≡ t) × HaveTypes es view us
     HasType (case u e alts) view t = Exists types u × HasType e view u × Covers alts view (getD types u []) t
-    HasType (bind u e body) view t = Exists types u × HasType e view u × HasType body (view ++ (u ∷ [])) t
+    HasType (letIn u e body) view t = Exists types u × HasType e view u × HasType body (view ++ (u ∷ [])) t
     HasType (target l e) view t = HasType e view t
 
     -- one expression for each of the types

@@ -5,7 +5,7 @@
 -- there is e. Nothing is asked of the file and of the slices.
 -- That each call stops and touches nothing outside its buffers is what the check proves of every function.
 -- The demands said of the call `run` stand in closed's Demands: its outcome is that of `run p j`, of which the theorems here speak.
--- Rests on reach's Demands for the definition, and on Called, Reading, Refusals and Cutting for what the call shows of it.
+-- Rests on reach's Demands for the definition, and on Called, Reading and exploring's Cutting for what the call shows of it.
 use Prim.Native.Nat.{ℕ, _+_, _≤_, _<_}
 use native.Mathlib.Omega.{arith}
 use mathlib.Core.Path.{_≡_, sym, subst, _∙_}

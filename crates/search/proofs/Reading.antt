@@ -1,6 +1,6 @@
 -- The bytes of a list determine its entries: a partial input of the source's types is determined by its prefix form, so that an entry is determined by
 -- what is read back of it.
--- Rests on specs/Answering, on reach's ReadBack for the bytes of a list, on its Limits (a constructor's number is not 0xFF) and on its Depths and Entries
+-- Rests on specs/Answering, on reach's ReadBack for the bytes of a list, on its Limits (a constructor's number is not 0xFF) and on its Accepted and EntryLength
 -- (an entry has the source's types).
 use Prim.Native.Nat.{ℕ, zero, suc, _≤_, _<_}
 use native.Mathlib.Omega.{arith}

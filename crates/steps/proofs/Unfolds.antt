@@ -9,7 +9,7 @@ use lib.Dec.{eqb}
 use lib.ListN.{length, getD, getElem?}
 use borrow.Author.Tests.{eq-eqb, ne-eqb}
 use Rattle.reach.specs.Base.{pick}
-use Rattle.reach.specs.Syntax.{Expr, call, case, bind, target, Exprs, []ₑ, _∷ₑ_, count, Alternatives, Function, Program, functionAt}
+use Rattle.reach.specs.Syntax.{Expr, call, case, letIn, target, Exprs, []ₑ, _∷ₑ_, count, Alternatives, Function, Program, functionAt}
 use Rattle.reach.specs.Parts.{Parts}
 use Rattle.reach.specs.Eval as Eval
 use Rattle.reach.specs.Eval.{Env, empty, operands, size, Frame, waiting, State, enter, view, answer, next}
@@ -104,7 +104,7 @@ module _
 
 let-next :
     (p : Program) (e : Parts) (t : ℕ) (y b : Expr) (env : Env) (fs : List Frame)
-    → next p e (Eval.evaluating (bind t y b) env fs) ≡ Eval.goes (Eval.evaluating b (operands env (y ∷ₑ []ₑ) env) fs)
+    → next p e (Eval.evaluating (letIn t y b) env fs) ≡ Eval.goes (Eval.evaluating b (operands env (y ∷ₑ []ₑ) env) fs)
 unfolding next answer view
 let-next p e t y b env fs = refl
 
@@ -118,8 +118,8 @@ module _
 
     let-follows :
         (p : Program) (cells : ℕ) (e : Parts) (s : State) → StandsFor file types functions p w base cells r e s
-        → (t : ℕ) (y b : Expr) (env′ : Env) (fs : List Frame) → Met file types functions w base i env r p e (bind t y b) env′ fs
-        → StepMeans file types functions w w′ base r p e (Eval.evaluating (bind t y b) env′ fs) (Next.Goes let-after)
+        → (t : ℕ) (y b : Expr) (env′ : Env) (fs : List Frame) → Met file types functions w base i env r p e (letIn t y b) env′ fs
+        → StepMeans file types functions w w′ base r p e (Eval.evaluating (letIn t y b) env′ fs) (Next.Goes let-after)
     unfolding count let-after
     let-follows p cells e s stands t y b env′ fs met =
         let at = code-let file (declarationsOf file types functions) i t y b (met .code) in

@@ -7,7 +7,7 @@ use mathlib.Core.List.{List, [], _∷_}
 use native.Mathlib.Omega.{arith}
 use lib.Dec.{eqb}
 use Rattle.reach.specs.Base.{pick}
-use Rattle.reach.specs.Syntax.{variable, call, construct, case, bind, target, Alternatives, Program}
+use Rattle.reach.specs.Syntax.{variable, call, construct, case, letIn, target, Alternatives, Program}
 use Rattle.reach.specs.Parts.{Parts, Place}
 use Rattle.reach.specs.Eval.{State, evaluating, inspecting, missing, stuck, Env, Frame, waiting, Question, Next, demands, stops, goes, waits, view, next}
 use Rattle.reach.specs.RuleFile.{Declarations}
@@ -29,7 +29,7 @@ view-waits p (evaluating (call f es) env fs) q h = absurd (clash (cc))
 view-waits p (evaluating (construct t c es) env []) q h = absurd (clash (cc))
 view-waits p (evaluating (construct t c es) env (waiting alts outer ∷ fs)) q h = absurd (clash (cc))
 view-waits p (evaluating (case t e alts) env fs) q h = absurd (clash (cc))
-view-waits p (evaluating (bind t e body) env fs) q h = absurd (clash (cc))
+view-waits p (evaluating (letIn t e body) env fs) q h = absurd (clash (cc))
 view-waits p (evaluating (target l e) env fs) q h = by-label (eqb l (p .label)) h
   where
     by-label : (b : Bool) → pick b demands (goes (evaluating e env fs)) ≡ waits q → Inspects (evaluating (target l e) env fs) q

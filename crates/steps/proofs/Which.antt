@@ -5,7 +5,7 @@ use Prim.Native.Nat.{ℕ, zero, suc, _<_}
 use mathlib.Core.Path.{_≡_, refl}
 use mathlib.Core.List.{List, [], _∷_}
 use native.Mathlib.Omega.{arith}
-use Rattle.reach.specs.Syntax.{Expr, variable, call, construct, case, bind, target, Exprs, Alternatives}
+use Rattle.reach.specs.Syntax.{Expr, variable, call, construct, case, letIn, target, Exprs, Alternatives}
 use Rattle.reach.specs.Parts.{Place}
 use Rattle.reach.specs.Eval.{Env, Frame, waiting, State, evaluating, inspecting, missing}
 use Rattle.reach.specs.RuleFile.{Declarations}
@@ -54,7 +54,7 @@ module _ (G : Expr → Type 0) where
   pub when-case : {x : Expr} → Coded 3 x → ((t : ℕ) (y : Expr) (alts : Alternatives) → G (case t y alts)) → G x
   when-case a-case show = show _ _ _
 
-  pub when-let : {x : Expr} → Coded 4 x → ((t : ℕ) (y b : Expr) → G (bind t y b)) → G x
+  pub when-let : {x : Expr} → Coded 4 x → ((t : ℕ) (y b : Expr) → G (letIn t y b)) → G x
   when-let a-let show = show _ _ _
 
   pub when-target : {x : Expr} → Coded 5 x → ((l : ℕ) (y : Expr) → G (target l y)) → G x
