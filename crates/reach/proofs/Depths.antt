@@ -9,7 +9,7 @@ use mathlib.Core.Option.{some, Option·some-injective, Option·none-ne-some}
 use mathlib.Core.Logic.{_↔_, ⊎-elim}
 use lib.ListN.{length, getD, getElem?}
 use native.Mathlib.Omega.{arith}
-use Rattle.reach.specs.Base.{_∈_}
+use Rattle.reach.specs.Base.{_∈_, Each}
 use Rattle.reach.specs.Syntax.{Types, fieldTypes}
 use Rattle.reach.specs.Parts.{Parts, end, opened, bound, width, allOpen, Place, here, after, inside, There}
 use Rattle.reach.specs.Parts.{free, has, at, bindAt, Closed, depth, _⊑_, ⊑-end, ⊑-open, ⊑-bind, ⊑-same}
@@ -69,8 +69,7 @@ Fit types (s ∷ ss) (bound c fs r) =
 module _ (types : Types) where
   -- every slot has a closed value that fits there
   abbrev pub Roomy : List Slot → Type 0
-  Roomy [] = Unit {0}
-  Roomy (s ∷ ss) = (shallow (leastDepths types) (s .room) (s .type ∷ []) ≡ true) × Roomy ss
+  Roomy ss = Each (λ (s : Slot). shallow (leastDepths types) (s .room) (s .type ∷ []) ≡ true) ss
 
   -- slots of one depth do where the table says so of their types
   pub shallow-roomy : (ts : List ℕ) (d : ℕ) → shallow (leastDepths types) d ts ≡ true → Roomy (slots ts d)

@@ -21,7 +21,7 @@ use Rattle.reach.specs.Encoding.{countAlternatives}
 use Rattle.reach.specs.Eval.{Row, parameters, fieldsOf, partOf, Env, empty, operands, inputParts, size, Closure, suspended, inputPart, suspend, lookup, Frame, waiting, State, evaluating, inspecting, missing, stuck, resume, choose, enter, Question, answered, Stop, value, noAlternative, unknown, Next, demands, stops, goes, waits, view, look, answer, next, Run, reached, ended, unfinished, halted, conclude, eval, startOf, start, run}
 use Rattle.reach.specs.Answers.{accepted, check}
 use Rattle.reach.proofs.Order.{constructorOf, arityOf, free-unbound}
-use Rattle.reach.proofs.Slots.{field-types, source-types}
+use Rattle.reach.proofs.Slots.{types-nth, part-slot, field-types, source-types}
 use Rattle.reach.proofs.Depths.{typed-width}
 use Rattle.reach.specs.Typing.{Signature, signatureOf, signatures, HasType, HaveTypes, Covers, WellTyped}
 use Rattle.reach.proofs.WellTyped.{at-below, at-getD, accepted-typed}
@@ -77,13 +77,9 @@ module _ (types : Types) where
   slot-part :
       (ss : List Slot) (e : Parts) → Typed types (slotTypes ss) e → (n t : ℕ) → getElem? (slotTypes ss) n ≡ some t
       → (d : ℕ) × (slotAt types e (part n) ss ≡ some (record { type = t; room = d }))
-  unfolding slotAt slotTypes part
-  slot-part [] e h n t g = absurd (Option·none-ne-some t g)
-  slot-part (s ∷ ss) end h n t g = absurd h
-  slot-part (s ∷ ss) (opened r) h zero t g = (s .room, rw (← Option·some-injective (s .type) t g))
-  slot-part (s ∷ ss) (opened r) h (suc n) t g = slot-part ss r h n t g
-  slot-part (s ∷ ss) (bound c fs r) h zero t g = (s .room, rw (← Option·some-injective (s .type) t g))
-  slot-part (s ∷ ss) (bound c fs r) h (suc n) t g = slot-part ss r (h .3) n t g
+  slot-part ss e h n t g =
+      let (d, there) = types-nth ss n t g in
+      (d, part-slot types e n ss (omega (arith, typed-width types (slotTypes ss) e h, (at-getD (slotTypes ss) n 0 t g) .0)) ∙ there)
 
   -- the fields of the part at q, which has constructor c with k fields and stands in slot s, have slots of their types
   abbrev FieldSlots : (ss : List Slot) (e : Parts) (q : Place) (s : Slot) (c k : ℕ) → Type 0
