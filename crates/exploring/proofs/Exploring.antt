@@ -221,7 +221,8 @@ module _ (file types functions least : List ℕ) (label : ℕ) (w₀ : List ℕ)
             let made = makes p begins in
             let e = entry .0 in
             let new = entryFor kind (m .walk .done) e in
-            let (place, fits, bytes) = subst (WroteFor kind (m .walk .done) (m .walk .cells) n l l′ e) is (told (p .types) (sourceSlots p) e (input-in p begins kind entry)) in
+            let wrote = told (p .types) (sourceSlots p) e (input-in p begins kind entry) in
+            let (place, fits, bytes) = subst (WroteFor kind (m .walk .done) (m .walk .cells) n l l′ e) is wrote in
             let size = long kind e (entry .2 .counted) in
             let room = same-room (p, begins) .0 in
             record {
@@ -272,7 +273,8 @@ module _ (file types functions least : List ℕ) (label : ℕ) (w₀ : List ℕ)
             let made = makes p begins in
             let e = entry .0 in
             let new = entryFor kind (m .walk .done) e in
-            let (over, same) = subst (WroteFor kind (m .walk .done) (m .walk .cells) n l l′ e) is (told (p .types) (sourceSlots p) e (input-in p begins kind entry)) in
+            let wrote = told (p .types) (sourceSlots p) e (input-in p begins kind entry) in
+            let (over, same) = subst (WroteFor kind (m .walk .done) (m .walk .cells) n l l′ e) is wrote in
             let size = long kind e (entry .2 .counted) in
             let room = same-room (p, begins) .0 in
             record {

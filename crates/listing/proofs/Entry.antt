@@ -96,12 +96,13 @@ module _ (file types : List ℕ) (bytes : (i : ℕ) → getD file i 0 ≤ 255) w
     row-said (bound c fs r) (s ∷ ss) b (vs, are, inner, outer) says =
         let z : suc (length (slotTypes ss)) - 1 ≡ length (slotTypes ss) = omega arith in
         let type : cellWord w b 2 ≡ s .type = says .type-is here s tt refl in
-        let fields = field-types (map (typeAt file) types) s c vs are in (
+        let fields = field-types (map (typeAt file) types) s c vs are in
+        let below = row-said fs (fieldSlots (map (typeAt file) types) (some s) c) (cellWord w b 1) (rw fields inner) (bound-fields says) in (
           omega arith,
           omega (arith, says .in-use here tt),
           says .head-bound here c _ refl,
           number-small (s .type) c vs are,
-          (vs, rw type are, rw (← fields) (row-said fs (fieldSlots (map (typeAt file) types) (some s) c) (cellWord w b 1) (rw fields inner) (bound-fields says))),
+          (vs, rw type are, rw (← fields) below),
           rw z (row-said r ss (b + 1) outer (bound-rest says)),
         )
 
