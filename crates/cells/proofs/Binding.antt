@@ -15,7 +15,6 @@ use Rattle.reach.specs.Parts.{Parts, Place, Seen, free, has, at, bindAt, There}
 use Rattle.reach.specs.Types.{Slot, slotAt}
 use Rattle.reach.specs.Places.{bytesAt}
 use Rattle.reach.proofs.Order.{free-unbound, bind-refines, ⊑-there}
-use Rattle.reach.proofs.Places.{bytes-length}
 use Rattle.machine.specs.Cells.{cellWord, cellOf, Cells, Binds, KeptBut, Unmoved}
 use Rattle.machine.proofs.Cells.{field, walk-kept, bind-elsewhere, bind-slot, bind-length-exact, bind-keeps, bind-walks, bind-cells, start-cells, open-cells}
 use Rattle.cells.specs.Writes.{Opens, Starts}
@@ -29,11 +28,10 @@ bound-there h = subst There (sym h) tt
 
 -- a row of cells opened from cell 0 on stands for the input with every parameter open
 pub starts :
-    {w w′ : List ℕ} {n depth : ℕ} (file : List ℕ) (parameters : ℕ) → 5 * n ≤ length w → Opens w w′ 0 n (bytesAt file parameters n) depth
-    → Starts w w′ n (bytesAt file parameters n) depth
-starts {n = n} file parameters fits made = record {
+    {w w′ : List ℕ} {ss : List Slot} {n : ℕ} → 5 * n ≤ length w → Opens w w′ 0 n ss → Starts w w′ n ss
+starts fits made = record {
   same-length = made .same-length;
-  stands = λ types. start-cells (sym (bytes-length file parameters n)) (omega (arith, made .same-length)) (made .cells);
+  stands = λ types. start-cells (omega (arith, made .same-length)) (made .cells);
   behind = λ i out. made .elsewhere i (λ h. omega arith);
 }
 
@@ -45,10 +43,10 @@ pub bound-cells :
     → us ≡ bytesAt file fields k → 5 * (top + k) ≤ length w
     → Binds w w′ (cellOf w q) c top k (bytesAt file fields k) (cellWord w (cellOf w q) 3 - 1)
     → Cells types ss w′ (top + k) (bindAt q c k e) × Unmoved w w′ e × ((j : ℕ) → cellOf w′ (field q j) ≡ top + j)
-bound-cells {w = w} {k = k} {s = s} file fields q cells unbound known deep typed same fits binds =
+bound-cells {w = w} {s = s} file fields q cells unbound known deep typed same fits binds =
     let room : cellWord w (cellOf w q) 3 ≡ s .room = (cells .slot q s (open-there unbound) known) .1 in
     let walks = bind-walks q cells unbound binds in
-    (bind-cells q cells unbound known (omega arith) (rw same at typed) (sym (bytes-length file fields k)) fits binds, walks .0, walks .1)
+    (bind-cells q cells unbound known (omega arith) (rw same at typed) fits binds, walks .0, walks .1)
 
 -- to open a bound part again gives words that stand for the input before the bind, whatever was written since, if they stood for the input with
 -- the part bound and every part of the input before is in the cell where it was

@@ -1,16 +1,20 @@
 -- What is written to open a cell, a row of cells, and the cells of a bound part's fields: the words after it.
--- Rests on specs/Writes, machine's Cells and reach's Places.
+-- Rests on specs/Writes, machine's Cells and reach's Places and Slots.
 use Prim.Native.Nat.{ℕ, zero, suc, _+_, _*_, _-_, _≤_, _<_}
-use mathlib.Core.Path.{_≡_, refl, _∙_, ap}
+use mathlib.Core.Path.{_≡_, refl, sym, _∙_, ap}
 use mathlib.Core.List.{List}
 use mathlib.Core.Logic.{_≢_}
+use mathlib.Core.Option.{some, Option·some-injective}
 use native.Mathlib.Numerals.{add-one}
 use native.Mathlib.Omega.{arith}
-use lib.ListN.{length, getD, set, length-set}
+use lib.ListN.{length, getD, getElem?, set, length-set}
 use lib.Seq.{getD-set-same, getD-set-other}
 use borrow.Author.Count.{below-more}
+use Rattle.reach.specs.Types.{Slot, slots}
 use Rattle.reach.specs.Places.{bytesAt}
-use Rattle.machine.specs.Cells.{cellWord, Binds}
+use Rattle.reach.proofs.Places.{bytes-length}
+use Rattle.reach.proofs.Slots.{slots-nth}
+use Rattle.machine.specs.Cells.{cellWord, SlotIn, Binds}
 use Rattle.cells.specs.Writes.{openCell, Opens}
 
 -- The bytes from a place on.
@@ -61,22 +65,21 @@ module _ (w : List ℕ) (x t room : ℕ) (fits : 5 * x + 5 ≤ length w) where
 
 -- A row of open cells, made one after the other.
 
-pub opens-none : (w : List ℕ) (b : ℕ) (ts : List ℕ) (room : ℕ) → Opens w w b 0 ts room
-opens-none w b ts room = record {
+pub opens-none : (w : List ℕ) (b : ℕ) (ss : List Slot) → Opens w w b 0 ss
+opens-none w b ss = record {
   same-length = refl;
-  cells = record { no-head = λ j l. absurd (omega arith); type-of = λ j l. absurd (omega arith); room-of = λ j l. absurd (omega arith) };
+  cells = record { no-head = λ j l. absurd (omega arith); slot-of = λ j l. absurd (omega arith) };
   elsewhere = λ i out. refl;
 }
 
 pub opens-more :
-    {w v ts : List ℕ} {b n room : ℕ} → Opens w v b n ts room → 5 * (b + n) + 5 ≤ length v
-    → Opens w (openCell v (b + n) (getD ts n 0) room) b (n + 1) ts room
-opens-more {w} {v} {ts} {b} {n} {room} made fits = record {
+    {w v : List ℕ} {ss : List Slot} {b n : ℕ} (s : Slot) → Opens w v b n ss → getElem? ss n ≡ some s → 5 * (b + n) + 5 ≤ length v
+    → Opens w (openCell v (b + n) (s .type) (s .room)) b (n + 1) ss
+opens-more {w} {v} {ss} {b} {n} s made slot fits = record {
   same-length = open-length v _ _ _ ∙ made .same-length;
   cells = record {
     no-head = below-more _ _ (λ j l. kept j l 0 (omega arith) ∙ made .cells .no-head j l) (open-head v _ _ _ fits);
-    type-of = below-more _ _ (λ j l. kept j l 2 (omega arith) ∙ made .cells .type-of j l) (open-type v _ _ _ fits);
-    room-of = below-more _ _ (λ j l. kept j l 3 (omega arith) ∙ made .cells .room-of j l) (open-room v _ _ _ fits);
+    slot-of = below-more _ _ said new;
   };
   elsewhere = λ i out.
       open-other v (b + n) _ _ i (λ e. omega (arith, out (omega arith))) (λ e. omega (arith, out (omega arith))) (λ e. omega (arith, out (omega arith)))
@@ -84,26 +87,35 @@ opens-more {w} {v} {ts} {b} {n} {room} made fits = record {
 }
   where
     -- the cells that were made before keep their words
-    kept : (j : ℕ) → j < n → (m : ℕ) → m < 5 → cellWord (openCell v (b + n) (getD ts n 0) room) (b + j) m ≡ cellWord v (b + j) m
-    kept j l m s = open-other v (b + n) _ _ (5 * (b + j) + m) (omega arith) (omega arith) (omega arith)
+    kept : (j : ℕ) → j < n → (m : ℕ) → m < 5 → cellWord (openCell v (b + n) (s .type) (s .room)) (b + j) m ≡ cellWord v (b + j) m
+    kept j l m small = open-other v (b + n) _ _ (5 * (b + j) + m) (omega arith) (omega arith) (omega arith)
 
--- the same for a row whose types are bytes of the file, of which `more` are left: the next cell has the byte at the next place
+    said : (j : ℕ) → j < n → (z : Slot) → getElem? ss j ≡ some z → SlotIn (openCell v (b + n) (s .type) (s .room)) (b + j) z
+    said j l z is =
+        let before = made .cells .slot-of j l z is in
+        (kept j l 2 (omega arith) ∙ before .0, kept j l 3 (omega arith) ∙ before .1)
+
+    new : (z : Slot) → getElem? ss n ≡ some z → SlotIn (openCell v (b + n) (s .type) (s .room)) (b + n) z
+    new z is = rw (← Option·some-injective _ _ (sym slot ∙ is)) (open-type v _ _ _ fits, open-room v _ _ _ fits)
+
+-- the same for a row of one depth whose types are bytes of the file, of which `more` are left: the next cell has the byte at the next place
 pub opens-next :
-    {w v v′ : List ℕ} {first k room more t : ℕ} (file : List ℕ) (fields cell place : ℕ) → Opens w v first (k - more) (bytesAt file fields k) room
+    {w v v′ : List ℕ} {first k more t : ℕ} (file : List ℕ) (fields cell place room : ℕ) → Opens w v first (k - more) (slots (bytesAt file fields k) room)
     → 5 * (first + k) ≤ length w → 0 < more → more ≤ k → cell + more ≡ first + k → place + more ≡ fields + k → t ≡ getD file place 0
-    → v′ ≡ openCell v cell t room → Opens w v′ first (k - (more - 1)) (bytesAt file fields k) room
-opens-next {first = first} {k} {room} {more} file fields cell place made fits left some here there read written =
+    → v′ ≡ openCell v cell t room → Opens w v′ first (k - (more - 1)) (slots (bytesAt file fields k) room)
+opens-next {first = first} {k} {more} file fields cell place room made fits some-left few here there read written =
     let n = k - more in
     let count : k - (more - 1) ≡ n + 1 = omega arith in
     let number : cell ≡ first + n = omega arith in
     let spot : place ≡ fields + n = omega arith in
     let typed : getD (bytesAt file fields k) n 0 ≡ getD file (fields + n) 0 = bytes-nth file fields k n (omega arith) in
-    rw (written, count, number, read, spot, ← typed) (opens-more made (omega (arith, made .same-length)))
+    let slot = slots-nth (bytesAt file fields k) room n (omega (arith, bytes-length file fields k)) in
+    rw (written, count, number, read, spot, ← typed) (opens-more _ made slot (omega (arith, made .same-length)))
 
 -- A bind: the head and the first field's cell are set, then the fields' cells are opened.
 pub binds :
     {w w′ ts : List ℕ} {x c top k below room : ℕ} → x < top → 5 * (top + k) ≤ length w → below ≡ room
-    → Opens (set (set w (5 * x) (c + 1)) (5 * x + 1) top) w′ top k ts below → Binds w w′ x c top k ts room
+    → Opens (set (set w (5 * x) (c + 1)) (5 * x + 1) top) w′ top k (slots ts below) → Binds w w′ x c top k ts room
 binds {w} {w′} {ts} {x} {c} {top} {k} used fits same made = record {
   same-length = made .same-length ∙ simp length-set;
   new-head =

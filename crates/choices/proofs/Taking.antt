@@ -1,6 +1,6 @@
 -- A choice point takes its next constructor: the cell is bound to it, the path goes on behind the case, and the choice point has the
 -- constructors behind it left. And a step of a path keeps the choice points.
--- Rests on Keeping, on reach's Reached and machine's laws of cells.
+-- Rests on Keeping, on reach's Reached and Slots and machine's laws of cells.
 use Prim.Native.Nat.{ℕ, suc, _+_, _*_, _-_, _≤_, _<_}
 use mathlib.Core.Path.{_≡_, refl, sym, _∙_, ap, subst}
 use mathlib.Core.List.{List, [], _∷_}
@@ -9,7 +9,7 @@ use mathlib.Core.Option.{some}
 use native.Mathlib.Omega.{arith}
 use lib.ListN.{length, getD}
 use Rattle.reach.specs.Limits.{workWords}
-use Rattle.reach.specs.Syntax.{Types, Program, fieldTypes, sourceTypes}
+use Rattle.reach.specs.Syntax.{Program, fieldTypes, sourceTypes}
 use Rattle.reach.specs.Parts.{Parts, Place, width, at, free, bindAt, There}
 use Rattle.reach.specs.Types.{Typed, Slot, slotAt, sourceSlots, Fork, leastDepths}
 use Rattle.reach.specs.Eval.{State, answered, next, goes}
@@ -20,6 +20,7 @@ use Rattle.reach.proofs.Evaluation.{waits-answered}
 use Rattle.reach.specs.States.{Steps, one-more, PartHas}
 use Rattle.reach.proofs.NeverStuck.{steps-sound, never-stuck}
 use Rattle.reach.proofs.Reached.{steps-in, steps-more, bind-typed}
+use Rattle.reach.proofs.Slots.{source-types}
 use Rattle.machine.specs.Cells.{cellWord, cellOf, Cells, Binds, Unmoved}
 use Rattle.machine.proofs.Cells.{bind-walks, bind-cells}
 use Rattle.forks.specs.Untried.{untried}
@@ -31,11 +32,12 @@ use Rattle.machine.proofs.Words.{records-same}
 use Rattle.choices.specs.Choices.{Setting, Given, choiceWord, reopened, waitingAt, Path, ChoiceAt, ChoicesAt, one-choice}
 use Rattle.choices.proofs.Keeping.{Kept, path-kept, reopened-length, reopened-other, reopened-same, reopened-lengths, unbound, there, cell-below, cells-fit, choice-same, choices-kept}
 
--- binding keeps the types, whatever the number of fields is called
+-- binding keeps the types of an input, whatever the number of fields is called
 typed-bound :
-    (types : Types) (ts : List ℕ) (d : ℕ) (e : Parts) (q : Place) (s : Slot) (c k : ℕ) (us : List ℕ) → k ≡ length us → Typed types ts e → at e q ≡ free
-    → slotAt types e q (Rattle.reach.specs.Types.slots ts d) ≡ some s → fieldTypes types (s .type) c ≡ some us → Typed types ts (bindAt q c k e)
-typed-bound types ts d e q s c k us many typed open-there slot-is known = rw many (bind-typed types ts d e q s c us typed open-there slot-is known)
+    (p : Program) (e : Parts) (q : Place) (s : Slot) (c k : ℕ) (us : List ℕ) → k ≡ length us → Typed (p .types) (sourceTypes p) e → at e q ≡ free
+    → slotAt (p .types) e q (sourceSlots p) ≡ some s → fieldTypes (p .types) (s .type) c ≡ some us → Typed (p .types) (sourceTypes p) (bindAt q c k e)
+typed-bound p e q s c k us many typed open-there slot-is known =
+    rw (many, ← source-types p) (bind-typed (p .types) (sourceSlots p) e q s c us (rw (source-types p) typed) open-there slot-is known)
 
 module _
     {g : Setting} (given : Given g) {w : List ℕ} {h : ℕ} {c : Choice} (at-h : ChoiceAt g w h c) {w′ us : List ℕ} {n k : ℕ}
@@ -109,7 +111,7 @@ module _
     cells-there : Cells (g .program .types) (sourceSlots (g .program)) w′ (choiceWord (g .stack) w h 4 + k) bound
     unfolding w₀
     cells-there =
-        bind-cells q (at-h .path .stands .input) (unbound at-h) (slotted .1 .1) (omega (arith, room-is)) known-there many
+        bind-cells q (at-h .path .stands .input) (unbound at-h) (slotted .1 .1) (omega (arith, room-is)) known-there
         (omega (arith, fits, given .base-is, long)) binds-open
 
     unmoved : Unmoved w₀ w′ (c .input)
@@ -117,9 +119,8 @@ module _
     unmoved = bind-walks q (at-h .path .stands .input) (unbound at-h) binds-open .0
 
     typed : Typed (g .program .types) (sourceTypes (g .program)) bound
-    unfolding sourceSlots
     typed =
-        typed-bound (g .program .types) (sourceTypes (g .program)) (g .program .depth) (c .input) q (record { type = slotted .0; room = slotted .1 .0 }) n k us many
+        typed-bound (g .program) (c .input) q (record { type = slotted .0; room = slotted .1 .0 }) n k us many
         (at-h .path .typed) (unbound at-h) (slotted .1 .1) known-there
 
     wide : (e : Parts) → Typed (g .program .types) (sourceTypes (g .program)) e → width e ≡ length (sourceTypes (g .program))

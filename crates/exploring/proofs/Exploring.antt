@@ -1,6 +1,6 @@
 -- The loop of `explore`: the search came from its beginning to where it stands, with the entries listed so far; they and those still to come are the
 -- program's list.
--- Rests on specs/Exploring, on Cutting, on reach's Moves and on listing's laws.
+-- Rests on specs/Exploring, on Cutting, on reach's Moves and Slots and on listing's laws.
 use Prim.Native.Nat.{ℕ, _+_, _-_, _≤_, _<_}
 use mathlib.Core.Path.{_≡_, refl, sym, _∙_, ap, subst}
 use mathlib.Core.Bool.{Bool, true, false}
@@ -11,7 +11,7 @@ use lib.Dec.{ltb}
 use borrow.Author.Tests.{ltb-true, ltb-false}
 use Rattle.reach.specs.declared.Verdict.{Verdict}
 use Rattle.reach.specs.declared.Verdict.the-variants as Verdict
-use Rattle.reach.specs.Syntax.{Program, sourceTypes}
+use Rattle.reach.specs.Syntax.{Program}
 use Rattle.reach.specs.Parts.{Parts, prefix}
 use Rattle.reach.specs.Types.{sourceSlots, leastDepths}
 use Rattle.reach.specs.Eval.{start}
@@ -23,6 +23,7 @@ use Rattle.reach.specs.Lists.{entryBytes, listBytes, written}
 use Rattle.reach.specs.Moves as Model
 use Rattle.reach.specs.Moves.{Choice, move, moveFrom, moves}
 use Rattle.reach.proofs.Base.{clash}
+use Rattle.reach.proofs.Slots.{source-types, source-length}
 use Rattle.reach.proofs.Moves.{choicesOwed, owedFrom, owed, move-keeps, moves-keep}
 use Rattle.steps.specs.declared.Registers.{Registers}
 use Rattle.choices.specs.Choices.{Setting, AllOpen, ChoicesAt, no-choice, one-choice}
@@ -182,15 +183,19 @@ module _ (file types functions least : List ℕ) (label : ℕ) (w₀ : List ℕ)
       -- the input of an entry that a path lists
       input-in :
           (p : Program) → Begins (at-program p) label w₀ parameters from → (kind : Kind) {new : List Entry} (entry : EntryIn (at-program p) w′ (m .walk) kind new)
-          → InputIn file types w′ parameters (m .walk .cells) (p .types) (sourceTypes p) (p .depth) (entry .0)
-      unfolding sourceSlots
-      input-in p begins kind (e, new-is, cells, typed) = record { types-there = begins .given .file-of .types-there; stands = cells; typed = typed; counted = begins .counted }
+          → InputIn file types w′ parameters (m .walk .cells) (p .types) (sourceSlots p) (entry .0)
+      input-in p begins kind (e, new-is, cells, typed) = record {
+        types-there = begins .given .file-of .types-there;
+        stands = cells;
+        typed = rw (source-types p) typed;
+        counted = source-length p ∙ begins .counted;
+      }
 
       listable-one :
           (p : Program) → Begins (at-program p) label w₀ parameters from → (kind : Kind) {new : List Entry} → EntryIn (at-program p) w′ (m .walk) kind new
           → Listable file types w′ parameters (m .walk .cells)
       listable-one p begins kind entry = (
-        (p .types, sourceTypes p, p .depth, entry .0, input-in p begins kind entry),
+        (p .types, sourceSlots p, entry .0, input-in p begins kind entry),
         omega (arith, entry .2 .fits, makes p begins .same-length, same-length, begins .under .path .long, limit-few (begins .given)),
       )
 
@@ -216,7 +221,8 @@ module _ (file types functions least : List ℕ) (label : ℕ) (w₀ : List ℕ)
             let made = makes p begins in
             let e = entry .0 in
             let new = entryFor kind (m .walk .done) e in
-            let (place, fits, bytes) = subst (WroteFor kind (m .walk .done) (m .walk .cells) n l l′ e) is (told (p .types) (sourceTypes p) (p .depth) e (input-in p begins kind entry)) in
+            let wrote = told (p .types) (sourceSlots p) e (input-in p begins kind entry) in
+            let (place, fits, bytes) = subst (WroteFor kind (m .walk .done) (m .walk .cells) n l l′ e) is wrote in
             let size = long kind e (entry .2 .counted) in
             let room = same-room (p, begins) .0 in
             record {
@@ -267,7 +273,8 @@ module _ (file types functions least : List ℕ) (label : ℕ) (w₀ : List ℕ)
             let made = makes p begins in
             let e = entry .0 in
             let new = entryFor kind (m .walk .done) e in
-            let (over, same) = subst (WroteFor kind (m .walk .done) (m .walk .cells) n l l′ e) is (told (p .types) (sourceTypes p) (p .depth) e (input-in p begins kind entry)) in
+            let wrote = told (p .types) (sourceSlots p) e (input-in p begins kind entry) in
+            let (over, same) = subst (WroteFor kind (m .walk .done) (m .walk .cells) n l l′ e) is wrote in
             let size = long kind e (entry .2 .counted) in
             let room = same-room (p, begins) .0 in
             record {

@@ -1,5 +1,5 @@
 -- From the words that stand for the input to the row of its parameters, and what was written for it.
--- Rests on Bytes, on specs/Entry and specs/Rows, on machine's Cells and on the lookups' Tables.
+-- Rests on Bytes, on specs/Entry and specs/Rows, on machine's Cells, on reach's Slots and on the lookups' Tables.
 use Prim.Native.Nat.{ℕ, suc, _+_, _-_, _≤_, _<_}
 use mathlib.Core.Path.{_≡_, refl, sym, _∙_}
 use mathlib.Core.List.{List, [], _∷_, map}
@@ -12,7 +12,8 @@ use Rattle.reach.specs.declared.Kind.{Kind}
 use Rattle.reach.specs.Syntax.{Types}
 use Rattle.reach.specs.Parts.{Parts, end, opened, bound, Place, here, after, inside, free, has, at, prefix, There}
 use Rattle.reach.specs.Places.{typeAt}
-use Rattle.reach.specs.Types.{Slot, Typed, slots, fieldSlots, slotAt}
+use Rattle.reach.specs.Types.{Slot, Typed, slotTypes, fieldSlots, slotAt}
+use Rattle.reach.proofs.Slots.{types-length, field-types}
 use Rattle.lookups.specs.Fields.{fieldsIn}
 use Rattle.lookups.proofs.Tables.{fields-found, fields-missing, constructor-missing}
 use Rattle.machine.specs.Cells.{cellWord, cellFrom}
@@ -42,16 +43,16 @@ module _ (file types : List ℕ) (bytes : (i : ℕ) → getD file i 0 ≤ 255) w
           let many : length types ≤ t = omega (arith, unknown) in
           absurd (Option·none-ne-some us (sym (fields-missing file types t c many) ∙ is))
 
-  -- What the words say of a row whose first cell is b: in use, the heads, the types.
-  record Says (w : List ℕ) (top : ℕ) (us : List ℕ) (d b : ℕ) (row : Parts) : Type 0 where
+  -- What the words say of a row with these slots whose first cell is b: in use, the heads, the types.
+  record Says (w : List ℕ) (top : ℕ) (ss : List Slot) (b : ℕ) (row : Parts) : Type 0 where
     in-use : (q : Place) → There (at row q) → cellFrom w b q < top
     head-free : (q : Place) → at row q ≡ free → cellWord w (cellFrom w b q) 0 ≡ 0
     head-bound : (q : Place) (c k : ℕ) → at row q ≡ has c k → cellWord w (cellFrom w b q) 0 ≡ suc c
-    type-is : (q : Place) (s : Slot) → There (at row q) → slotAt (map (typeAt file) types) row q (slots us d) ≡ some s → cellWord w (cellFrom w b q) 2 ≡ s .type
+    type-is : (q : Place) (s : Slot) → There (at row q) → slotAt (map (typeAt file) types) row q ss ≡ some s → cellWord w (cellFrom w b q) 2 ≡ s .type
 
   -- they say so of the rest of the row, behind an open part or a bound one, and of the fields of a bound part
-  open-rest : {w us : List ℕ} {top t d b : ℕ} {r : Parts} → Says w top (t ∷ us) d b (opened r) → Says w top us d (b + 1) r
-  unfolding at cellFrom slotAt slots
+  open-rest : {w : List ℕ} {ss : List Slot} {s : Slot} {top b : ℕ} {r : Parts} → Says w top (s ∷ ss) b (opened r) → Says w top ss (b + 1) r
+  unfolding at cellFrom slotAt
   open-rest says = record {
     in-use = λ q. says .in-use (after q);
     head-free = λ q. says .head-free (after q);
@@ -59,8 +60,8 @@ module _ (file types : List ℕ) (bytes : (i : ℕ) → getD file i 0 ≤ 255) w
     type-is = λ q. says .type-is (after q);
   }
 
-  bound-rest : {w us : List ℕ} {top t d b c : ℕ} {fs r : Parts} → Says w top (t ∷ us) d b (bound c fs r) → Says w top us d (b + 1) r
-  unfolding at cellFrom slotAt slots
+  bound-rest : {w : List ℕ} {ss : List Slot} {s : Slot} {top b c : ℕ} {fs r : Parts} → Says w top (s ∷ ss) b (bound c fs r) → Says w top ss (b + 1) r
+  unfolding at cellFrom slotAt
   bound-rest says = record {
     in-use = λ q. says .in-use (after q);
     head-free = λ q. says .head-free (after q);
@@ -69,45 +70,49 @@ module _ (file types : List ℕ) (bytes : (i : ℕ) → getD file i 0 ≤ 255) w
   }
 
   bound-fields :
-      {w us vs : List ℕ} {top t d b c : ℕ} {fs r : Parts} → fieldsIn file types t c ≡ some vs → Says w top (t ∷ us) d b (bound c fs r)
-      → Says w top vs (d - 1) (cellWord w b 1) fs
-  unfolding at cellFrom slotAt slots fieldSlots
-  bound-fields are says = record {
+      {w : List ℕ} {ss : List Slot} {s : Slot} {top b c : ℕ} {fs r : Parts} → Says w top (s ∷ ss) b (bound c fs r)
+      → Says w top (fieldSlots (map (typeAt file) types) (some s) c) (cellWord w b 1) fs
+  unfolding at cellFrom slotAt
+  bound-fields says = record {
     in-use = λ q. says .in-use (inside q);
     head-free = λ q. says .head-free (inside q);
     head-bound = λ q. says .head-bound (inside q);
-    type-is = λ q s there is. says .type-is (inside q) s there (rw are is);
+    type-is = λ q. says .type-is (inside q);
   }
 
   module _ (w : List ℕ) (top : ℕ) (few : top ≤ 1000000) where
     -- so the cells stand for the row
-    row-said : (row : Parts) (us : List ℕ) (d b : ℕ) → Typed (map (typeAt file) types) us row → Says w top us d b row → RowAt file types w row b (length us)
-    unfolding RowAt at cellFrom slotAt slots
-    row-said end [] d b typed says = refl
-    row-said end (t ∷ us) d b typed says = absurd typed
-    row-said (opened r) [] d b typed says = absurd typed
-    row-said (opened r) (t ∷ us) d b typed says =
-        let z : suc (length us) - 1 ≡ length us = omega arith in
-        (omega arith, omega (arith, says .in-use here tt), says .head-free here refl, rw z (row-said r us d (b + 1) typed (open-rest says)))
-    row-said (bound c fs r) [] d b typed says = absurd typed
-    row-said (bound c fs r) (t ∷ us) d b (vs, are, inner, outer) says =
-        let z : suc (length us) - 1 ≡ length us = omega arith in
-        let type : cellWord w b 2 ≡ t = says .type-is here (record { type = t; room = d }) tt refl in (
+    row-said :
+        (row : Parts) (ss : List Slot) (b : ℕ) → Typed (map (typeAt file) types) (slotTypes ss) row → Says w top ss b row
+        → RowAt file types w row b (length (slotTypes ss))
+    unfolding RowAt at cellFrom slotAt slotTypes
+    row-said end [] b typed says = refl
+    row-said end (s ∷ ss) b typed says = absurd typed
+    row-said (opened r) [] b typed says = absurd typed
+    row-said (opened r) (s ∷ ss) b typed says =
+        let z : suc (length (slotTypes ss)) - 1 ≡ length (slotTypes ss) = omega arith in
+        (omega arith, omega (arith, says .in-use here tt), says .head-free here refl, rw z (row-said r ss (b + 1) typed (open-rest says)))
+    row-said (bound c fs r) [] b typed says = absurd typed
+    row-said (bound c fs r) (s ∷ ss) b (vs, are, inner, outer) says =
+        let z : suc (length (slotTypes ss)) - 1 ≡ length (slotTypes ss) = omega arith in
+        let type : cellWord w b 2 ≡ s .type = says .type-is here s tt refl in
+        let fields = field-types (map (typeAt file) types) s c vs are in
+        let below = row-said fs (fieldSlots (map (typeAt file) types) (some s) c) (cellWord w b 1) (rw fields inner) (bound-fields says) in (
           omega arith,
           omega (arith, says .in-use here tt),
           says .head-bound here c _ refl,
-          number-small t c vs are,
-          (vs, rw type are, row-said fs vs (d - 1) (cellWord w b 1) inner (bound-fields are says)),
-          rw z (row-said r us d (b + 1) outer (bound-rest says)),
+          number-small (s .type) c vs are,
+          (vs, rw type are, rw (← fields) below),
+          rw z (row-said r ss (b + 1) outer (bound-rest says)),
         )
 
     -- the cells from cell 0 on stand for the row of the parameters
     module _ {parameters : ℕ} where
-      input-row : {ts : Types} {us : List ℕ} {d : ℕ} {e : Parts} → InputIn file types w parameters top ts us d e → RowAt file types w e 0 parameters
-      input-row {us = us} {d} {e} input =
+      input-row : {ts : Types} {ss : List Slot} {e : Parts} → InputIn file types w parameters top ts ss e → RowAt file types w e 0 parameters
+      input-row {ss = ss} {e} input =
           let typed = rw (input .types-there) at (input .typed) in
           let cells = rw (input .types-there) at (input .stands) in
-          rw (← input .counted) (row-said e us d 0 typed (record {
+          rw (← input .counted, ← types-length ss) (row-said e ss 0 typed (record {
             in-use = cells .in-use;
             head-free = cells .head-free;
             head-bound = cells .head-bound;
@@ -116,7 +121,7 @@ module _ (file types : List ℕ) (bytes : (i : ℕ) → getD file i 0 ≤ 255) w
 
       -- which fits where the entry does
       pub entry-fits : (place : ℕ) {room : ℕ} → Listable file types w parameters top → place + 6 + top ≤ room → RowFits file types w 0 parameters top (place + 6) room
-      entry-fits place ((ts, us, d, e, input), _) fits = record {
+      entry-fits place ((ts, ss, e, input), _) fits = record {
         row = e;
         there = input-row input;
         enough = omega (arith, input .stands .counted);
@@ -128,7 +133,7 @@ module _ (file types : List ℕ) (bytes : (i : ℕ) → getD file i 0 ≤ 255) w
           {n : ℕ} {m l′ : List ℕ} (kind : Kind) (steps place : ℕ) (l : List ℕ) → place + 6 + top ≤ length l → m ≡ sets l place (header kind steps top)
           → WroteRow file types w 0 parameters (place + 6) m l′ n
           → WroteEntry file types w parameters top kind steps place l l′ (Written.Behind n)
-      entry-written {n} {m} {l′} kind steps place l fits headed wrote ts us d e input =
+      entry-written {n} {m} {l′} kind steps place l fits headed wrote ts ss e input =
           let row = wrote .stored e (input-row input) in
           let count : length (prefix e) ≡ top = input .stands .counted in
           let behind : n ≡ place + 6 + length (prefix e) = row .0 in

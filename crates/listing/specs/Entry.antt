@@ -7,7 +7,7 @@ use lib.ListN.{length, take, drop}
 use Rattle.reach.specs.Syntax.{Types}
 use Rattle.reach.specs.Parts.{Parts}
 use Rattle.reach.specs.Places.{typeAt}
-use Rattle.reach.specs.Types.{Typed, slots}
+use Rattle.reach.specs.Types.{Typed, Slot, slotTypes}
 use Rattle.reach.specs.declared.Kind.{Kind}
 use Rattle.reach.specs.Search.{Entry}
 use Rattle.reach.specs.Lists.{entryBytes}
@@ -15,18 +15,18 @@ use Rattle.machine.specs.Cells.{Cells}
 use Rattle.listing.specs.declared.Written.{Written}
 use Rattle.listing.specs.declared.Written.the-variants as Written
 
--- The words stand for input e: its parameters have the types us and may be d deep, the types' records stand at the places of the table, and every
--- part has a constructor of its type.
-pub record InputIn (file types w : List ℕ) (parameters cells : ℕ) (ts : Types) (us : List ℕ) (d : ℕ) (e : Parts) : Type 0 where
+-- The words stand for input e: its parameters have these slots, the types' records stand at the places of the table, and every part has a constructor of
+-- its type.
+pub record InputIn (file types w : List ℕ) (parameters cells : ℕ) (ts : Types) (ss : List Slot) (e : Parts) : Type 0 where
   pub types-there : ts ≡ map (typeAt file) types
-  pub stands : Cells ts (slots us d) w cells e
-  pub typed : Typed ts us e
-  pub counted : length us ≡ parameters
+  pub stands : Cells ts ss w cells e
+  pub typed : Typed ts (slotTypes ss) e
+  pub counted : length ss ≡ parameters
 
 -- they stand for some input, and its cells are few enough to count with
 abbrev pub Listable : (file types w : List ℕ) (parameters cells : ℕ) → Type 0
 Listable file types w parameters cells =
-    ((ts : Types) × (us : List ℕ) × (d : ℕ) × (e : Parts) × InputIn file types w parameters cells ts us d e) × (cells ≤ 1000000)
+    ((ts : Types) × (ss : List Slot) × (e : Parts) × InputIn file types w parameters cells ts ss e) × (cells ≤ 1000000)
 
 -- the entry of an input
 abbrev pub entryFor : Kind → ℕ → Parts → Entry
@@ -41,4 +41,4 @@ WroteFor kind steps cells place l l′ e Written.Full = (length l < place + 6 + 
 -- so it is for every input that the words stand for
 abbrev pub WroteEntry : (file types w : List ℕ) (parameters cells : ℕ) (kind : Kind) (steps place : ℕ) (l l′ : List ℕ) → Written → Type 0
 WroteEntry file types w parameters cells kind steps place l l′ r =
-    (ts : Types) (us : List ℕ) (d : ℕ) (e : Parts) → InputIn file types w parameters cells ts us d e → WroteFor kind steps cells place l l′ e r
+    (ts : Types) (ss : List Slot) (e : Parts) → InputIn file types w parameters cells ts ss e → WroteFor kind steps cells place l l′ e r

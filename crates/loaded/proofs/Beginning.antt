@@ -10,7 +10,7 @@ use lib.ListN.{length, getD}
 use Rattle.reach.specs.Limits.{workWords}
 use Rattle.reach.specs.Syntax.{Function, Program, functionAt, sourceTypes}
 use Rattle.reach.specs.Parts.{allOpen}
-use Rattle.reach.specs.Types.{Typed, slots, sourceSlots}
+use Rattle.reach.specs.Types.{Typed, sourceSlots}
 use Rattle.reach.specs.Eval.{parameters, partOf, empty, inputParts, size, evaluating, startOf, start}
 use Rattle.reach.specs.RuleFile as RuleFile
 use Rattle.reach.specs.Places.{bytesAt, headAt, goalAt}
@@ -149,7 +149,7 @@ module _ {file types functions : List ℕ} {goal : ℕ} {p : Program} (given : G
               let few = parameters-few in
               let limited = limit-few in
               let same : length (opened .w₁) ≡ length w = opened .starts .same-length in
-              let open-there : Cells (p .types) (slots (sourceTypes p) (p .depth)) (opened .w₁) (head .count) (allOpen (head .count)) =
+              let open-there : Cells (p .types) (sourceSlots p) (opened .w₁) (head .count) (allOpen (head .count)) =
               rw (source-parameters, deep-is) at (opened .starts .stands (p .types)) in
               stands-start p base (head .body) (head .count) (body .0) (body .1) (body .2) many (omega arith) (omega arith) (omega (arith, limit-is)) (omega (arith, limit-is))
               open-there (opened .zeros) (opened .group) (steps-in p (allOpen (head .count)) (open-width (head .count) ∙ many) no-step)

@@ -1,10 +1,11 @@
 -- What both runs begin with: a checked file with its tables and its goal, and the words and registers at the beginning.
--- Rests on reach's Answers and Places, on cells' Writes, on machine's Records and on steps' Stepping.
+-- Rests on reach's Answers, Types and Places, on cells' Writes, on machine's Records and on steps' Stepping.
 use Prim.Native.Nat.{ℕ, _<_}
 use mathlib.Core.Path.{_≡_}
 use mathlib.Core.List.{List}
 use lib.ListN.{length, getD}
 use Rattle.reach.specs.Syntax.{Program, sourceTypes}
+use Rattle.reach.specs.Types.{slots}
 use Rattle.reach.specs.Places.{bytesAt, headAt, goalAt}
 use Rattle.reach.specs.Answers.{check, accepted}
 use Rattle.machine.specs.Records.{Wrote}
@@ -25,7 +26,7 @@ pub record GivenFile (file types functions : List ℕ) (goal : ℕ) (p : Program
 pub record Opened (file w w′ : List ℕ) (base first n depth : ℕ) : Type 0 where
   pub w₁ : List ℕ
   pub w₂ : List ℕ
-  pub starts : Starts w w₁ n (bytesAt file first n) depth
+  pub starts : Starts w w₁ n (slots (bytesAt file first n) depth)
   pub zeros : Wrote w₁ w₂ base 0 0 0 0 0
   pub group : Wrote w₂ w′ base 1 0 n 0 0
 

@@ -1,10 +1,10 @@
 -- The input in the lent words, kept: how the cells of a row are found, and that what the program writes to bind a part, to open it again
 -- or to add records above the cells leaves words that stand for the input, with every part in the cell where it was.
--- Rests on specs/Cells and on reach's laws of partial inputs (Order).
-use Prim.Native.Nat.{ℕ, zero, suc, _+_, _*_, _-_, _≤_, _<_}
+-- Rests on specs/Cells and on reach's laws of partial inputs (Order) and of slots (Slots).
+use Prim.Native.Nat.{ℕ, zero, suc, _+_, _*_, _≤_, _<_}
 use mathlib.Core.Path.{_≡_, refl, sym, _∙_, ap, subst}
-use mathlib.Core.List.{List, [], _∷_, head?, tail}
-use mathlib.Core.Option.{some, Option·some-injective}
+use mathlib.Core.List.{List, head?, tail}
+use mathlib.Core.Option.{some}
 use mathlib.Core.Logic.{_⊎_, inl, inr, _≢_}
 use native.Mathlib.Nat.{not-suc-le-zero, le-of-suc-le-suc}
 use native.Mathlib.Decide.{ℕ-discrete}
@@ -13,8 +13,9 @@ use lib.ListN.{length, getD, getElem?, length-append}
 use Rattle.reach.specs.Syntax.{Types, fieldTypes}
 use Rattle.reach.specs.Parts.{Parts, end, opened, bound, allOpen, Place, here, after, inside, part, within, Seen, gone, free, has, at, bindAt, HasAt, prefix, There}
 use Rattle.reach.specs.Types.{Slot, slots, fieldSlots, slotAt}
-use Rattle.reach.proofs.Order.{constructorOf, free-unbound, ⊑-width, bind-refines, open-unbound, bind-has, bind-new}
-use Rattle.machine.specs.Cells.{cellWord, cellFrom, cellOf, Cells, OpenCells, Binds, KeptBut, Unmoved}
+use Rattle.reach.proofs.Slots.{part-slot, field-slots}
+use Rattle.reach.proofs.Order.{constructorOf, free-unbound, ⊑-width, bind-refines, open-width, open-unbound, bind-has, bind-new}
+use Rattle.machine.specs.Cells.{cellWord, cellFrom, cellOf, SlotIn, Cells, OpenCells, Binds, KeptBut, Unmoved}
 
 -- Walking.
 
@@ -81,12 +82,7 @@ open-places (suc k) (after r) t =
 open-places (suc k) (inside r) t = absurd t
 
 open-slot : (types : Types) (k j : ℕ) (ss : List Slot) → j < k → slotAt types (allOpen k) (part j) ss ≡ getElem? ss j
-unfolding slotAt allOpen part
-open-slot types zero j ss l = absurd (not-suc-le-zero l)
-open-slot types (suc k) zero [] l = refl
-open-slot types (suc k) zero (s ∷ ss) l = refl
-open-slot types (suc k) (suc j) [] l = open-slot types k j [] (le-of-suc-le-suc l)
-open-slot types (suc k) (suc j) (s ∷ ss) l = open-slot types k j ss (le-of-suc-le-suc l)
+open-slot types k j ss l = part-slot types (allOpen k) j ss (omega (arith, l, open-width k))
 
 -- the fields of the bound part are open
 pub bind-field : (q : Place) (c k j : ℕ) (e : Parts) → at e q ≡ free → j < k → at (bindAt q c k e) (field q j) ≡ free
@@ -178,22 +174,6 @@ bind-field-slot types here c k j (bound d fs r) ss h l = not-free h
 bind-field-slot types (after q) c k j (bound d fs r) ss h l = bind-field-slot types q c k j r (tail ss) h l
 bind-field-slot types (inside q) c k j (bound d fs r) ss h l = bind-field-slot types q c k j fs (fieldSlots types (head? ss) d) h l
 
--- of slots of one depth, each has its type and that depth
-nth-slot : (ts : List ℕ) (d j : ℕ) → j < length ts → getElem? (slots ts d) j ≡ some (record { type = getD ts j 0; room = d })
-unfolding slots
-nth-slot [] d j l = absurd (not-suc-le-zero l)
-nth-slot (t ∷ ts) d zero l = refl
-nth-slot (t ∷ ts) d (suc j) l = nth-slot ts d j (le-of-suc-le-suc l)
-
--- the slots of a constructor's fields are one less deep
-field-slots :
-    (types : Types) (s : Slot) (c d : ℕ) (us : List ℕ) → s .room ≡ suc d → fieldTypes types (s .type) c ≡ some us
-    → slots us d ≡ fieldSlots types (some s) c
-unfolding fieldSlots
-field-slots types s c d us h g =
-    let z : s .room - 1 ≡ d = omega (arith, h) in
-    rw (g, z)
-
 -- a row of n open parts has n parts
 open-length : (n : ℕ) → length (prefix (allOpen n)) ≡ n
 unfolding allOpen prefix
@@ -253,20 +233,12 @@ bind-walks {w′ = w′} q cells unbound binds =
     let old = unmoved q cells unbound (bind-keeps binds) in
     (old, λ j. walk-field w′ q j ∙ rw (old q (free-there unbound), binds .first-field))
 
--- an open cell says what the slot of its number is
-open-says :
-    {w ts : List ℕ} {b k d : ℕ} {s : Slot} → OpenCells w b k ts d → k ≡ length ts → (j : ℕ) → j < k → getElem? (slots ts d) j ≡ some s
-    → (cellWord w (b + j) 2 ≡ s .type) × (cellWord w (b + j) 3 ≡ s .room)
-open-says {ts = ts} {d = d} cells count j l h =
-    let same = Option·some-injective _ _ (sym (nth-slot ts d j (omega arith)) ∙ h) in
-    rw (← same) (cells .type-of j l, cells .room-of j l)
-
 -- the words after a bind stand for the input with the part bound
 pub bind-cells :
     {types : Types} {ss : List Slot} {w w′ us : List ℕ} {top c k d : ℕ} {e : Parts} {s : Slot} (q : Place) → Cells types ss w top e → at e q ≡ free
-    → slotAt types e q ss ≡ some s → s .room ≡ suc d → fieldTypes types (s .type) c ≡ some us → k ≡ length us → 5 * (top + k) ≤ length w
+    → slotAt types e q ss ≡ some s → s .room ≡ suc d → fieldTypes types (s .type) c ≡ some us → 5 * (top + k) ≤ length w
     → Binds w w′ (cellOf w q) c top k us d → Cells types ss w′ (top + k) (bindAt q c k e)
-bind-cells {types} {ss} {w} {w′} {us} {top} {c} {k} {d} {e} {s} q cells unbound known room typed count fits binds = record {
+bind-cells {types} {ss} {w} {w′} {us} {top} {c} {k} {d} {e} {s} q cells unbound known room typed fits binds = record {
   fits = rw (binds .same-length) fits;
   counted = bind-length-exact q c k e unbound ∙ ap (λ n. n + k) (cells .counted);
   in-use = λ r t. use-of r (places r t);
@@ -314,20 +286,19 @@ bind-cells {types} {ss} {w} {w′} {us} {top} {c} {k} {d} {e} {s} q cells unboun
         rw (same, old q (free-there unbound), ← number) (binds .new-head)
 
     field-slot : (r : Place) (f : OneOf k (field q) r) → slotAt types (bindAt q c k e) r ss ≡ getElem? (slots us d) (f .0)
-    field-slot r f = rw (f .2, field-slots types s c d us room typed, ← known) (bind-field-slot types q c k (f .0) e ss unbound (f .1))
+    field-slot r f = rw (f .2, ← field-slots types s c d us (omega (arith, room)) typed, ← known) (bind-field-slot types q c k (f .0) e ss unbound (f .1))
 
-    slot-of : (r : Place) (z : Slot) → slotAt types (bindAt q c k e) r ss ≡ some z → There (at e r) ⊎ OneOf k (field q) r
-        → (cellWord w′ (cellOf w′ r) 2 ≡ z .type) × (cellWord w′ (cellOf w′ r) 3 ≡ z .room)
+    slot-of : (r : Place) (z : Slot) → slotAt types (bindAt q c k e) r ss ≡ some z → There (at e r) ⊎ OneOf k (field q) r → SlotIn w′ (cellOf w′ r) z
     slot-of r z h (inl t) =
         let before = cells .slot r z t (sym (bind-slot types q c k e r ss t) ∙ h) in
         let kept = slot-kept q cells unbound keeps r t in
         rw (old r t) (kept 2 (omega arith) (omega arith) ∙ before .0, kept 3 (omega arith) (omega arith) ∙ before .1)
-    slot-of r z h (inr f) = rw (new r f) (open-says (binds .fields) count (f .0) (f .1) (sym (field-slot r f) ∙ h))
+    slot-of r z h (inr f) = rw (new r f) (binds .fields .slot-of (f .0) (f .1) z (sym (field-slot r f) ∙ h))
 
 -- open cells from cell 0 on stand for the input with every parameter open
 pub start-cells :
-    {types : Types} {w ts : List ℕ} {n d : ℕ} → n ≡ length ts → 5 * n ≤ length w → OpenCells w 0 n ts d → Cells types (slots ts d) w n (allOpen n)
-start-cells {types} {w} {ts} {n} {d} count fits cells = record {
+    {types : Types} {ss : List Slot} {w : List ℕ} {n : ℕ} → 5 * n ≤ length w → OpenCells w 0 n ss → Cells types ss w n (allOpen n)
+start-cells {types} {ss} {w} {n} fits cells = record {
   fits = fits;
   counted = open-length n;
   in-use = λ r t. use-of r (open-places n r t);
@@ -351,11 +322,10 @@ start-cells {types} {w} {ts} {n} {d} count fits cells = record {
     free-of : (r : Place) → OneOf n part r → cellWord w (cellOf w r) 0 ≡ 0
     free-of r f = rw (cell r f) (cells .no-head (f .0) (f .1))
 
-    slot-of : (r : Place) (s : Slot) → slotAt types (allOpen n) r (slots ts d) ≡ some s → OneOf n part r
-        → (cellWord w (cellOf w r) 2 ≡ s .type) × (cellWord w (cellOf w r) 3 ≡ s .room)
+    slot-of : (r : Place) (s : Slot) → slotAt types (allOpen n) r ss ≡ some s → OneOf n part r → SlotIn w (cellOf w r) s
     slot-of r s h f =
-        let place = ap (λ p. slotAt types (allOpen n) p (slots ts d)) (f .2) in
-        rw (cell r f) (open-says cells count (f .0) (f .1) (sym (open-slot types n (f .0) (slots ts d) (f .1)) ∙ sym place ∙ h))
+        let place = ap (λ p. slotAt types (allOpen n) p ss) (f .2) in
+        rw (cell r f) (cells .slot-of (f .0) (f .1) s (sym (open-slot types n (f .0) ss (f .1)) ∙ sym place ∙ h))
 
 -- Words that stand for the input as before.
 

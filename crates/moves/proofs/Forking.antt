@@ -7,16 +7,17 @@ use mathlib.Core.List.{List, _∷_}
 use mathlib.Core.Option.{some, Option·some-injective}
 use native.Mathlib.Omega.{arith}
 use lib.ListN.{length}
-use Rattle.reach.specs.Syntax.{Program, sourceTypes}
+use Rattle.reach.specs.Limits.{depthLimit}
+use Rattle.reach.specs.Syntax.{Program}
 use Rattle.reach.specs.Parts.{Parts, bindAt}
-use Rattle.reach.specs.Types.{sourceSlots, leastDepths}
+use Rattle.reach.specs.Types.{leastDepths}
 use Rattle.reach.specs.Places.{bytesAt}
 use Rattle.reach.specs.Eval as Eval
 use Rattle.reach.specs.Eval.{answered}
 use Rattle.reach.specs.Search.{Entry}
 use Rattle.reach.specs.Moves as Model
 use Rattle.reach.specs.Moves.{Choice, takeFork}
-use Rattle.reach.proofs.Limits.{accepted-keeps}
+use Rattle.reach.proofs.Limits.{accepted-keeps, accepted-rooms}
 use Rattle.reach.proofs.NeverStuck.{never-stuck}
 use Rattle.reach.proofs.Places.{bytes-length}
 use Rattle.machine.specs.Cells.{cellWord, cellOf, Binds}
@@ -74,15 +75,15 @@ module _ {g : Setting} (given : Given g) {w : List ℕ} {h n i k : ℕ} (f : For
 
   -- the cell may be no deeper than a parameter
   shallow : cellWord w x 3 ≤ 255
-  unfolding sourceSlots
   shallow =
       let at-h = f .next-at .choice-at in
       let found = never-stuck (g .file) (g .program) (given .checked) (c .input) (at-h .path .typed) (at-h .path .steps) .1 (c .question) (at-h .asks) in
-      let low = cell-room (sourceTypes (g .program)) (g .program .depth) (c .question .place) (at-h .path .stands .input) (there at-h) (found .1 .1) in
+      let rooms = accepted-rooms (g .file) (g .program) (given .checked) in
+      let low = cell-room depthLimit (c .question .place) rooms (at-h .path .stands .input) (there at-h) (found .1 .1) in
       let same : cellWord (reopened (g .stack) w h) x 3 ≡ cellWord w x 3 = reopened-other g w h (5 * x + 3) (omega arith) (omega arith) in
       let moved : cellWord (reopened (g .stack) w h) (cellOf (reopened (g .stack) w h) (c .question .place)) 3 ≡ cellWord (reopened (g .stack) w h) x 3 =
       ap (λ y. cellWord (reopened (g .stack) w h) y 3) (at-h .cell-is) in
-      omega (arith, accepted-keeps (g .file) (g .program) (given .checked) .depth-limit .1)
+      omega arith
 
   pub height-few : h ≤ 4096
   height-few = height-small given (f .next-at .choice-at)

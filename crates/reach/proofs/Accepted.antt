@@ -1,7 +1,7 @@
 -- The entries of an accepted file, cut by no room: each is true, each input within the depth that is reached or unfinished completes one,
 -- no two share a closed input, every bound part makes the evaluation halt when it is opened, and every entry has a completion within the
 -- depth. Demands takes these over to the list that a search returns.
--- Rests on Completing, Depths, Entries and Cover for a search from any state, and on Limits and Answers for files.
+-- Rests on Completing, Slots, Depths, Entries and Cover for a search from any state, and on Limits and Answers for files.
 use Prim.Native.Nat.{ℕ, _<_}
 use mathlib.Core.Path.{_≡_, refl, sym, _∙_, ap, subst}
 use mathlib.Core.Logic.{_↔_, _≢_}
@@ -24,7 +24,8 @@ use Rattle.reach.specs.Answers.{Checked, accepted, turnedBack, check, Se
 use Rattle.reach.proofs.Base.{clash, nth-member}
 use Rattle.reach.proofs.Order.{open-width, open-unbound, open-least}
 use Rattle.reach.proofs.Completing.{below-completes, completes-below}
-use Rattle.reach.proofs.Depths.{Fit, open-fit, bind-fit, fit-typed, typed-fit, typed-width, fits-depth, completion}
+use Rattle.reach.proofs.Slots.{source-types, source-length}
+use Rattle.reach.proofs.Depths.{Fit, Roomy, shallow-roomy, open-fit, bind-fit, fit-typed, typed-fit, typed-width, completion}
 use Rattle.reach.specs.States.{StateIn}
 use Rattle.reach.proofs.Evaluation.{start-in, waits-free}
 use Rattle.reach.proofs.Entries.{Finds, at-target, at-limit, at-limit-waiting, by-step, by-fork, entry-found, entry-holds, entry-reopens}
@@ -42,9 +43,13 @@ module _ (file : List ℕ) (p : Program) (h : check file ≡ accepted p) where
   start-there : StateIn (openInput p) (start p)
   start-there = start-in p (openInput p) start-width
 
+  source-roomy : Roomy (p .types) (sourceSlots p)
+  unfolding sourceSlots deepEnough
+  source-roomy = shallow-roomy (p .types) (sourceTypes p) (p .depth) ((accepted-keeps file p h) .deep-enough)
+
   start-fit : Fit (p .types) (sourceSlots p) (openInput p)
-  unfolding openInput sourceSlots deepEnough
-  start-fit = open-fit (p .types) (sourceTypes p) (p .depth) ((accepted-keeps file p h) .deep-enough)
+  unfolding openInput
+  start-fit = subst (λ (n : ℕ). Fit (p .types) (sourceSlots p) (allOpen n)) (source-length p) (open-fit (p .types) (sourceSlots p) source-roomy)
 
   -- a fork keeps to the depth, so that every entry fits
   found-fit : {left n : ℕ} {i : Parts} {s : State} {e : Entry} → Finds p (leastDepths (p .types)) left n i s e
@@ -61,8 +66,7 @@ module _ (file : List ℕ) (p : Program) (h : check file ≡ accepted p) where
 
   -- every entry has the source's types
   pub entry-typed : (e : Entry) → e ∈ entries p → Typed (p .types) (sourceTypes p) (e .input)
-  unfolding sourceSlots
-  entry-typed e m = (fit-typed (p .types) (sourceTypes p) (p .depth) (e .input) (entry-fit e m)) .0
+  entry-typed e m = rw (← source-types p) (fit-typed (p .types) (sourceSlots p) (e .input) (entry-fit e m) .0)
 
   -- so that to complete it is to bind at least what it binds
   completing : (e : Entry) → e ∈ entries p → (j : Parts) → ClosedInput p j → Completes j (e .input) → e .input ⊑ j
@@ -80,10 +84,9 @@ module _ (file : List ℕ) (p : Program) (h : check file ≡ accepted p) where
 
   -- every closed input within the depth that is reached or unfinished completes an entry
   pub entries-cover : (j : Parts) → WithinDepth p j → ReachedOrUnfinished (run p j) → (e : Entry) × (e ∈ entries p) × Completes j (e .input)
-  unfolding run entries sourceSlots
+  unfolding run entries
   entries-cover j w t =
-      let shallow = fits-depth (p .types) (sourceTypes p) (p .depth) j (w .0 .1) .0 (w .1) in
-      let fit = typed-fit (p .types) (sourceTypes p) (p .depth) j (w .0 .0) (w .0 .1) shallow in
+      let fit = typed-fit (p .types) (sourceSlots p) j (w .0 .0) (rw (source-types p) (w .0 .1)) (w .1) in
       let found = covers p (p .steps) 0 (openInput p) (start p) j (open-below j (w .0)) (w .0 .0) fit start-there t in
       (found .0, found .1, below-completes (found .2))
 
@@ -105,11 +108,10 @@ module _ (file : List ℕ) (p : Program) (h : check file ≡ accepted p) where
 
   -- every entry has a completion within the depth
   pub entries-inhabited : (e : Entry) → e ∈ entries p → (j : Parts) × WithinDepth p j × Completes j (e .input)
-  unfolding sourceSlots
   entries-inhabited e m =
       let (j, below, closed, fit) = completion (p .types) (sourceSlots p) (e .input) (entry-fit e m) in
-      let typed = fit-typed (p .types) (sourceTypes p) (p .depth) j fit in
-      (j, ((closed, typed .0), fits-depth (p .types) (sourceTypes p) (p .depth) j (typed .0) .1 (typed .1)), below-completes below)
+      let typed = fit-typed (p .types) (sourceSlots p) j fit in
+      (j, ((closed, rw (← source-types p) (typed .0)), typed .1), below-completes below)
 
   -- there is no entry exactly where every closed input within the depth stops inside the limit
   no-entries : (entries p ≡ []) ↔ ((j : Parts) → WithinDepth p j → StopsInside (run p j))

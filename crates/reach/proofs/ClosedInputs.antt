@@ -15,7 +15,7 @@ use borrow.Author.Tests.{ltb-true, ltb-false, lt-ltb, le-ltb}
 use Rattle.reach.specs.declared.Refusal.the-variants.{BadInput}
 use Rattle.reach.specs.Syntax.{Types, Program, fieldTypes, sourceTypes}
 use Rattle.reach.specs.Parts.{Parts, end, opened, bound, Closed, depth, prefix}
-use Rattle.reach.specs.Types.{Typed, slots, sourceSlots, Fits, WithinDepth}
+use Rattle.reach.specs.Types.{Typed, sourceSlots, Fits, WithinDepth}
 use Rattle.reach.specs.Reader.{Got, got, refused, onGot, Reader, _>>=_, _>>_, give, byte, atEnd}
 use Rattle.reach.specs.Input.{orBad, rowBy, row, inputOf}
 use Rattle.reach.proofs.Base.{clash, picked}
@@ -36,7 +36,7 @@ within-row p j = (
   λ row. ((row .closed, row .typed), (fits (row .typed)) .1 (row .shallow)),
 )
   where
-    fits : Typed (p .types) (sourceTypes p) j → Fits (slots (sourceTypes p) (p .depth)) j ↔ (depth j ≤ p .depth)
+    fits : Typed (p .types) (sourceTypes p) j → Fits (sourceSlots p) j ↔ (depth j ≤ p .depth)
     fits t = fits-depth (p .types) (sourceTypes p) (p .depth) j t
 
 -- From the reader to the bytes: what it finds is such a row, and the bytes begin with the row's prefix form.

@@ -1,6 +1,6 @@
 -- The inputs of a search keep to their types and depths: every open part has a completion that fits, and a closed input within the depth
 -- goes to one of the constructors of each fork.
--- Rests on Order for places and on LeastDepths for what the table of least depths says.
+-- Rests on Order for places, on Slots for the slots of a row and on LeastDepths for what the table of least depths says.
 use Prim.Native.Nat.{ℕ, zero, suc, _+_, _-_, _≤_}
 use mathlib.Core.Path.{_≡_, refl, sym, _∙_, ap, subst}
 use mathlib.Core.Bool.{true}
@@ -9,14 +9,15 @@ use mathlib.Core.Option.{some, Option·some-injective, Option·none-ne-some}
 use mathlib.Core.Logic.{_↔_, ⊎-elim}
 use lib.ListN.{length, getD, getElem?}
 use native.Mathlib.Omega.{arith}
-use Rattle.reach.specs.Base.{_∈_}
+use Rattle.reach.specs.Base.{_∈_, Each}
 use Rattle.reach.specs.Syntax.{Types, fieldTypes}
 use Rattle.reach.specs.Parts.{Parts, end, opened, bound, width, allOpen, Place, here, after, inside, There}
 use Rattle.reach.specs.Parts.{free, has, at, bindAt, Closed, depth, _⊑_, ⊑-end, ⊑-open, ⊑-bind, ⊑-same}
-use Rattle.reach.specs.Types.{Typed, Slot, slots, fieldSlots, slotAt, Fits, leastDepths, shallow, Fork, forksFrom, forks, forksAt}
+use Rattle.reach.specs.Types.{Typed, Slot, slots, slotTypes, slotAt, Fits, leastDepths, shallow, Fork, forksFrom, forks, forksAt}
 use Rattle.reach.proofs.Base.{picked}
 use Rattle.reach.proofs.Order.{free-unbound}
 use Rattle.reach.proofs.LeastDepths.{shallow-head, shallow-cons, shallow-covers, shallow-filled}
+use Rattle.reach.proofs.Slots.{slots-types, slots-length, field-slots}
 
 -- A fork takes a constructor of the type, counted from c, whose fields all have a value that fits below.
 abbrev pub Taken : List ℕ → ℕ → ℕ → List (List ℕ) → Fork → Type 0
@@ -66,38 +67,23 @@ Fit types (s ∷ ss) (bound c fs r) =
     (d : ℕ) × (us : List ℕ) × (s .room ≡ suc d) × (fieldTypes types (s .type) c ≡ some us) × Fit types (slots us d) fs × Fit types ss r
 
 module _ (types : Types) where
-  -- open parts fit where each type has a value that fits
-  pub open-fit : (ts : List ℕ) (d : ℕ) → shallow (leastDepths types) d ts ≡ true → Fit types (slots ts d) (allOpen (length ts))
-  unfolding slots allOpen
-  open-fit [] d h = tt
-  open-fit (t ∷ ts) d h =
+  -- every slot has a closed value that fits there
+  abbrev pub Roomy : List Slot → Type 0
+  Roomy ss = Each (λ (s : Slot). shallow (leastDepths types) (s .room) (s .type ∷ []) ≡ true) ss
+
+  -- slots of one depth do where the table says so of their types
+  pub shallow-roomy : (ts : List ℕ) (d : ℕ) → shallow (leastDepths types) d ts ≡ true → Roomy (slots ts d)
+  unfolding slots
+  shallow-roomy [] d h = tt
+  shallow-roomy (t ∷ ts) d h =
       let first = shallow-head (leastDepths types) d t ts h in
-      (shallow-cons (leastDepths types) d t (first .0) [] (first .1) (first .2) (unfold shallow in refl), open-fit ts d (first .3))
+      (shallow-cons (leastDepths types) d t (first .0) [] (first .1) (first .2) (unfold shallow in refl), shallow-roomy ts d (first .3))
 
-  -- a row that fits has the types and is at most d deep
-  pub fit-typed : (ts : List ℕ) (d : ℕ) (e : Parts) → Fit types (slots ts d) e → Typed types ts e × (depth e ≤ d)
-  unfolding slots depth
-  fit-typed [] d end h = (tt, omega arith)
-  fit-typed [] d (opened r) h = absurd h
-  fit-typed [] d (bound c fs r) h = absurd h
-  fit-typed (t ∷ ts) d end h = absurd h
-  fit-typed (t ∷ ts) d (opened r) h = fit-typed ts d r (h .1)
-  fit-typed (t ∷ ts) d (bound c fs r) h =
-      let inner = fit-typed (h .1) (h .0) fs (h .4) in
-      let rest = fit-typed ts d r (h .5) in
-      ((h .1, h .3, inner .0, rest .0), omega (arith, inner .1, rest .1, h .2))
-
-  -- and a closed row that has the types and is at most d deep fits
-  pub typed-fit : (ts : List ℕ) (d : ℕ) (e : Parts) → Closed e → Typed types ts e → depth e ≤ d → Fit types (slots ts d) e
-  unfolding slots depth
-  typed-fit [] d end z h l = tt
-  typed-fit [] d (opened r) z h l = absurd h
-  typed-fit [] d (bound c fs r) z h l = absurd h
-  typed-fit (t ∷ ts) d end z h l = absurd h
-  typed-fit (t ∷ ts) d (opened r) z h l = absurd z
-  typed-fit (t ∷ ts) zero (bound c fs r) z h l = absurd (omega (arith, l))
-  typed-fit (t ∷ ts) (suc d) (bound c fs r) z h l =
-      (d, h .0, refl, h .1, typed-fit (h .0) d fs (z .0) (h .2) (omega (arith, l)), typed-fit ts (suc d) r (z .1) (h .3) (omega (arith, l)))
+  -- open parts fit such slots
+  pub open-fit : (ss : List Slot) → Roomy ss → Fit types ss (allOpen (length ss))
+  unfolding allOpen
+  open-fit [] h = tt
+  open-fit (s ∷ ss) h = (h .0, open-fit ss (h .1))
 
   -- a row has as many parts as types
   pub typed-width : (ts : List ℕ) (e : Parts) → Typed types ts e → width e ≡ length ts
@@ -121,13 +107,35 @@ module _ (types : Types) where
       let rest = fits-depth ts d r (h .3) in
       (λ f. omega (arith, f .0, rest .0 (f .1)), λ l. (omega arith, rest .1 (omega arith)))
 
-  -- the fields' slots of a bound part that fits
-  field-slots : (s : Slot) (c d : ℕ) (us : List ℕ) → s .room ≡ suc d → fieldTypes types (s .type) c ≡ some us
-      → slots us d ≡ fieldSlots types (some s) c
-  unfolding fieldSlots
-  field-slots s c d us h g =
-      let z : s .room - 1 ≡ d = omega (arith, h) in
-      rw (g, z)
+  -- so of slots of one depth it is enough to know the types and the depth of the row
+  one-depth : (ts : List ℕ) (d : ℕ) (e : Parts) → (Typed types (slotTypes (slots ts d)) e × Fits (slots ts d) e) ↔ (Typed types ts e × (depth e ≤ d))
+  one-depth ts d e = rw (slots-types ts d) (λ h. (h .0, fits-depth ts d e (h .0) .0 (h .1)), λ h. (h .0, fits-depth ts d e (h .0) .1 (h .1)))
+
+  -- a row that fits has the types of its slots, and each part is at most as deep as its slot allows
+  pub fit-typed : (ss : List Slot) (e : Parts) → Fit types ss e → Typed types (slotTypes ss) e × Fits ss e
+  unfolding slotTypes
+  fit-typed [] end h = (tt, tt)
+  fit-typed [] (opened r) h = absurd h
+  fit-typed [] (bound c fs r) h = absurd h
+  fit-typed (s ∷ ss) end h = absurd h
+  fit-typed (s ∷ ss) (opened r) h = fit-typed ss r (h .1)
+  fit-typed (s ∷ ss) (bound c fs r) h =
+      let inner = one-depth (h .1) (h .0) fs .0 (fit-typed (slots (h .1) (h .0)) fs (h .4)) in
+      let rest = fit-typed ss r (h .5) in
+      ((h .1, h .3, inner .0, rest .0), (omega (arith, inner .1, h .2), rest .1))
+
+  -- and a closed row of which both is so fits
+  pub typed-fit : (ss : List Slot) (e : Parts) → Closed e → Typed types (slotTypes ss) e → Fits ss e → Fit types ss e
+  unfolding slotTypes
+  typed-fit [] end z h l = tt
+  typed-fit [] (opened r) z h l = absurd h
+  typed-fit [] (bound c fs r) z h l = absurd h
+  typed-fit (s ∷ ss) end z h l = absurd h
+  typed-fit (s ∷ ss) (opened r) z h l = absurd z
+  typed-fit (s ∷ ss) (bound c fs r) z h l =
+      let d = s .room - 1 in
+      let inner = one-depth (h .0) d fs .1 (h .2, omega (arith, l .0)) in
+      (d, h .0, omega (arith, l .0), h .1, typed-fit (slots (h .0) d) fs (z .0) (inner .0) (inner .1), typed-fit ss r (z .1) (h .3) (l .1))
 
   -- what a fork takes in a slot: a constructor of its type whose fields all have a value that fits below
   abbrev pub TakenIn : Slot → Fork → Type 0
@@ -162,15 +170,17 @@ module _ (types : Types) where
   bind-fit [] (opened r) q f h g m = absurd h
   bind-fit (s ∷ ss) (opened r) here f h g m =
       let k = forks-of s f m in
-      (k .0, k .1, k .2, k .3, subst (λ (n : ℕ). Fit types (slots (k .1) (k .0)) (allOpen n)) (sym (k .4)) (open-fit (k .1) (k .0) (k .5)), h .1)
+      let open-fields = open-fit (slots (k .1) (k .0)) (shallow-roomy (k .1) (k .0) (k .5)) in
+      let many : length (slots (k .1) (k .0)) ≡ f .fields = slots-length (k .1) (k .0) ∙ sym (k .4) in
+      (k .0, k .1, k .2, k .3, subst (λ (n : ℕ). Fit types (slots (k .1) (k .0)) (allOpen n)) many open-fields, h .1)
   bind-fit (s ∷ ss) (opened r) (after q) f h g m = (h .0, bind-fit ss r q f (h .1) g m)
   bind-fit (s ∷ ss) (opened r) (inside q) f h g m = h
   bind-fit [] (bound c fs r) q f h g m = absurd h
   bind-fit (s ∷ ss) (bound c fs r) here f h g m = h
   bind-fit (s ∷ ss) (bound c fs r) (after q) f h g m = (h .0, h .1, h .2, h .3, h .4, bind-fit ss r q f (h .5) g m)
   bind-fit (s ∷ ss) (bound c fs r) (inside q) f h g m =
-      let same = field-slots s c (h .0) (h .1) (h .2) (h .3) in
-      let taken = subst (λ (x : List Slot). f ∈ forksAt types (leastDepths types) (slotAt types fs q x)) (sym same) m in
+      let same = field-slots types s c (h .0) (h .1) (omega (arith, h .2)) (h .3) in
+      let taken = subst (λ (x : List Slot). f ∈ forksAt types (leastDepths types) (slotAt types fs q x)) same m in
       (h .0, h .1, h .2, h .3, bind-fit (slots (h .1) (h .0)) fs q f (h .4) g taken, h .5)
 
   -- where a row is open, a closed row that completes it and fits has one of the fork's constructors
@@ -181,7 +191,7 @@ module _ (types : Types) where
   fork-covers ss (⊑-open a) z h q g = absurd z
   fork-covers [] (⊑-bind a) z h q g = absurd h
   fork-covers (s ∷ ss) (⊑-bind {gs = gs} {d = c} a) z h here g =
-      let typed = fit-typed (h .1) (h .0) gs (h .4) in
+      let typed = one-depth (h .1) (h .0) gs .0 (fit-typed (slots (h .1) (h .0)) gs (h .4)) in
       let small = shallow-covers types (h .1) gs (h .0) (z .0) (typed .0) (typed .1) in
       (c, width gs, refl, of-forks s _ (h .0, h .1, h .2, h .3, typed-width (h .1) gs (typed .0), small))
   fork-covers (s ∷ ss) (⊑-bind a) z h (after q) g = fork-covers ss a (z .1) (h .5) q g
@@ -190,7 +200,7 @@ module _ (types : Types) where
   fork-covers (s ∷ ss) (⊑-same f a) z h here g = absurd (free-unbound (sym g))
   fork-covers (s ∷ ss) (⊑-same f a) z h (after q) g = fork-covers ss a (z .1) (h .5) q g
   fork-covers (s ∷ ss) (⊑-same {c = c} f a) z h (inside q) g =
-      rw (← field-slots s c (h .0) (h .1) (h .2) (h .3)) (fork-covers (slots (h .1) (h .0)) f (z .0) (h .4) q g)
+      rw (field-slots types s c (h .0) (h .1) (omega (arith, h .2)) (h .3)) (fork-covers (slots (h .1) (h .0)) f (z .0) (h .4) q g)
 
   -- a closed value that is at most n deep, taken apart
   single : (t n : ℕ) (v : Parts) → Closed v → Typed types (t ∷ []) v → depth v ≤ n
@@ -199,7 +209,9 @@ module _ (types : Types) where
   single t n end z h l = absurd h
   single t n (opened r) z h l = absurd z
   single t zero (bound c gs r) z h l = absurd (omega (arith, l))
-  single t (suc d) (bound c gs r) z h l = (c, gs, z .0, (d, h .0, refl, h .1, typed-fit (h .0) d gs (z .0) (h .2) (omega (arith, l))))
+  single t (suc d) (bound c gs r) z h l =
+      let inner = one-depth (h .0) d gs .1 (h .2, omega (arith, l)) in
+      (c, gs, z .0, (d, h .0, refl, h .1, typed-fit (slots (h .0) d) gs (z .0) (inner .0) (inner .1)))
 
   -- every input that fits has a completion that fits
   pub completion : (ss : List Slot) (e : Parts) → Fit types ss e → (j : Parts) × (e ⊑ j) × Closed j × Fit types ss j

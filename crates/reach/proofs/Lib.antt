@@ -4,6 +4,7 @@ pub mod Tests
 pub mod Order
 pub mod Completing
 pub mod LeastDepths
+pub mod Slots
 pub mod Depths
 pub mod Evaluation
 pub mod Entries

@@ -1,6 +1,6 @@
 -- What an accepted file keeps to: the limits of 01, no type without a closed value, and parameters that fit the depth.
 -- Each reader promises a fact of whatever it finds; the promises are joined along the reader's own text.
--- Rests on Reader, RuleFile and Answers of specs/.
+-- Rests on Reader, RuleFile and Answers of specs/ and on Slots.
 use Prim.Native.Nat.{ℕ, zero, suc, pred, _≤_, zero-le, suc-le-suc}
 use mathlib.Core.Path.{_≡_, refl, subst}
 use mathlib.Core.Bool.{Bool, true, _&&_, and-eq-true-iff}
@@ -14,13 +14,14 @@ use Rattle.reach.specs.declared.Refusal.{Refusal}
 use Rattle.reach.specs.declared.Refusal.the-variants.{OutOfRange, UnknownNumber, TrailingBytes, EmptyType, DepthTooSmall}
 use Rattle.reach.specs.Limits.{typeLimit, constructorLimit, fieldLimit, functionLimit, parameterLimit, bodyLimit, depthLimit, stepLimit}
 use Rattle.reach.specs.Syntax.{Function, Program, fieldTypes, functionAt, parametersOf, sourceTypes}
-use Rattle.reach.specs.Types.{leastDepths}
+use Rattle.reach.specs.Types.{Slot, sourceSlots, leastDepths}
 use Rattle.reach.specs.Reader.{Got, got, refused, onGot, Reader, _>>=_, _>>_, give, refuse, demand, byte, word, times, passed, atEnd}
 use Rattle.reach.specs.RuleFile.{Mark, TY, FN, GO, other, onMark, mark, counted, constructorRecord, typeRecord, Head, functionRecord, Goal, goalRecord}
 use Rattle.reach.specs.RuleFile.{moreTypes, moreFunctions, Declarations, Outline, outline, numbersExist, bodyOf, functionsOf, programOf, noEmptyType, deepEnough, sizeInLimit, ruleFile}
 use Rattle.reach.specs.Answers.{accepted, turnedBack, check}
 use Rattle.reach.specs.Base.{Each}
 use Rattle.reach.proofs.Base.{clash, picked, nth-member, each-member, each-getD}
+use Rattle.reach.proofs.Slots.{slots-each}
 
 -- the fact holds of the value that was found and of the place behind it, if one was
 abbrev pub IfFound : {A : Type 0} → (A → ℕ → Type 0) → Got A → Type 0
@@ -261,3 +262,8 @@ accepting (refused why) p kept e = absurd (clash (cc))
 pub accepted-keeps : (file : List ℕ) (p : Program) → check file ≡ accepted p → Kept p
 unfolding check
 accepted-keeps file p e = accepting (ruleFile file 0) p (file-kept .found file 0) e
+
+-- none of its parameters may be deeper than 64
+pub accepted-rooms : (file : List ℕ) (p : Program) → check file ≡ accepted p → Each (λ (s : Slot). s .room ≤ depthLimit) (sourceSlots p)
+unfolding sourceSlots
+accepted-rooms file p h = slots-each _ (sourceTypes p) (p .depth) (λ t. (accepted-keeps file p h) .depth-limit .1)

@@ -1,7 +1,7 @@
 -- An accepted program never gets stuck: from the source's start on any input of the source's types, closed or partial, every number that
 -- a step follows names something, every constructor meets a case on its own type, and its fields are as many as the alternative expects.
 -- Every state that is reached is typed; each step keeps it so.
--- Rests on specs/States, on WellTyped, and on Eval and Types.
+-- Rests on specs/States, on WellTyped and Slots, and on Eval and Types.
 use Prim.Native.Nat.{ℕ, zero, suc, _+_, _-_, _<_, zero-le}
 use mathlib.Core.Path.{_≡_, refl, sym, _∙_, ap, subst}
 use mathlib.Core.Bool.{Bool, true, false}
@@ -16,11 +16,12 @@ use Rattle.reach.specs.States.{Steps, no-step, one-more, PartHas, CaseOn
 use Rattle.reach.specs.Base.{pick}
 use Rattle.reach.specs.Syntax.{variable, call, construct, case, letIn, target, Exprs, []ₑ, _∷ₑ_, count, nthExpr, Alternatives, no-more, absent, present, Types, Program, fieldTypes, functionAt, parametersOf, sourceTypes}
 use Rattle.reach.specs.Parts.{Parts, end, opened, bound, Place, here, after, inside, part, within, Seen, gone, free, has, at, There}
-use Rattle.reach.specs.Types.{Typed, Slot, slots, sourceSlots, fieldSlots, slotAt}
+use Rattle.reach.specs.Types.{Typed, Slot, slotTypes, sourceSlots, fieldSlots, slotAt}
 use Rattle.reach.specs.Encoding.{countAlternatives}
 use Rattle.reach.specs.Eval.{Row, parameters, fieldsOf, partOf, Env, empty, operands, inputParts, size, Closure, suspended, inputPart, suspend, lookup, Frame, waiting, State, evaluating, inspecting, missing, stuck, resume, choose, enter, Question, answered, Stop, value, noAlternative, unknown, Next, demands, stops, goes, waits, view, look, answer, next, Run, reached, ended, unfinished, halted, conclude, eval, startOf, start, run}
 use Rattle.reach.specs.Answers.{accepted, check}
 use Rattle.reach.proofs.Order.{constructorOf, arityOf, free-unbound}
+use Rattle.reach.proofs.Slots.{types-nth, part-slot, field-types, source-types}
 use Rattle.reach.proofs.Depths.{typed-width}
 use Rattle.reach.specs.Typing.{Signature, signatureOf, signatures, HasType, HaveTypes, Covers, WellTyped}
 use Rattle.reach.proofs.WellTyped.{at-below, at-getD, accepted-typed}
@@ -72,39 +73,38 @@ module _ (types : Types) where
   slot-there (bound c fs r) (after q) ss s g = slot-there r q (tail ss) s g
   slot-there (bound c fs r) (inside q) ss s g = slot-there fs q (fieldSlots types (head? ss) c) s g
 
+  -- part n of a row stands in a slot of its type
   slot-part :
-      (ts : List ℕ) (d : ℕ) (e : Parts) → Typed types ts e → (n t : ℕ) → getElem? ts n ≡ some t
-      → slotAt types e (part n) (slots ts d) ≡ some (record { type = t; room = d })
-  unfolding slotAt slots part
-  slot-part [] d e h n t g = absurd (Option·none-ne-some t g)
-  slot-part (u ∷ ts) d end h n t g = absurd h
-  slot-part (u ∷ ts) d (opened r) h zero t g = rw (Option·some-injective u t g)
-  slot-part (u ∷ ts) d (opened r) h (suc n) t g = slot-part ts d r h n t g
-  slot-part (u ∷ ts) d (bound c fs r) h zero t g = rw (Option·some-injective u t g)
-  slot-part (u ∷ ts) d (bound c fs r) h (suc n) t g = slot-part ts d r (h .3) n t g
+      (ss : List Slot) (e : Parts) → Typed types (slotTypes ss) e → (n t : ℕ) → getElem? (slotTypes ss) n ≡ some t
+      → (d : ℕ) × (slotAt types e (part n) ss ≡ some (record { type = t; room = d }))
+  slot-part ss e h n t g =
+      let (d, there) = types-nth ss n t g in
+      (d, part-slot types e n ss (omega (arith, typed-width types (slotTypes ss) e h, (at-getD (slotTypes ss) n 0 t g) .0)) ∙ there)
 
-  -- the fields of the part at q, which has constructor c with k fields and stands in slot s, have the slots that they should
-  abbrev FieldSlots : (ts : List ℕ) (d : ℕ) (e : Parts) (q : Place) (s : Slot) (c k : ℕ) → Type 0
-  FieldSlots ts d e q s c k =
+  -- the fields of the part at q, which has constructor c with k fields and stands in slot s, have slots of their types
+  abbrev FieldSlots : (ss : List Slot) (e : Parts) (q : Place) (s : Slot) (c k : ℕ) → Type 0
+  FieldSlots ss e q s c k =
       (us : List ℕ) × (fieldTypes types (s .type) c ≡ some us) × (k ≡ length us)
-      × ((n t : ℕ) → getElem? us n ≡ some t → slotAt types e (within q (part n)) (slots ts d) ≡ some (record { type = t; room = s .room - 1 }))
+      × ((n t : ℕ) → getElem? us n ≡ some t → (d : ℕ) × (slotAt types e (within q (part n)) ss ≡ some (record { type = t; room = d })))
 
   slot-field :
-      (ts : List ℕ) (d : ℕ) (e : Parts) → Typed types ts e → (q : Place) (s : Slot) (c k : ℕ) → slotAt types e q (slots ts d) ≡ some s
-      → at e q ≡ has c k → FieldSlots ts d e q s c k
-  unfolding slotAt slots at within fieldSlots
-  slot-field [] d end h q s c k g w = absurd (Option·none-ne-some s g)
-  slot-field [] d (opened r) h q s c k g w = absurd h
-  slot-field [] d (bound b fs r) h q s c k g w = absurd h
-  slot-field (u ∷ ts) d end h q s c k g w = absurd h
-  slot-field (u ∷ ts) d (opened r) h here s c k g w = absurd (free-unbound w)
-  slot-field (u ∷ ts) d (opened r) h (after q) s c k g w = slot-field ts d r h q s c k g w
-  slot-field (u ∷ ts) d (opened r) h (inside q) s c k g w = absurd (Option·none-ne-some s g)
-  slot-field (u ∷ ts) d (bound b fs r) h here s c k g w =
+      (ss : List Slot) (e : Parts) → Typed types (slotTypes ss) e → (q : Place) (s : Slot) (c k : ℕ) → slotAt types e q ss ≡ some s
+      → at e q ≡ has c k → FieldSlots ss e q s c k
+  unfolding slotAt slotTypes at within
+  slot-field [] end h q s c k g w = absurd (Option·none-ne-some s g)
+  slot-field [] (opened r) h q s c k g w = absurd h
+  slot-field [] (bound b fs r) h q s c k g w = absurd h
+  slot-field (u ∷ ss) end h q s c k g w = absurd h
+  slot-field (u ∷ ss) (opened r) h here s c k g w = absurd (free-unbound w)
+  slot-field (u ∷ ss) (opened r) h (after q) s c k g w = slot-field ss r h q s c k g w
+  slot-field (u ∷ ss) (opened r) h (inside q) s c k g w = absurd (Option·none-ne-some s g)
+  slot-field (u ∷ ss) (bound b fs r) h here s c k g w =
+      let fields = field-types types u b (h .0) (h .1) in
       rw (← Option·some-injective _ _ g, ← ap constructorOf w, ← ap arityOf w)
-      (h .0, h .1, typed-width types (h .0) fs (h .2), λ n t e. rw (h .1) (slot-part (h .0) (d - 1) fs (h .2) n t e))
-  slot-field (u ∷ ts) d (bound b fs r) h (after q) s c k g w = slot-field ts d r (h .3) q s c k g w
-  slot-field (u ∷ ts) d (bound b fs r) h (inside q) s c k g w = rw (h .1) (slot-field (h .0) (d - 1) fs (h .2) q s c k (rw (h .1) at g) w)
+      (h .0, h .1, typed-width types (h .0) fs (h .2), λ n t e. slot-part (fieldSlots types (some u) b) fs (rw fields (h .2)) n t (rw fields e))
+  slot-field (u ∷ ss) (bound b fs r) h (after q) s c k g w = slot-field ss r (h .3) q s c k g w
+  slot-field (u ∷ ss) (bound b fs r) h (inside q) s c k g w =
+      slot-field (fieldSlots types (some u) b) fs (rw (field-types types u b (h .0) (h .1)) (h .2)) q s c k g w
 
 -- The typing of states, in a program and on an input.
 module _ (p : Program) (i : Parts) where
@@ -250,10 +250,8 @@ module _ (p : Program) (i : Parts) where
     part-fields :
         (q : Place) (t c k : ℕ) → PartHas p i q t → at i q ≡ has c k
         → (us : List ℕ) × (fieldTypes (p .types) t c ≡ some us) × (k ≡ length us) × RowHas (fieldsOf q) us
-    unfolding sourceSlots partOf
-    part-fields q t c k h w =
-        let (us, e, many, slot) = slot-field (p .types) (sourceTypes p) (p .depth) i input q _ c k (h .1) w in
-        (us, e, many, λ n u g. (h .0 - 1, slot n u g))
+    unfolding partOf
+    part-fields q t c k h w = slot-field (p .types) (sourceSlots p) i (rw (source-types p) input) q _ c k (h .1) w
 
     answer-has : (N : Next) → NextHas N → NextHas (answer i N)
     unfolding answer look answered fieldTypes
@@ -277,8 +275,8 @@ module _ (p : Program) (i : Parts) where
 
     -- the parameters are there, and of the source's types
     source-has : RowHas parameters (sourceTypes p)
-    unfolding sourceSlots partOf
-    source-has n t e = (p .depth, slot-part (p .types) (sourceTypes p) (p .depth) i input n t e)
+    unfolding partOf
+    source-has n t e = slot-part (p .types) (sourceSlots p) i (rw (source-types p) input) n t (rw (source-types p) e)
 
     start-has : WellTyped p → StateHas (start p)
     unfolding start startOf sourceTypes functionAt

@@ -1,17 +1,18 @@
 -- States that are reached on a partial input: the places that they speak of are there, and they are reached on every input that binds at least as
 -- much; and a partial input keeps to its types where an open part is bound to a constructor of its type.
--- Rests on Evaluation and NeverStuck.
-use Prim.Native.Nat.{ℕ, _-_}
+-- Rests on Evaluation and Slots.
+use Prim.Native.Nat.{ℕ}
 use mathlib.Core.Path.{_≡_, sym, subst}
 use mathlib.Core.List.{List, [], _∷_}
 use mathlib.Core.Option.{some, Option·some-injective}
 use lib.ListN.{length}
 use Rattle.reach.specs.Syntax.{Types, Program, fieldTypes, sourceTypes}
 use Rattle.reach.specs.Parts.{Parts, end, opened, bound, width, allOpen, Place, here, after, inside, free, at, bindAt, _⊑_, There}
-use Rattle.reach.specs.Types.{Typed, Slot, slots, fieldSlots, slotAt}
+use Rattle.reach.specs.Types.{Typed, Slot, slotTypes, fieldSlots, slotAt}
 use Rattle.reach.specs.Eval.{State, goes}
 use Rattle.reach.proofs.Order.{free-unbound}
 use Rattle.reach.specs.States.{StateIn, Steps, no-step, one-more}
+use Rattle.reach.proofs.Slots.{field-types}
 use Rattle.reach.proofs.Evaluation.{start-in, next-in, next-more}
 
 -- the places that they speak of are there
@@ -32,26 +33,19 @@ unfolding allOpen
 open-typed types [] = tt
 open-typed types (t ∷ ts) = open-typed types ts
 
--- the slots of the fields of a bound part, by their types
-field-slots : (types : Types) (s : Slot) (c : ℕ) (us : List ℕ) → fieldTypes types (s .type) c ≡ some us → (d : ℕ) × (fieldSlots types (some s) c ≡ slots us d)
-unfolding fieldSlots
-field-slots types s c us h = (s .room - 1, rw h)
-
 -- binding an open part to a constructor of its type keeps the types
 pub bind-typed :
-    (types : Types) (ts : List ℕ) (d : ℕ) (e : Parts) (q : Place) (s : Slot) (c : ℕ) (us : List ℕ) → Typed types ts e → at e q ≡ free
-    → slotAt types e q (slots ts d) ≡ some s → fieldTypes types (s .type) c ≡ some us → Typed types ts (bindAt q c (length us) e)
-unfolding at bindAt slotAt slots
-bind-typed types ts d end q s c us h g k f = h
-bind-typed types [] d (opened r) q s c us h g k f = absurd h
-bind-typed types (t ∷ ts) d (opened r) here s c us h g k f =
-    let same : record { type = t; room = d } ≡ s = Option·some-injective _ _ k in
-    (us, rw (← same) at f, open-typed types us, h)
-bind-typed types (t ∷ ts) d (opened r) (after q) s c us h g k f = bind-typed types ts d r q s c us h g k f
-bind-typed types (t ∷ ts) d (opened r) (inside q) s c us h g k f = absurd (subst There (sym g) tt)
-bind-typed types [] d (bound b fs r) q s c us h g k f = absurd h
-bind-typed types (t ∷ ts) d (bound b fs r) here s c us h g k f = absurd (free-unbound (sym g))
-bind-typed types (t ∷ ts) d (bound b fs r) (after q) s c us h g k f = (h .0, h .1, h .2, bind-typed types ts d r q s c us (h .3) g k f)
-bind-typed types (t ∷ ts) d (bound b fs r) (inside q) s c us h g k f =
-    let below = field-slots types (record { type = t; room = d }) b (h .0) (h .1) in
-    (h .0, h .1, bind-typed types (h .0) (below .0) fs q s c us (h .2) g (rw (below .1) at k) f, h .3)
+    (types : Types) (ss : List Slot) (e : Parts) (q : Place) (s : Slot) (c : ℕ) (us : List ℕ) → Typed types (slotTypes ss) e → at e q ≡ free
+    → slotAt types e q ss ≡ some s → fieldTypes types (s .type) c ≡ some us → Typed types (slotTypes ss) (bindAt q c (length us) e)
+unfolding at bindAt slotAt slotTypes
+bind-typed types ss end q s c us h g k f = h
+bind-typed types [] (opened r) q s c us h g k f = absurd h
+bind-typed types (t ∷ ss) (opened r) here s c us h g k f = (us, rw (← Option·some-injective t s k) at f, open-typed types us, h)
+bind-typed types (t ∷ ss) (opened r) (after q) s c us h g k f = bind-typed types ss r q s c us h g k f
+bind-typed types (t ∷ ss) (opened r) (inside q) s c us h g k f = absurd (subst There (sym g) tt)
+bind-typed types [] (bound b fs r) q s c us h g k f = absurd h
+bind-typed types (t ∷ ss) (bound b fs r) here s c us h g k f = absurd (free-unbound (sym g))
+bind-typed types (t ∷ ss) (bound b fs r) (after q) s c us h g k f = (h .0, h .1, h .2, bind-typed types ss r q s c us (h .3) g k f)
+bind-typed types (t ∷ ss) (bound b fs r) (inside q) s c us h g k f =
+    let fields = field-types types t b (h .0) (h .1) in
+    (h .0, h .1, rw (← fields) (bind-typed types (fieldSlots types (some t) b) fs q s c us (rw fields (h .2)) g k f), h .3)

@@ -29,6 +29,10 @@ unfoldable pub slots : List ℕ → ℕ → List Slot
 slots [] d = []
 slots (t ∷ ts) d = record { type = t; room = d } ∷ slots ts d
 
+unfoldable pub slotTypes : List Slot → List ℕ
+slotTypes [] = []
+slotTypes (s ∷ ss) = s .type ∷ slotTypes ss
+
 -- the parameters of the source: each may be D deep
 unfoldable pub sourceSlots : Program → List Slot
 sourceSlots p = slots (sourceTypes p) (p .depth)

@@ -6,7 +6,8 @@ use mathlib.Core.List.{List, map}
 use mathlib.Core.Option.{some}
 use native.Mathlib.Omega.{arith}
 use lib.ListN.{length, getD}
-use Rattle.reach.specs.Syntax.{Types, Program, sourceTypes}
+use Rattle.reach.specs.Limits.{depthLimit}
+use Rattle.reach.specs.Syntax.{Types, Program}
 use Rattle.reach.specs.Parts.{Parts, free, at, bindAt, There}
 use Rattle.reach.specs.Types.{Slot, sourceSlots, WithinDepth}
 use Rattle.reach.specs.Eval.{State, Question, answered, next, goes, waits}
@@ -15,7 +16,7 @@ use Rattle.reach.proofs.Base.{clash}
 use Rattle.reach.proofs.Order.{bind-has, bind-refines}
 use Rattle.reach.proofs.Evaluation.{waits-free, waits-answered}
 use Rattle.reach.proofs.ClosedInputs.{input-exactly}
-use Rattle.reach.proofs.Limits.{accepted-keeps}
+use Rattle.reach.proofs.Limits.{accepted-keeps, accepted-rooms}
 use Rattle.reach.specs.States.{one-more}
 use Rattle.reach.proofs.Reached.{steps-more}
 use Rattle.reach.proofs.Places.{bytes-length}
@@ -142,18 +143,13 @@ module _ {file types functions input : List ℕ} {goal : ℕ} {p : Program} {j :
       few-fields t c us h = accepted-keeps file p (given .of-file .checked) .fields-limit t c us (rw (given .of-file .file-of .types-there) h)
 
       pub bindable : Bindable file types input w cells (cellOf w (q .place))
-      unfolding sourceSlots
       bindable = record {
         in-use = now .follows .cells .in-use (q .place) there;
         room = omega (arith, now .few-cells, now .base-is, now .long);
         narrow = now .stands .space .narrow;
         deep = value .stands .deep;
         shallow =
-            omega (
-              arith,
-              accepted-keeps file p (given .of-file .checked) .depth-limit .1,
-              cell-room (sourceTypes p) (p .depth) (q .place) (now .follows .cells) there (value .slot-there),
-            );
+            omega (arith, cell-room depthLimit (q .place) (accepted-rooms file p (given .of-file .checked)) (now .follows .cells) there (value .slot-there));
         small-place = value .stands .in-bytes;
         few = few-fields (cellWord w (cellOf w (q .place)) 2) (notedNumber input w (cellOf w (q .place)));
       }

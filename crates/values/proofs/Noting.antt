@@ -1,8 +1,8 @@
 -- Noting where the values of a row stand, one after the other: one note, and what the loop over a row of values has noted so far.
--- Rests on specs/Notes, and on the inputs' Closed and Positions.
-use Prim.Native.Nat.{ℕ, zero, suc, _+_, _*_, _-_, _/_, _%_, _≤_, _<_}
+-- Rests on specs/Notes, on the inputs' Closed and Positions, and on reach's Slots.
+use Prim.Native.Nat.{ℕ, _+_, _*_, _-_, _/_, _%_, _≤_, _<_}
 use mathlib.Core.Path.{_≡_, refl, sym, _∙_, ap}
-use mathlib.Core.List.{List, [], _∷_, map}
+use mathlib.Core.List.{List, map}
 use mathlib.Core.Logic.{_≢_}
 use mathlib.Core.Option.{some, Option·some-injective}
 use native.Mathlib.Numerals.{add-one}
@@ -10,15 +10,14 @@ use native.Mathlib.Omega.{arith}
 use lib.ListN.{length, getD, set, length-set}
 use lib.Seq.{getD-set-same, getD-set-other}
 use borrow.Author.Count.{below-more}
-use Rattle.reach.specs.Syntax.{Types}
-use Rattle.reach.specs.Parts.{Parts, end, opened, bound, part}
-use Rattle.reach.specs.Types.{Slot, slots, slotAt}
+use Rattle.reach.specs.Parts.{Parts, width, part}
+use Rattle.reach.specs.Types.{Slot, slots}
 use Rattle.reach.specs.Reader.{got}
 use Rattle.reach.specs.Input.{row}
 use Rattle.reach.specs.Places.{bytesAt, typeAt}
-use Rattle.reach.proofs.Base.{clash}
 use Rattle.reach.proofs.Order.{part-there}
 use Rattle.reach.proofs.Places.{bytes-length}
+use Rattle.reach.proofs.Slots.{slots-nth, part-slot}
 use Rattle.cells.proofs.Writing.{bytes-nth}
 use Rattle.inputs.proofs.Closed.{ValueStands, row-width, value-answer}
 use Rattle.inputs.specs.Positions.{byteOf}
@@ -49,22 +48,6 @@ module _ (w : List ℕ) (x i : ℕ) where
 
 -- The next value of a row.
 
-slot-says : {t d : ℕ} {s : Slot} → some (record { type = t; room = d }) ≡ some s → (s .type ≡ t) × (s .room ≡ d)
-slot-says h = rw (← Option·some-injective _ _ h) (refl, refl)
-
--- the slots of a row are its types, each as deep as this
-row-slot : (types : Types) (j : Parts) (us : List ℕ) (d n : ℕ) {s : Slot} → slotAt types j (part n) (slots us d) ≡ some s → (s .type ≡ getD us n 0) × (s .room ≡ d)
-unfolding slotAt slots part
-row-slot types end us d n h = absurd (clash (cc))
-row-slot types (opened r) [] d zero h = absurd (clash (cc))
-row-slot types (opened r) (u ∷ us) d zero h = slot-says h
-row-slot types (opened r) [] d (suc n) h = row-slot types r [] d n h
-row-slot types (opened r) (u ∷ us) d (suc n) h = row-slot types r us d n h
-row-slot types (bound c fs r) [] d zero h = absurd (clash (cc))
-row-slot types (bound c fs r) (u ∷ us) d zero h = slot-says h
-row-slot types (bound c fs r) [] d (suc n) h = row-slot types r [] d n h
-row-slot types (bound c fs r) (u ∷ us) d (suc n) h = row-slot types r us d n h
-
 -- behind a value that stands there the rest of its row begins
 pub behind-stands :
     (file types input : List ℕ) {d t d′ t′ : ℕ} {ts : List ℕ} {i i′ c : ℕ} {fs r : Parts} {next : ℕ} (v : ValueStands (map (typeAt file) types) d t ts input i c fs r next)
@@ -85,9 +68,10 @@ module _ (file types input : List ℕ) (ts : List ℕ) (at room : ℕ) where
   pub reached-next : (n : ℕ) {place : ℕ} → n < length ts → Reached n place → Reached (n + 1) (behindValue file types input place (getD ts n 0) room)
   reached-next n l reached j next e =
       let known = map (typeAt file) types in
-      let p = part-stands known input j (part n) room ts at e (part-there j n (omega (arith, row-width known input room ts at e))) in
-      let slot = row-slot known j ts room n (p .slot-there) in
-      behind-stands file types input (p .stands) (reached j next e) (slot .0) (slot .1) ∙ sym (p .next-part)
+      let wide : n < width j = omega (arith, row-width known input room ts at e) in
+      let p = part-stands known input j (part n) room ts at e (part-there j n wide) in
+      let slot = Option·some-injective _ _ (sym (p .slot-there) ∙ part-slot known j n (slots ts room) wide ∙ slots-nth ts room n l) in
+      behind-stands file types input (p .stands) (reached j next e) (ap (λ (s : Slot). s .type) slot) (ap (λ (s : Slot). s .room) slot) ∙ sym (p .next-part)
       ∙ ap (λ q. byteOf j q at) (following-part n ∙ ap part (sym (add-one n)))
 
   module _ (first : ℕ) where

@@ -4,6 +4,7 @@ use Prim.Native.Nat.{_+_, _-_, _≤_}
 use mathlib.Core.Path.{_≡_}
 use native.Mathlib.Omega.{arith}
 use borrow.Author.Needs.{needs}
+use Rattle.reach.specs.Types.{slots}
 use Rattle.reach.specs.Places.{bytesAt}
 use Rattle.cells.specs.Writes.{Opens}
 use Rattle.cells.proofs.Writing.{opens-none, opens-next}
@@ -12,7 +13,7 @@ use Rattle.cells.proofs.open_cells.Tie as tie
 
 abbrev Inv-loop : tie.InvT-loop
 Inv-loop file work₀ first fields k room cell₀ place₀ more₀ work cell place more =
-    (Opens work₀ work first (k - more) (bytesAt file fields k) room) × (cell + more ≡ first + k) × (place + more ≡ fields + k) × (more ≤ k)
+    (Opens work₀ work first (k - more) (slots (bytesAt file fields k) room)) × (cell + more ≡ first + k) × (place + more ≡ fields + k) × (more ≤ k)
 
 abbrev μ-loop : tie.MeasureT-loop
 μ-loop file work₀ first fields k room cell₀ place₀ more₀ work cell place more = more
@@ -21,7 +22,7 @@ loop-holds : tie.Need-loop-holds Inv-loop μ-loop
 loop-holds c =
     let k = c .before .before .args .k in
     let none : k - k ≡ 0 = omega arith in
-    (rw none (opens-none _ _ _ _), omega arith, omega arith, omega arith)
+    (rw none (opens-none _ _ _), omega arith, omega arith, omega arith)
 
 open-cell-requires : tie.Need-open-cell-requires Inv-loop μ-loop
 open-cell-requires c κs =
@@ -30,7 +31,7 @@ open-cell-requires c κs =
 
 loop-again : tie.Need-loop-again Inv-loop μ-loop
 loop-again c = (
-  opens-next _ _ _ _
+  opens-next _ _ _ _ _
       (c .before .before .before .before .before .before .loop .inv .0)
       (c .before .before .before .before .before .before .before .before .before .pre .0)
       (c .before .before .before .before .before .loop-test .taken)

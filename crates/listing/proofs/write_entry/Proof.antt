@@ -7,7 +7,7 @@ use Rattle.listing.proofs.write_entry.Statement.{statement}
 use Rattle.listing.proofs.write_entry.Tie as tie
 
 returns : tie.Need-returns
-returns c ts us d e input = (omega (arith, c .if1 .taken), refl)
+returns c ts ss e input = (omega (arith, c .if1 .taken), refl)
 
 write-row-requires : tie.Need-write-row-requires
 write-row-requires c κs =
