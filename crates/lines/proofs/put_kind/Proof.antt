@@ -7,11 +7,11 @@ use Rattle.lines.proofs.put_kind.Statement.{statement}
 
 returns : tie.Need-returns
 unfolding kindWord
-returns c = rw (c .before .before .before .before .before .enum-told .given .1) (c .before .before .put-word .ensures)
+returns c = rw (c .before .before .before .before .before .enum-told .given .1) (c .before .before .put-bytes .ensures)
 
 returns-2 : tie.Need-returns-2
 unfolding kindWord
-returns-2 c = rw (c .before .before .before .before .before .enum-told2 .given .1) (c .before .before .put-word2 .ensures)
+returns-2 c = rw (c .before .before .before .before .before .enum-told2 .given .1) (c .before .before .put-bytes2 .ensures)
 
 pub put-kind-spec : {M : Type 1} → statement M
 put-kind-spec =

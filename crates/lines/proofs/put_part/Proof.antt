@@ -11,8 +11,8 @@ unfolding partWord
 returns c =
     let a = c .before .before .before .before .before .before .before .args in
     let if1 = c .before .before .before .before .before .if1 in
-    let put-word = c .before .before .put-word in
-    rw (eq-eqb (a .b) 255 (if1 .taken)) (put-word .ensures)
+    let put-bytes = c .before .before .put-bytes in
+    rw (eq-eqb (a .b) 255 (if1 .taken)) (put-bytes .ensures)
 
 returns-2 : tie.Need-returns-2
 unfolding partWord

@@ -10,25 +10,25 @@ use Rattle.lines.proofs.put_refusal.Statement.{statement}
 put-number-requires : tie.Need-put-number-requires
 put-number-requires c κs =
     let a = c .before .before .before .before .before .before .before .before .args in
-    let put-word = c .before .before .before .before .put-word in
-    omega (arith, put-word .ensures .place, c .number .ensures, number-few (a .why))
+    let put-bytes = c .before .before .before .before .put-bytes in
+    omega (arith, put-bytes .ensures .place, c .number .ensures, number-few (a .why))
 
 put-byte-requires : tie.Need-put-byte-requires
 put-byte-requires c κs =
     let a = c .before .before .before .before .before .before .before .before .before .before .before .before .args in
-    let put-word = c .before .before .before .before .before .before .before .before .put-word in
+    let put-bytes = c .before .before .before .before .before .before .before .before .put-bytes in
     let number = c .before .before .before .before .number in
     let put-number = c .before .before .before .put-number in
-    omega (arith, put-word .ensures .place, put-number .ensures .place, number .ensures, decimal-few (number .result), number-few (a .why))
+    omega (arith, put-bytes .ensures .place, put-number .ensures .place, number .ensures, decimal-few (number .result), number-few (a .why))
 
 returns : tie.Need-returns
 returns c =
     let a = c .before .before .before .before .before .before .before .before .before .before .before .before .before .before .before .args in
-    let put-word = c .before .before .before .before .before .before .before .before .before .before .before .put-word in
+    let put-bytes = c .before .before .before .before .before .before .before .before .before .before .before .put-bytes in
     let number = c .before .before .before .before .before .before .before .number in
     let put-number = c .before .before .before .before .before .before .put-number in
     let put-byte = c .before .before .put-byte in
-    refusal-put (a .why) (put-word .ensures) (rw (number .ensures) at (put-number .ensures)) (put-byte .ensures)
+    refusal-put (a .why) (put-bytes .ensures) (rw (number .ensures) at (put-number .ensures)) (put-byte .ensures)
 
 pub put-refusal-spec : {M : Type 1} → statement M
 put-refusal-spec =

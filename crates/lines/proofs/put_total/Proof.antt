@@ -8,25 +8,25 @@ use Rattle.lines.proofs.put_total.Tie as tie
 use Rattle.lines.proofs.put_total.Statement.{statement}
 
 put-number-requires : tie.Need-put-number-requires
-put-number-requires c κs = omega (arith, c .before .before .before .put-word .ensures .place)
+put-number-requires c κs = omega (arith, c .before .before .before .put-bytes .ensures .place)
 
 put-number-requires-2 : tie.Need-put-number-requires-2
 put-number-requires-2 c κs =
-    let put-word = c .before .before .before .before .before .before .before .put-word in
+    let put-bytes = c .before .before .before .before .before .before .before .put-bytes in
     let put-number = c .before .before .before .put-number in
-    omega (arith, put-word .ensures .place, number-end _ (put-number .ensures))
+    omega (arith, put-bytes .ensures .place, number-end _ (put-number .ensures))
 
 put-number-requires-3 : tie.Need-put-number-requires-3
 put-number-requires-3 c κs =
     let a = c .before .before .before .before .before .before .before .before .before .before .before .before .before .before .before .before .args in
     let pre = c .before .before .before .before .before .before .before .before .before .before .before .before .before .before .before .before .pre in
-    let put-word = c .before .before .before .before .before .before .before .before .before .before .before .before .put-word in
+    let put-bytes = c .before .before .before .before .before .before .before .before .before .before .before .before .put-bytes in
     let put-number = c .before .before .before .before .before .before .before .before .put-number in
     let put-number2 = c .before .before .before .before .put-number2 in
     omega (
       arith,
       pre,
-      put-word .ensures .place,
+      put-bytes .ensures .place,
       number-end _ (put-number .ensures),
       number-end _ (put-number2 .ensures),
       c .share-of .ensures,
@@ -37,7 +37,7 @@ put-verdict-requires : tie.Need-put-verdict-requires
 put-verdict-requires c κs =
     let a = c .before .before .before .before .before .before .before .before .before .before .before .before .before .before .before .before .before .before .before .before .args in
     let pre = c .before .before .before .before .before .before .before .before .before .before .before .before .before .before .before .before .before .before .before .before .pre in
-    let put-word = c .before .before .before .before .before .before .before .before .before .before .before .before .before .before .before .before .put-word in
+    let put-bytes = c .before .before .before .before .before .before .before .before .before .before .before .before .before .before .before .before .put-bytes in
     let put-number = c .before .before .before .before .before .before .before .before .before .before .before .before .put-number in
     let put-number2 = c .before .before .before .before .before .before .before .before .put-number2 in
     let share-of = c .before .before .before .before .share-of in
@@ -45,7 +45,7 @@ put-verdict-requires c κs =
     omega (
       arith,
       pre,
-      put-word .ensures .place,
+      put-bytes .ensures .place,
       number-end _ (put-number .ensures),
       number-end _ (put-number2 .ensures),
       number-end _ (put-number3 .ensures),
@@ -57,7 +57,7 @@ put-byte-requires : tie.Need-put-byte-requires
 put-byte-requires c κs =
     let a = c .before .before .before .before .before .before .before .before .before .before .before .before .before .before .before .before .before .before .before .before .before .before .before .before .args in
     let pre = c .before .before .before .before .before .before .before .before .before .before .before .before .before .before .before .before .before .before .before .before .before .before .before .before .pre in
-    let put-word = c .before .before .before .before .before .before .before .before .before .before .before .before .before .before .before .before .before .before .before .before .put-word in
+    let put-bytes = c .before .before .before .before .before .before .before .before .before .before .before .before .before .before .before .before .before .before .before .before .put-bytes in
     let put-number = c .before .before .before .before .before .before .before .before .before .before .before .before .before .before .before .before .put-number in
     let put-number2 = c .before .before .before .before .before .before .before .before .before .before .before .before .put-number2 in
     let share-of = c .before .before .before .before .before .before .before .before .share-of in
@@ -66,7 +66,7 @@ put-byte-requires c κs =
     omega (
       arith,
       pre,
-      put-word .ensures .place,
+      put-bytes .ensures .place,
       number-end _ (put-number .ensures),
       number-end _ (put-number2 .ensures),
       number-end _ (put-number3 .ensures),
@@ -78,14 +78,14 @@ put-byte-requires c κs =
 returns : tie.Need-returns
 returns c =
     let a = c .before .before .before .before .before .before .before .before .before .before .before .before .before .before .before .before .before .before .before .before .before .before .before .before .before .before .before .args in
-    let put-word = c .before .before .before .before .before .before .before .before .before .before .before .before .before .before .before .before .before .before .before .before .before .before .before .put-word in
+    let put-bytes = c .before .before .before .before .before .before .before .before .before .before .before .before .before .before .before .before .before .before .before .before .before .before .before .put-bytes in
     let put-number = c .before .before .before .before .before .before .before .before .before .before .before .before .before .before .before .before .before .before .before .put-number in
     let put-number2 = c .before .before .before .before .before .before .before .before .before .before .before .before .before .before .before .put-number2 in
     let share-of = c .before .before .before .before .before .before .before .before .before .before .before .share-of in
     let put-number3 = c .before .before .before .before .before .before .before .before .before .before .put-number3 in
     let put-verdict = c .before .before .before .before .before .before .put-verdict in
     let put-byte = c .before .before .put-byte in
-    total-put (a .counts) (put-word .ensures) (put-number .ensures) (put-number2 .ensures)
+    total-put (a .counts) (put-bytes .ensures) (put-number .ensures) (put-number2 .ensures)
     (rw (share-of .ensures) at (put-number3 .ensures)) (put-verdict .ensures) (put-byte .ensures)
 
 pub put-total-spec : {M : Type 1} → statement M

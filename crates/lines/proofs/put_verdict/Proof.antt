@@ -11,8 +11,8 @@ unfolding verdictBy
 returns c =
     let a = c .before .before .before .before .before .before .before .before .args in
     let if1 = c .before .before .before .before .before .if1 in
-    let put-word = c .before .before .put-word in
-    rw (lt-ltb 0 (a .counts .reach) (if1 .taken)) (put-word .ensures)
+    let put-bytes = c .before .before .put-bytes in
+    rw (lt-ltb 0 (a .counts .reach) (if1 .taken)) (put-bytes .ensures)
 
 returns-2 : tie.Need-returns-2
 unfolding verdictBy
@@ -20,8 +20,8 @@ returns-2 c =
     let a = c .before .before .before .before .before .before .before .before .before .before .args in
     let if1 = c .before .before .before .before .before .before .before .if1 in
     let if2 = c .before .before .before .before .before .if2 in
-    let put-word2 = c .before .before .put-word2 in
-    rw (le-ltb 0 (a .counts .reach) (if1 .left), lt-ltb 0 (a .counts .unfinished) (if2 .taken)) (put-word2 .ensures)
+    let put-bytes2 = c .before .before .put-bytes2 in
+    rw (le-ltb 0 (a .counts .reach) (if1 .left), lt-ltb 0 (a .counts .unfinished) (if2 .taken)) (put-bytes2 .ensures)
 
 returns-3 : tie.Need-returns-3
 unfolding verdictBy
@@ -29,8 +29,8 @@ returns-3 c =
     let a = c .before .before .before .before .before .before .before .before .before .before .args in
     let if1 = c .before .before .before .before .before .before .before .if1 in
     let if2 = c .before .before .before .before .before .if2 in
-    let put-word3 = c .before .before .put-word3 in
-    rw (le-ltb 0 (a .counts .reach) (if1 .left), le-ltb 0 (a .counts .unfinished) (if2 .left)) (put-word3 .ensures)
+    let put-bytes3 = c .before .before .put-bytes3 in
+    rw (le-ltb 0 (a .counts .reach) (if1 .left), le-ltb 0 (a .counts .unfinished) (if2 .left)) (put-bytes3 .ensures)
 
 pub put-verdict-spec : {M : Type 1} → statement M
 put-verdict-spec =

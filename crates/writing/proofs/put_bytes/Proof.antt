@@ -29,8 +29,8 @@ same-length c = puts-length (word-done (c .before .before .before .before .args 
 returns : tie.Need-returns Inv-loop μ-loop
 returns c = word-done (c .before .before .before .before .args .word .now) (c .before .loop .i) (c .before .loop .inv .2) (omega arith)
 
-pub put-word-spec : {M : Type 1} → statement M
-put-word-spec =
+pub put-bytes-spec : {M : Type 1} → statement M
+put-bytes-spec =
     tie.close
     (tie.spec
     Inv-loop
