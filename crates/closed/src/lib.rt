@@ -1,7 +1,8 @@
 // The closed run: the evaluation of a rule on one closed input, in the lent words. Parts of the input are bound when a case looks at
-// them. Rests on crates rulefile, loaded, inputs, values and running.
+// them. Rests on crates goal, rulefile, loaded, inputs, values and running.
 ghost use Rattle.closed.specs.Answering.{Promised};
 ghost use Rattle.closed.specs.Evaluating.{Runnable, RunsAs};
+use goal::Goal;
 use inputs::input_fits;
 use loaded::open_input;
 use lookups::head_of;
@@ -10,11 +11,7 @@ use machine::work_words;
 use reach::Outcome;
 use reach::Refusal;
 use rulefile::Checked;
-use rulefile::depth;
-use rulefile::label;
 use rulefile::load;
-use rulefile::source;
-use rulefile::steps;
 use running::go_on;
 use skipping::fill_ends;
 use values::note_values;
@@ -30,7 +27,7 @@ fn evaluate<'a>(
     file: &'a [u8],
     types: &'a [u16],
     functions: &'a [u16],
-    goal: usize,
+    goal: Goal,
     input: &'a [u8],
     work: &mut [u32],
 ) -> Outcome
@@ -39,26 +36,24 @@ fn evaluate<'a>(
 {
     let mut ends = [0u16; 16384];
     fill_ends(file, types, functions, &mut ends);
-    let limit = steps(file, goal);
-    let base = records_at(limit);
-    let head = head_of(file, functions, source(file, goal));
+    let base = records_at(goal.steps);
+    let head = head_of(file, functions, goal.source);
     let first = head.parameters;
     let n = head.count;
-    let deep = depth(file, goal);
-    let from = open_input(file, work, base, head, deep);
-    note_values(file, types, input, work, 0, first, n, 0, deep);
+    let from = open_input(file, work, base, head, goal.depth);
+    note_values(file, types, input, work, 0, first, n, 0, goal.depth);
     go_on(
         file,
         types,
         functions,
         &ends,
-        label(file, goal),
+        goal.label,
         input,
         work,
         base,
         n,
         from,
-        limit,
+        goal.steps,
     )
 }
 
@@ -73,19 +68,20 @@ pub fn run<'a>(file: &'a [u8], input: &'a [u8], work: &mut [u32]) -> Answer
     }
     let types = loaded.types;
     let functions = loaded.functions;
-    let goal = loaded.goal_at;
+    let goal = loaded.goal;
     let type_at = loaded.type_at;
     let function_at = loaded.function_at;
     if !input_fits(
         file,
         &type_at[..types],
         &function_at[..functions],
-        goal,
+        goal.source,
+        goal.depth,
         input,
     ) {
         return Answer::Refused(Refusal::BadInput);
     }
-    let words = work_words(steps(file, goal));
+    let words = work_words(goal.steps);
     if work.len() < words {
         return Answer::Refused(Refusal::WorkTooShort);
     }

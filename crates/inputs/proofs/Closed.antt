@@ -1,5 +1,5 @@
 -- Laws of a closed input for a run on it: when an input fits, and what stands at the place of each of its values.
--- Rests on Rows, on reach's Input, Limits and Encoding, and on the lookups' Tables.
+-- Rests on Rows, and on reach's Input and Limits.
 use Prim.Native.Nat.{ℕ, zero, suc, _+_, _-_, _≤_, _<_}
 use mathlib.Core.Path.{_≡_, refl, sym, _∙_, ap}
 use mathlib.Core.Bool.{true, false}
@@ -11,17 +11,15 @@ use lib.Dec.{ltb}
 use native.Mathlib.Omega.{arith}
 use borrow.Author.Tests.{ltb-true, ltb-false, lt-ltb}
 use Rattle.inputs.specs.Positions.{Placed}
-use Rattle.reach.specs.Syntax.{Types, Program, fieldTypes, functionAt, sourceTypes}
+use Rattle.reach.specs.Syntax.{Types, Program, fieldTypes}
 use Rattle.reach.specs.Parts.{Parts, end, opened, bound, width, prefix}
 use Rattle.reach.specs.Reader.{Got, got, refused, onGot, byte, atEnd}
 use Rattle.reach.specs.Input.{row, inputOf}
-use Rattle.reach.specs.Places.{bytesAt, typeAt, headAt, declarationsAt, outlineAt}
+use Rattle.reach.specs.Places.{bytesAt, typeAt}
 use Rattle.reach.proofs.Base.{clash, picked}
-use Rattle.reach.proofs.Encoding.{Outlined}
 use Rattle.reach.proofs.Limits.{IfFound, if-found-then}
 use Rattle.lookups.specs.Fields.{fieldsOf, fieldsIn}
 use Rattle.lookups.specs.declared.Fields.{Fields}
-use Rattle.lookups.proofs.Tables.{found}
 use Rattle.inputs.specs.declared.Behind.{Behind}
 use Rattle.inputs.specs.Values.{behindOf, valueAt, fitsAt}
 use Rattle.inputs.proofs.Rows.{row-none, row-flat, row-short, row-unknown, row-bound, ended, sourceRow}
@@ -37,15 +35,6 @@ found-at P (got b k) {a} {next} h e =
     let y : k ≡ next = cc in
     rw (← z, ← y) h
 found-at P (refused why) h e = absurd (clash (cc))
-
--- so they are where the outline of the file at these places is that of the program
-pub placed :
-    (p : Program) (file types functions : List ℕ) (goal : ℕ) → Outlined file p (outlineAt file types functions goal)
-    → p .source ≡ getD file goal 0 → p .depth ≡ getD file (goal + 2) 0 → getD file goal 0 < length functions → Placed p file types functions goal
-unfolding declarationsAt outlineAt sourceTypes functionAt
-placed p file types functions goal of-file source depth known =
-    let there = of-file .function-of (getD file goal 0) (headAt file (getD functions (getD file goal 0) 0)) (found (headAt file) functions 0 (getD file goal 0) known) in
-    record { types-there = of-file .types; source-there = rw (source, there .1) (there .2 .parameters); depth-there = depth }
 
 -- a reading is of some value, or of none
 read-exactly : (g : Got Parts) → (onGot (λ j next. true) (λ why. false) g ≡ true) ↔ ((j : Parts) × (onGot (λ j next. some j) (λ why. none) g ≡ some j))
@@ -67,21 +56,24 @@ row-ended input (got i next) {j} e =
     e
 row-ended input (refused why) e = absurd (clash (cc))
 
-module _ {p : Program} {file types functions : List ℕ} {goal : ℕ} (placed : Placed p file types functions goal) (input : List ℕ) where
-  input-placed : inputOf p input ≡ onGot (λ j next. some j) (λ why. none) (ended input (sourceRow file types functions goal input))
+module _ {p : Program} {file types functions : List ℕ} (placed : Placed p file types functions) (input : List ℕ) where
+  abbrev read : Got Parts
+  read = sourceRow file types functions (p .source) (p .depth) input
+
+  input-placed : inputOf p input ≡ onGot (λ j next. some j) (λ why. none) (ended input read)
   unfolding inputOf
-  input-placed = rw (placed .source-there, placed .types-there, placed .depth-there)
+  input-placed = rw (placed .source-there, placed .types-there)
 
   -- the input fits exactly if it is the program's closed input
-  pub fits-exactly : (fitsAt file types functions goal input ≡ true) ↔ ((j : Parts) × (inputOf p input ≡ some j))
-  fits-exactly = rw input-placed (read-exactly (ended input (sourceRow file types functions goal input)))
+  pub fits-exactly : (fitsAt file types functions (p .source) (p .depth) input ≡ true) ↔ ((j : Parts) × (inputOf p input ≡ some j))
+  fits-exactly = rw input-placed (read-exactly (ended input read))
 
-  pub unfit-exactly : (fitsAt file types functions goal input ≡ false) ↔ (inputOf p input ≡ none)
-  unfit-exactly = rw input-placed (unread-exactly (ended input (sourceRow file types functions goal input)))
+  pub unfit-exactly : (fitsAt file types functions (p .source) (p .depth) input ≡ false) ↔ (inputOf p input ≡ none)
+  unfit-exactly = rw input-placed (unread-exactly (ended input read))
 
   -- the program's closed input is the row of its source's values, read from the first byte to the last
-  pub input-row : {j : Parts} → inputOf p input ≡ some j → (next : ℕ) × (sourceRow file types functions goal input ≡ got j next) × (length input ≤ next)
-  input-row e = row-ended input (sourceRow file types functions goal input) (sym input-placed ∙ e)
+  pub input-row : {j : Parts} → inputOf p input ≡ some j → (next : ℕ) × (read ≡ got j next) × (length input ≤ next)
+  input-row e = row-ended input read (sym input-placed ∙ e)
 
 -- What stands at place i of the bytes s where a row begins with a value of type t that is at most d deep: the number c of a constructor, from the
 -- next place on its fields fs, and behind them the values r of the types ts, up to the place next.

@@ -114,9 +114,10 @@ module _ (types : Types) (s : List ℕ) where
 
 -- every part of the program's closed input stands in its bytes, with its slot
 pub input-part :
-    {p : Program} {file types functions : List ℕ} {goal : ℕ} (placed : Placed p file types functions goal) (input : List ℕ) {j : Parts} → inputOf p input ≡ some j
+    {p : Program} {file types functions : List ℕ} (placed : Placed p file types functions) (input : List ℕ) {j : Parts} → inputOf p input ≡ some j
     → (q : Place) → There (at j q) → PartStands (map (typeAt file) types) input j q (sourceSlots p) 0
 unfolding sourceSlots
-input-part {p} {file} {types} {functions} {goal} placed input {j} e q there =
-    rw (placed .source-there, placed .depth-there)
-    (part-stands (map (typeAt file) types) input j q (getD file (goal + 2) 0) ((headAt file (getD functions (getD file goal 0) 0)) .parameters) 0 (input-row placed input e .1) there)
+input-part {p} {file} {types} {functions} placed input {j} e q there =
+    rw (placed .source-there)
+    (part-stands (map (typeAt file) types) input j q (p .depth) ((headAt file (getD functions (p .source) 0)) .parameters) 0
+    (input-row placed input e .1) there)

@@ -157,16 +157,17 @@ fits-by input j next =
     (λ over. le-leb (length input) next (ltb-false next (length input) over))
 
 -- the values of the source's parameters
-abbrev pub sourceRow : List ℕ → List ℕ → List ℕ → ℕ → List ℕ → Got Parts
-sourceRow file types functions goal input =
-    rowAt file types (getD file (goal + 2) 0) ((headAt file (getD functions (getD file goal 0) 0)) .parameters) input 0
+abbrev pub sourceRow : List ℕ → List ℕ → List ℕ → ℕ → ℕ → List ℕ → Got Parts
+sourceRow file types functions source depth input = rowAt file types depth ((headAt file (getD functions source 0)) .parameters) input 0
 
 -- the whole input, by the answer r to them
-module _ (file types functions : List ℕ) (goal : ℕ) (input : List ℕ) {r : Behind} (told : r ≡ behindOf (sourceRow file types functions goal input)) where
-  pub fits-end : {next : ℕ} → r ≡ Behind.At next → leb (length input) next ≡ fitsAt file types functions goal input
-  fits-end {next} is =
-      let found = behind-got (sourceRow file types functions goal input) (sym told ∙ is) in
-      rw (found .1) (fits-by input (found .0) next)
+module _
+    (file types functions : List ℕ) (source depth : ℕ) (input : List ℕ) {r : Behind} (told : r ≡ behindOf (sourceRow file types functions source depth input))
+  where
+    pub fits-end : {next : ℕ} → r ≡ Behind.At next → leb (length input) next ≡ fitsAt file types functions source depth input
+    fits-end {next} is =
+        let found = behind-got (sourceRow file types functions source depth input) (sym told ∙ is) in
+        rw (found .1) (fits-by input (found .0) next)
 
-  pub fits-bad : r ≡ Behind.Bad → false ≡ fitsAt file types functions goal input
-  fits-bad is = rw (behind-bad (sourceRow file types functions goal input) (sym told ∙ is) .1)
+    pub fits-bad : r ≡ Behind.Bad → false ≡ fitsAt file types functions source depth input
+    fits-bad is = rw (behind-bad (sourceRow file types functions source depth input) (sym told ∙ is) .1)

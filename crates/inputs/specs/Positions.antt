@@ -1,4 +1,4 @@
--- Where the values of a closed input stand: the places of the file that tell their types and depth, and the place of each part in the bytes.
+-- Where the values of a closed input stand: the places of the file that tell their types, and the place of each part in the bytes.
 -- Rests on reach's Syntax, Parts and Places.
 use Prim.Native.Nat.{ℕ, _+_}
 use mathlib.Core.Path.{_≡_}
@@ -8,11 +8,10 @@ use Rattle.reach.specs.Syntax.{Program, sourceTypes}
 use Rattle.reach.specs.Parts.{Parts, end, opened, bound, Place, here, after, inside, prefix}
 use Rattle.reach.specs.Places.{typeAt, headAt}
 
--- The program's types, the types of its source's parameters and its depth are those at these places of the file.
-pub record Placed (p : Program) (file types functions : List ℕ) (goal : ℕ) : Type 0 where
+-- The program's types and the types of its source's parameters are those at these places of the file.
+pub record Placed (p : Program) (file types functions : List ℕ) : Type 0 where
   pub types-there : p .types ≡ map (typeAt file) types
-  pub source-there : sourceTypes p ≡ (headAt file (getD functions (getD file goal 0) 0)) .parameters
-  pub depth-there : p .depth ≡ getD file (goal + 2) 0
+  pub source-there : sourceTypes p ≡ (headAt file (getD functions (p .source) 0)) .parameters
 
 -- the place in the bytes of the part at q, in a row whose prefix form begins at i
 unfoldable pub byteOf : Parts → Place → ℕ → ℕ

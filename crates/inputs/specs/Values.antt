@@ -1,6 +1,6 @@
 -- Closed values as reach's Input reads them, the types being those at the places of a checked file.
 -- Rests on reach's Input and Places and on the enum of src/lib.rt.
-use Prim.Native.Nat.{ℕ, _+_}
+use Prim.Native.Nat.{ℕ}
 use mathlib.Core.Bool.{Bool, true, false}
 use mathlib.Core.List.{List, [], _∷_, map}
 use lib.ListN.{getD}
@@ -25,8 +25,8 @@ rowAt file types room ts = row (map (typeAt file) types) room ts
 abbrev pub valueAt : List ℕ → List ℕ → ℕ → ℕ → Reader Parts
 valueAt file types room t = rowAt file types room (t ∷ [])
 
--- the bytes are one value per parameter of the source, at most D deep, and nothing more
-abbrev pub fitsAt : List ℕ → List ℕ → List ℕ → ℕ → List ℕ → Bool
-fitsAt file types functions goal input =
+-- the bytes are one value per parameter of the source, each at most so deep, and nothing more
+abbrev pub fitsAt : List ℕ → List ℕ → List ℕ → ℕ → ℕ → List ℕ → Bool
+fitsAt file types functions source depth input =
     onGot (λ j next. true) (λ why. false)
-    ((rowAt file types (getD file (goal + 2) 0) ((headAt file (getD functions (getD file goal 0) 0)) .parameters) >>= λ j. atEnd BadInput >> give j) input 0)
+    ((rowAt file types depth ((headAt file (getD functions source 0)) .parameters) >>= λ j. atEnd BadInput >> give j) input 0)

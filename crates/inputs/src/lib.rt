@@ -69,19 +69,18 @@ pub fn value<'a>(
     values(file, types, input, next, fields, n, room - 1)
 }
 
-// The input is one closed, fitting value per parameter of the source, and nothing more.
+// The input is one closed value per parameter of the source, each at most so deep, and nothing more.
 pub fn input_fits<'a>(
     file: &'a [u8],
     types: &'a [u16],
     functions: &'a [u16],
-    goal: usize,
+    source: usize,
+    depth: usize,
     input: &'a [u8],
 ) -> bool
-    requires { ⌜ goal ≤ 16384 ⌝ }
-    ensures { λ r. ⌜ r ≡ fitsAt (now (file .entry)) (now (types .entry)) (now (functions .entry)) goal (now (input .entry)) ⌝ }
+    ensures { λ r. ⌜ r ≡ fitsAt (now (file .entry)) (now (types .entry)) (now (functions .entry)) source depth (now (input .entry)) ⌝ }
 {
-    let head = head_of(file, functions, byte_or_zero(file, goal));
-    let depth = byte_or_zero(file, goal + 2);
+    let head = head_of(file, functions, source);
     let Behind::At(end) = values(file, types, input, 0, head.parameters, head.count, depth) else {
         return false;
     };

@@ -1,6 +1,6 @@
--- A run begins: what the goal's record says is the program's, and in the words that `open_input` leaves the source's body is to be evaluated on the
+-- A run begins: what the goal asks for is the program's, and in the words that `open_input` leaves the source's body is to be evaluated on the
 -- input with every parameter open.
--- Rests on specs/Beginning, on machine's laws of cells, records and words, on lookups' Tables and on reach's Limits, NeverStuck and Reached.
+-- Rests on specs/Beginning, on goal's Goals, on machine's laws of cells, records and words, on lookups' Tables and on reach's Limits, NeverStuck and Reached.
 use Prim.Native.Nat.{ℕ, zero, suc, _+_, _*_, _≤_, _<_}
 use mathlib.Core.Path.{_≡_, sym, _∙_, ap, subst}
 use mathlib.Core.List.{List, []}
@@ -13,7 +13,7 @@ use Rattle.reach.specs.Parts.{allOpen}
 use Rattle.reach.specs.Types.{Typed, sourceSlots}
 use Rattle.reach.specs.Eval.{parameters, partOf, empty, inputParts, size, evaluating, startOf, start}
 use Rattle.reach.specs.RuleFile as RuleFile
-use Rattle.reach.specs.Places.{bytesAt, headAt, goalAt}
+use Rattle.reach.specs.Places.{bytesAt, headAt}
 use Rattle.reach.specs.States.{StateIn, Sound, no-step}
 use Rattle.reach.proofs.Order.{open-width}
 use Rattle.reach.proofs.Limits.{accepted-keeps}
@@ -23,6 +23,8 @@ use Rattle.reach.proofs.Reached.{steps-in, open-typed}
 use Rattle.lookups.specs.declared.Head.{Head}
 use Rattle.lookups.specs.Heads.{headOf, NearHead}
 use Rattle.lookups.proofs.Tables.{parameters-are}
+use Rattle.goal.specs.declared.Goal.{Goal}
+use Rattle.goal.specs.Goals.{Asks}
 use Rattle.machine.specs.Layout.{recordsAt}
 use Rattle.machine.specs.Cells.{Cells, cellOf}
 use Rattle.machine.specs.Records.{Code, Holds, Wrote, EnvAt, empty-at, parts-at, none-at, evaluating-at}
@@ -87,73 +89,57 @@ stands-start {file} {types} {functions} {w₁} {w₂} {w₃} p base i n g source
     few-records (suc zero) below = rw (group .holds .word-1) (omega arith)
     few-records (suc (suc j)) below = absurd (omega arith)
 
--- What is read of the goal's record is the program's.
-module _ {file types functions : List ℕ} {goal : ℕ} {p : Program} (given : GivenFile file types functions goal p) where
-  pub label-is : (goalAt file goal) .label ≡ p .label
-  label-is = ap (λ g. g .label) (given .goal-is)
+-- What the goal asks for is the program's.
+module _ {file types functions : List ℕ} {goal : Goal} {p : Program} (given : GivenFile file types functions p) (asks : Asks goal p) where
+  pub limit-few : goal .steps ≤ 4096
+  limit-few = omega (arith, asks .steps-is, accepted-keeps file p (given .checked) .steps-limit)
 
-  pub depth-is : (goalAt file goal) .depth ≡ p .depth
-  depth-is = ap (λ g. g .depth) (given .goal-is)
+  module _ (head : Head) (head-read : headOf file head ≡ headAt file (getD functions (goal .source) 0)) where
+    head-is : headOf file head ≡ headAt file (getD functions (p .source) 0)
+    head-is = head-read ∙ ap (λ i. headAt file (getD functions i 0)) (asks .source-is)
 
-  module _ {limit : ℕ} (limit-read : limit ≡ (goalAt file goal) .steps) where
-    pub limit-is : limit ≡ p .steps
-    limit-is = limit-read ∙ ap (λ g. g .steps) (given .goal-is)
+    -- the types of the source's parameters
+    pub source-parameters : bytesAt file (head .parameters) (head .count) ≡ sourceTypes p
+    source-parameters = parameters-are file head head-is ∙ sym (given .parameters-there)
 
-    pub limit-few : limit ≤ 4096
-    limit-few = omega (arith, limit-is, accepted-keeps file p (given .checked) .steps-limit)
+    pub many : head .count ≡ length (sourceTypes p)
+    many = sym (bytes-length file (head .parameters) (head .count)) ∙ ap length source-parameters
 
-    module _
-        {which deep : ℕ} (which-read : which ≡ (goalAt file goal) .source) (head : Head) (head-read : headOf file head ≡ headAt file (getD functions which 0))
-        (deep-read : deep ≡ (goalAt file goal) .depth)
-      where
-        head-is : headOf file head ≡ headAt file (getD functions (p .source) 0)
-        head-is = head-read ∙ ap (λ i. headAt file (getD functions i 0)) (which-read ∙ ap (λ g. g .source) (given .goal-is))
+    pub parameters-few : head .count ≤ 8
+    parameters-few = omega (arith, many, accepted-keeps file p (given .checked) .parameters-limit)
 
-        pub deep-is : deep ≡ p .depth
-        deep-is = deep-read ∙ depth-is
+    pub deep-small : goal .depth ≤ 255
+    deep-small = omega (arith, asks .depth-is, accepted-keeps file p (given .checked) .depth-limit .1)
 
-        -- the types of the source's parameters
-        pub source-parameters : bytesAt file (head .parameters) (head .count) ≡ sourceTypes p
-        source-parameters = parameters-are file head head-is ∙ sym (given .parameters-there)
+    -- the source's body
+    body : (g : Function) × (functionAt p (p .source) ≡ some g) × Code file (declarationsOf file types functions) (head .body) (g .body)
+    body =
+        let found = given .file-of .function-there (p .source) (given .source-there) in
+        (found .0, found .1, subst (λ i. Code file (declarationsOf file types functions) i (found .0 .body)) (sym (ap (λ (g : RuleFile.Head). g .body) head-is)) (found .2))
 
-        pub many : head .count ≡ length (sourceTypes p)
-        many = sym (bytes-length file (head .parameters) (head .count)) ∙ ap length source-parameters
+    pub typed : Typed (p .types) (sourceTypes p) (allOpen (head .count))
+    typed = rw many (open-typed (p .types) (sourceTypes p))
 
-        pub parameters-few : head .count ≤ 8
-        parameters-few = omega (arith, many, accepted-keeps file p (given .checked) .parameters-limit)
+    module _ (w : List ℕ) {base : ℕ} (base-is : base ≡ recordsAt (goal .steps)) (long : length w ≡ workWords (p .steps)) where
+      -- the parameters' cells and the first records have room in the words
+      pub opens : NearHead head → (5 * head .count ≤ base) × (base + 12 ≤ length w) × (head .count ≤ 255) × (head .parameters ≤ 1000000) × (goal .depth ≤ 255)
+      opens near =
+          let few = parameters-few in
+          (omega arith, omega (arith, asks .steps-is), omega arith, omega arith, deep-small)
 
-        pub deep-small : deep ≤ 255
-        deep-small = omega (arith, deep-is, accepted-keeps file p (given .checked) .depth-limit .1)
+      pub opened-stands :
+          {w′ : List ℕ} → Opened file w w′ base (head .parameters) (head .count) (goal .depth)
+          → StandsFor file types functions p w′ base (head .count) (startRegisters (head .body)) (allOpen (head .count)) (start p)
+      unfolding sourceSlots
+      opened-stands {w′} opened =
+          let few = parameters-few in
+          let limited = limit-few in
+          let same : length (opened .w₁) ≡ length w = opened .starts .same-length in
+          let open-there : Cells (p .types) (sourceSlots p) (opened .w₁) (head .count) (allOpen (head .count)) =
+          rw (source-parameters, asks .depth-is) at (opened .starts .stands (p .types)) in
+          stands-start p base (head .body) (head .count) (body .0) (body .1) (body .2) many (omega arith) (omega arith)
+          (omega (arith, asks .steps-is)) (omega (arith, asks .steps-is)) open-there (opened .zeros) (opened .group) (steps-in p (allOpen (head .count)) (open-width (head .count) ∙ many) no-step)
+          (steps-sound file p (given .checked) (allOpen (head .count)) typed no-step)
 
-        -- the source's body
-        body : (g : Function) × (functionAt p (p .source) ≡ some g) × Code file (declarationsOf file types functions) (head .body) (g .body)
-        body =
-            let found = given .file-of .function-there (p .source) (given .source-there) in
-            (found .0, found .1, subst (λ i. Code file (declarationsOf file types functions) i (found .0 .body)) (sym (ap (λ (g : RuleFile.Head). g .body) head-is)) (found .2))
-
-        pub typed : Typed (p .types) (sourceTypes p) (allOpen (head .count))
-        typed = rw many (open-typed (p .types) (sourceTypes p))
-
-        module _ (w : List ℕ) {base : ℕ} (base-is : base ≡ recordsAt limit) (long : length w ≡ workWords (p .steps)) where
-          -- the parameters' cells and the first records have room in the words
-          pub opens : NearHead head → (5 * head .count ≤ base) × (base + 12 ≤ length w) × (head .count ≤ 255) × (head .parameters ≤ 1000000) × (deep ≤ 255)
-          opens near =
-              let few = parameters-few in
-              (omega arith, omega (arith, limit-is), omega arith, omega arith, deep-small)
-
-          pub opened-stands :
-              {w′ : List ℕ} → Opened file w w′ base (head .parameters) (head .count) deep
-              → StandsFor file types functions p w′ base (head .count) (startRegisters (head .body)) (allOpen (head .count)) (start p)
-          unfolding sourceSlots
-          opened-stands {w′} opened =
-              let few = parameters-few in
-              let limited = limit-few in
-              let same : length (opened .w₁) ≡ length w = opened .starts .same-length in
-              let open-there : Cells (p .types) (sourceSlots p) (opened .w₁) (head .count) (allOpen (head .count)) =
-              rw (source-parameters, deep-is) at (opened .starts .stands (p .types)) in
-              stands-start p base (head .body) (head .count) (body .0) (body .1) (body .2) many (omega arith) (omega arith) (omega (arith, limit-is)) (omega (arith, limit-is))
-              open-there (opened .zeros) (opened .group) (steps-in p (allOpen (head .count)) (open-width (head .count) ∙ many) no-step)
-              (steps-sound file p (given .checked) (allOpen (head .count)) typed no-step)
-
-          pub opened-length : {w′ : List ℕ} → Opened file w w′ base (head .parameters) (head .count) deep → length w′ ≡ length w
-          opened-length opened = opened .group .only-top .same-length ∙ opened .zeros .only-top .same-length ∙ opened .starts .same-length
+      pub opened-length : {w′ : List ℕ} → Opened file w w′ base (head .parameters) (head .count) (goal .depth) → length w′ ≡ length w
+      opened-length opened = opened .group .only-top .same-length ∙ opened .zeros .only-top .same-length ∙ opened .starts .same-length

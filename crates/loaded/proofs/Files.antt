@@ -6,15 +6,14 @@ use mathlib.Core.List.{List}
 use native.Mathlib.Omega.{arith}
 use lib.ListN.{getD}
 use Rattle.reach.specs.Syntax.{Program}
-use Rattle.reach.specs.Places.{headAt, goalAt, declarationsAt}
+use Rattle.reach.specs.Places.{headAt, declarationsAt}
 use Rattle.reach.specs.Answers.{check, accepted}
 use Rattle.machine.proofs.Codes.{code-body}
 use Rattle.rulefile.specs.declared.Loaded.{Loaded}
 use Rattle.rulefile.specs.Loading.{typePlaces, functionPlaces, Tabled}
-use Rattle.rulefile.proofs.Tabled.{program-types, program-function, program-source, program-label, program-depth, program-steps, program-source-there, program-source-types}
+use Rattle.rulefile.proofs.Tabled.{program-types, program-function, program-source-there, program-source-types}
 use Rattle.steps.specs.Stepping.{FileOf}
 use Rattle.loaded.specs.Beginning.{GivenFile}
-use Rattle.loaded.proofs.Loaded.{goal-of}
 
 -- a loaded file is the file of its program
 file-of : {file : List ℕ} {r : Loaded} {p : Program} → Tabled file r p → FileOf file (typePlaces r) (functionPlaces r) p
@@ -30,13 +29,12 @@ file-of {file} {r} t = record {
   small = t .size;
 }
 
--- and with its goal it is what both runs are given
+-- and it is what both runs are given
 pub given-file :
-    {file : List ℕ} {r : Loaded} {p : Program} → check file ≡ accepted p → Tabled file r p → GivenFile file (typePlaces r) (functionPlaces r) (r .«goal_at») p
+    {file : List ℕ} {r : Loaded} {p : Program} → check file ≡ accepted p → Tabled file r p → GivenFile file (typePlaces r) (functionPlaces r) p
 given-file checked t = record {
   checked = checked;
   file-of = file-of t;
-  goal-is = goal-of _ (program-source t) (program-label t) (program-depth t) (program-steps t);
   source-there = omega (arith, program-source-there t, t .functions-count);
   parameters-there = program-source-types t;
 }

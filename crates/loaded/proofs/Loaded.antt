@@ -9,18 +9,12 @@ use lib.Seq.{drop-at}
 use Rattle.reach.specs.declared.Refusal.{Refusal}
 use Rattle.reach.specs.Limits.{workWords}
 use Rattle.reach.specs.Syntax.{Program}
-use Rattle.reach.specs.RuleFile.{Goal}
-use Rattle.reach.specs.Places.{goalAt}
 use Rattle.reach.specs.Answers.{check, accepted, turnedBack}
 use Rattle.reach.proofs.Limits.{accepted-keeps}
 use Rattle.rulefile.specs.declared.Checked.the-variants as Checked
 use Rattle.rulefile.specs.declared.Loaded.{Loaded}
 use Rattle.rulefile.specs.Loading.{typePlaces, functionPlaces, Tabled, LoadsAs, Loads}
-use Rattle.rulefile.proofs.Tabled.{program-steps}
-
--- a goal is its four numbers
-pub goal-of : (g : Goal) {a b c d : ℕ} → g .source ≡ a → g .label ≡ b → g .depth ≡ c → g .steps ≡ d → g ≡ record { source = a; label = b; depth = c; steps = d }
-goal-of g is-a is-b is-c is-d = rw (← is-a, ← is-b, ← is-c, ← is-d)
+use Rattle.rulefile.proofs.Tabled.{program-goal}
 
 -- what a loaded file says, by its answer
 pub loaded-accepted : (file : List ℕ) (r : Loaded) → Loads file r → r .answer ≡ Checked.Accepted → (p : Program) × (check file ≡ accepted p) × Tabled file r p
@@ -50,17 +44,14 @@ module _ (file : List ℕ) (r : Loaded) (loads : Loads file r) (is : r .answer �
   pub functions-held : r .functions ≤ length (r .«function_at»)
   functions-held = omega (arith, here .2 .functions-count, length-take (r .functions) (r .«function_at»))
 
-  pub goal-small : r .«goal_at» ≤ 16384
-  goal-small = omega (arith, here .2 .goal-inside, here .2 .size)
-
-  pub steps-small : {limit : ℕ} → limit ≡ (goalAt file (r .«goal_at»)) .steps → limit ≤ 4096
-  steps-small same = omega (arith, program-steps (here .2), accepted-keeps file (here .0) (here .1) .steps-limit)
+  pub steps-small : r .goal .steps ≤ 4096
+  steps-small = omega (arith, program-goal (here .2) .steps-is, accepted-keeps file (here .0) (here .1) .steps-limit)
 
   -- the words behind those that were lent on are as before
   pub behind-kept :
-      (v w : List ℕ) {limit words : ℕ} → limit ≡ (goalAt file (r .«goal_at»)) .steps → words ≡ workWords limit → length v ≡ words
+      (v w : List ℕ) {words : ℕ} → words ≡ workWords (r .goal .steps) → length v ≡ words
       → (p : Program) → check file ≡ accepted p → drop (workWords (p .steps)) (v ++ drop words w) ≡ drop (workWords (p .steps)) w
-  behind-kept v w {limit} {words} read-limit enough same p checked =
+  behind-kept v w {words} enough same p checked =
       let one : here .0 ≡ p = cc (here .1) in
-      let z : workWords (p .steps) ≡ words = omega (arith, program-steps (here .2), ap (λ (x : Program). x .steps) one) in
+      let z : workWords (p .steps) ≡ words = omega (arith, program-goal (here .2) .steps-is, ap (λ (x : Program). x .steps) one) in
       rw z (drop-at v (drop words w) words same)

@@ -1,4 +1,4 @@
--- What both runs begin with: a checked file with its tables and its goal, and the words and registers at the beginning.
+-- What both runs begin with: a checked file with its tables, and the words and registers at the beginning.
 -- Rests on reach's Answers, Types and Places, on cells' Writes, on machine's Records and on steps' Stepping.
 use Prim.Native.Nat.{ℕ, _<_}
 use mathlib.Core.Path.{_≡_}
@@ -6,18 +6,17 @@ use mathlib.Core.List.{List}
 use lib.ListN.{length, getD}
 use Rattle.reach.specs.Syntax.{Program, sourceTypes}
 use Rattle.reach.specs.Types.{slots}
-use Rattle.reach.specs.Places.{bytesAt, headAt, goalAt}
+use Rattle.reach.specs.Places.{bytesAt, headAt}
 use Rattle.reach.specs.Answers.{check, accepted}
 use Rattle.machine.specs.Records.{Wrote}
 use Rattle.cells.specs.Writes.{Starts}
 use Rattle.steps.specs.declared.Registers.{Registers}
 use Rattle.steps.specs.Stepping.{FileOf, expressionKind}
 
--- A checked file with its program, the places of its types and functions, and that of its goal.
-pub record GivenFile (file types functions : List ℕ) (goal : ℕ) (p : Program) : Type 0 where
+-- A checked file with its program and the places of its types and functions.
+pub record GivenFile (file types functions : List ℕ) (p : Program) : Type 0 where
   pub checked : check file ≡ accepted p
   pub file-of : FileOf file types functions p
-  pub goal-is : goalAt file goal ≡ record { source = p .source; label = p .label; depth = p .depth; steps = p .steps }
   pub source-there : p .source < length functions
   pub parameters-there : sourceTypes p ≡ (headAt file (getD functions (p .source) 0)) .parameters
 

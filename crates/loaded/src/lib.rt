@@ -1,5 +1,5 @@
 // What a loaded rule file gives both runs: its tables, its goal and the bounds of its numbers, which are laws alone, and the beginning of a
-// run. Rests on crates rulefile, lookups, machine, cells and steps.
+// run. Rests on crates goal, rulefile, lookups, machine, cells and steps.
 ghost use mathlib.Core.Path.{_≡_};
 ghost use Prim.Native.Nat.{_+_, _*_, _≤_};
 ghost use lib.ListN.{length};

@@ -1,11 +1,13 @@
 // The second pass over a rule file: the type and function numbers in TY, FN heads and GO all exist. The records are looked at
 // where the first pass found them: `types` and `functions` hold the places behind the marks. Rests on crates
-// marks and lookups.
+// marks, lookups and goal.
 ghost use mathlib.Core.Path.{_≡_};
 ghost use Prim.Native.Nat.{_≤_};
 ghost use mathlib.Core.List.{map};
 ghost use Rattle.reach.specs.RuleFile.{allBelow, constructorsExist, typesExist, headsExist, numbersExist};
 ghost use Rattle.reach.specs.Places.{bytesAt, constructorsAt, typeAt, headAt, outlineAt};
+ghost use Rattle.goal.specs.Goals.{goalOf};
+use goal::Goal;
 use lookups::constructors_of;
 use lookups::head_of;
 use marks::byte_or_zero;
@@ -79,8 +81,8 @@ fn heads_exist<'a>(s: &'a [u8], functions: &'a [u16], limit: usize) -> bool
 }
 
 // All of these, and the function of the goal.
-pub fn numbers_exist<'a>(s: &'a [u8], types: &'a [u16], functions: &'a [u16], goal: usize) -> bool
-    ensures { λ r. ⌜ r ≡ numbersExist (outlineAt (now (s .entry)) (now (types .entry)) (now (functions .entry)) goal) ⌝ }
+pub fn numbers_exist<'a>(s: &'a [u8], types: &'a [u16], functions: &'a [u16], goal: Goal) -> bool
+    ensures { λ r. ⌜ r ≡ numbersExist (outlineAt (now (s .entry)) (now (types .entry)) (now (functions .entry)) (goalOf goal)) ⌝ }
 {
     if !types_exist(s, types, types.len()) {
         return false;
@@ -88,5 +90,5 @@ pub fn numbers_exist<'a>(s: &'a [u8], types: &'a [u16], functions: &'a [u16], go
     if !heads_exist(s, functions, types.len()) {
         return false;
     }
-    byte_or_zero(s, goal) < functions.len()
+    goal.source < functions.len()
 }

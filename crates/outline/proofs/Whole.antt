@@ -1,9 +1,8 @@
 -- The outline of a file as first_pass reads it: the first mark, the types, the functions, and the goal with the end of the file.
 -- Rests on Tables, on reach's RuleFile and Places, and on the laws of crate records about steps.
-use Prim.Native.Nat.{ℕ, _<_}
+use Prim.Native.Nat.{ℕ}
 use mathlib.Core.Path.{_≡_, refl, sym, _∙_}
 use mathlib.Core.List.{List}
-use lib.ListN.{length}
 use Rattle.reach.specs.declared.Refusal.{Refusal}
 use Rattle.reach.specs.declared.Refusal.the-variants.{UnexpectedMark, TrailingBytes}
 use Rattle.reach.specs.Syntax.{Types}
@@ -57,16 +56,13 @@ module _ (s : List ℕ) where
       (λ u next. refl)))))))
       m)
 
-  -- the goal that was read as the last record stands there, and begins within the bytes
-  last-read : (i : ℕ) {g : Goal} {next : ℕ} → lastRecord s i ≡ got g next → (g ≡ goalAt s i) × (i < length s)
+  -- the goal that was read as the last record stands there
+  last-read : (i : ℕ) {g : Goal} {next : ℕ} → lastRecord s i ≡ got g next → g ≡ goalAt s i
   unfolding lastRecord
   last-read i e =
       on-got (goalRecord s i) _ e λ h k is more.
       on-got (atEnd TrailingBytes s k) _ more λ u n over same.
-      let read = goal-read s i is in (cc (read .value), read .begins)
-
-  pub goal-begins : (i : ℕ) {r : Step} {next : ℕ} → r ≡ stepOf (lastRecord s i) → r ≡ Step.Next next → i < length s
-  goal-begins i told found = (last-read i (step-got (lastRecord s i) (sym told ∙ found) .1)) .1
+      cc (goal-read s i is .value)
 
   -- The answer r to the first mark: there is none of a type, or one.
   module _ {r : Step} (told : r ≡ stepOf (firstMark s 0)) where
@@ -93,4 +89,4 @@ module _ (s : List ℕ) where
         pub outlined : {next : ℕ} → last ≡ Step.Next next → outline s 0 ≡ got (record { declared = record { types = ts; heads = fs }; goal = goalAt s k }) next
         outlined e =
             let (g, read) = step-got (lastRecord s k) (sym ended ∙ e) in
-            marked ∙ rw (types, functions, read, (last-read k read) .0)
+            marked ∙ rw (types, functions, read, last-read k read)

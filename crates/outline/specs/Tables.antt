@@ -1,8 +1,8 @@
--- What the first pass leaves: the places of the records, and what the readers of crate reach find there.
--- Rests on reach's RuleFile and Places and on the structs of src/lib.rt.
+-- What the first pass leaves: the places of the records, what the readers of crate reach find there, and the goal.
+-- Rests on reach's RuleFile and Places, on goal's Goals and on the structs of src/lib.rt.
 use Prim.Native.Nat.{ℕ, pred, _≤_, _<_}
 use mathlib.Core.List.{List, [], _∷_, map}
-use lib.ListN.{length, take}
+use lib.ListN.{take}
 use Rattle.reach.specs.Limits.{typeLimit, functionLimit}
 use Rattle.reach.specs.Syntax.{Types}
 use Rattle.reach.specs.declared.Refusal.the-variants.{UnexpectedMark, TrailingBytes}
@@ -11,6 +11,7 @@ use Rattle.reach.specs.RuleFile.{onMark, mark, typeRecord, moreTypes, Head, fun
 use Rattle.reach.specs.Places.{typeAt, headAt, outlineAt}
 use Rattle.records.specs.declared.Step.{Step}
 use Rattle.records.specs.declared.Step.the-variants.{Next, Refused}
+use Rattle.goal.specs.Goals.{goalOf}
 use Rattle.outline.specs.declared.Turn.{Turn}
 use Rattle.outline.specs.declared.Turn.the-variants as Turn
 use Rattle.outline.specs.declared.TypeTable.{TypeTable}
@@ -61,13 +62,12 @@ abbrev pub functionsOf : List ℕ → FunctionTable → Got (List Head)
 functionsOf s r = onStep (map (headAt s) (take (r .count) (r .places))) (r .step)
 
 abbrev pub outlinedOf : List ℕ → Outlined → Got Outline
-outlinedOf s r = onStep (outlineAt s (take (r .types) (r .«type_at»)) (take (r .functions) (r .«function_at»)) (r .«goal_at»)) (r .step)
+outlinedOf s r = onStep (outlineAt s (take (r .types) (r .«type_at»)) (take (r .functions) (r .«function_at»)) (goalOf (r .goal))) (r .step)
 
--- the counts fit the arrays, and the goal stands in the file
-pub record InLimits (s : List ℕ) (r : Outlined) : Type 0 where
+-- the counts fit the arrays
+pub record InLimits (r : Outlined) : Type 0 where
   pub types-limit : r .types ≤ typeLimit
   pub functions-limit : r .functions ≤ functionLimit
-  pub goal-there : r .«goal_at» ≤ length s
 
 -- the first mark must be that of a type
 unfoldable pub firstMark : Reader (Unit {0})

@@ -1,6 +1,6 @@
 // The first pass over a rule file: marks, counts, lengths, D and S, bodies passed over. What it leaves is the places where the
-// records stand. Every mark is read through the cursor: the first where the file begins, each other one where the record before it
-// ends. Rests on crates cursor and records.
+// records of types and functions stand, and the goal. Every mark is read through the cursor: the first where the file begins, each
+// other one where the record before it ends. Rests on crates cursor, records and goal.
 ghost use mathlib.Core.Path.{_≡_};
 ghost use Prim.Native.Nat.{ℕ, _≤_};
 ghost use lib.ListN.{length};
@@ -10,6 +10,9 @@ ghost use Rattle.records.specs.Steps.{stepOf};
 ghost use Rattle.outline.specs.Tables.{typesTurn, functionsTurn, Room, typesFrom, functionsFrom, typesOf, functionsOf, outlinedOf, InLimits, firstMark, lastRecord};
 use cursor::mark_at;
 use cursor::mark_behind;
+use goal::Goal;
+use goal::goal_of;
+use goal::no_goal;
 use marks::Mark;
 use marks::Marked;
 use reach::Refusal;
@@ -50,7 +53,7 @@ pub struct Outlined {
     pub type_at: [u16; 32],
     pub functions: usize,
     pub function_at: [u16; 64],
-    pub goal_at: usize,
+    pub goal: Goal,
 }
 
 // The mark behind a type that begins at `from`, where so many more types may come.
@@ -195,7 +198,7 @@ fn first_mark(s: &[u8]) -> Step
 // An outline that was not read.
 fn not_read(step: Step) -> Outlined
     ensures { λ r. ⌜ r .step ≡ step ⌝ }
-    ensures nothing { λ r. ⌜ (r .types ≡ 0) × (r .functions ≡ 0) × (r .«goal_at» ≡ 0) ⌝ }
+    ensures nothing { λ r. ⌜ (r .types ≡ 0) × (r .functions ≡ 0) ⌝ }
 {
     Outlined {
         step,
@@ -203,7 +206,7 @@ fn not_read(step: Step) -> Outlined
         type_at: [0; 32],
         functions: 0,
         function_at: [0; 64],
-        goal_at: 0,
+        goal: no_goal(),
     }
 }
 
@@ -225,7 +228,7 @@ fn last_record(s: &[u8], at: usize) -> Step
 pub fn first_pass(s: &[u8]) -> Outlined
     requires { ⌜ length (now s) ≤ 16384 ⌝ }
     ensures { λ r. ⌜ outline (now (s .entry)) 0 ≡ outlinedOf (now (s .entry)) r ⌝ }
-    ensures limits { λ r. ⌜ InLimits (now (s .entry)) r ⌝ }
+    ensures limits { λ r. ⌜ InLimits r ⌝ }
 {
     let begin = first_mark(s);
     let Step::Next(first_type) = begin else {
@@ -238,21 +241,22 @@ pub fn first_pass(s: &[u8]) -> Outlined
     };
     let functions = read_functions(s, first_function);
     let defined = functions.step;
-    let Step::Next(goal) = defined else {
+    let Step::Next(goal_at) = defined else {
         return not_read(defined);
     };
-    let last = last_record(s, goal);
+    let last = last_record(s, goal_at);
     let Step::Next(_) = last else {
         return not_read(last);
     };
     let type_at = types.places;
     let function_at = functions.places;
+    let goal = goal_of(s, goal_at);
     Outlined {
         step: last,
         types: types.count,
         type_at,
         functions: functions.count,
         function_at,
-        goal_at: goal,
+        goal,
     }
 }

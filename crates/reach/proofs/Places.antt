@@ -16,7 +16,7 @@ use Rattle.reach.specs.Base.{pick}
 use Rattle.reach.specs.Limits.{constructorLimit, fieldLimit, parameterLimit, bodyLimit, depthLimit, stepLimit}
 use Rattle.reach.specs.Reader.{Got, got, refused, demand, byte, word, times, passed}
 use Rattle.reach.specs.RuleFile.{counted, constructorRecord, typeRecord, Head, functionRecord, Goal, goalRecord}
-use Rattle.reach.specs.Places.{bytesAt, constructorsAt, wordAt, typeAt, headAt, goalAt, declarationsAt, outlineAt}
+use Rattle.reach.specs.Places.{bytesAt, constructorsAt, wordAt, typeAt, headAt, goalAt}
 use Rattle.reach.proofs.Base.{clash}
 use Rattle.reach.proofs.Limits.{IfFound, if-found-then}
 
@@ -165,8 +165,3 @@ pub bytes-length : (s : List ℕ) (i n : ℕ) → length (bytesAt s i n) ≡ n
 unfolding bytesAt
 bytes-length s i zero = refl
 bytes-length s i (suc n) = ap suc (bytes-length s (i + 1) n)
-
--- an outline at places declares what stands at the places of its types and functions
-pub outline-declares : (s types functions : List ℕ) (goal : ℕ) → (outlineAt s types functions goal) .declared ≡ declarationsAt s types functions
-unfolding outlineAt
-outline-declares s types functions goal = refl

@@ -42,6 +42,6 @@ goalAt s i = record { source = getD s i 0; label = getD s (i + 1) 0; depth = get
 unfoldable pub declarationsAt : List ℕ → List ℕ → List ℕ → Declarations
 declarationsAt s types functions = record { types = map (typeAt s) types; heads = map (headAt s) functions }
 
--- the outline of a file whose records stand at these places
-unfoldable pub outlineAt : List ℕ → List ℕ → List ℕ → ℕ → Outline
-outlineAt s types functions goal = record { declared = declarationsAt s types functions; goal = goalAt s goal }
+-- the outline of a file whose types and functions stand at these places, with this goal
+unfoldable pub outlineAt : List ℕ → List ℕ → List ℕ → Goal → Outline
+outlineAt s types functions goal = record { declared = declarationsAt s types functions; goal = goal }

@@ -12,10 +12,11 @@ use Rattle.reach.specs.declared.Refusal.the-variants.{UnknownNumber, EmptyType,
 use Rattle.reach.specs.Limits.{fileLimit, typeLimit, functionLimit}
 use Rattle.reach.specs.Types.{leastDepths}
 use Rattle.reach.specs.RuleFile.{Outline, outline, numbersExist, programOf, noEmptyType, deepEnough}
-use Rattle.reach.specs.Places.{typeAt, goalAt, declarationsAt, outlineAt}
+use Rattle.reach.specs.Places.{typeAt, declarationsAt, outlineAt}
 use Rattle.reach.specs.Answers.{turnedBack, check}
 use Rattle.records.specs.declared.Step.the-variants.{Next}
 use Rattle.records.specs.Steps.{stepOf}
+use Rattle.goal.specs.Goals.{goalOf}
 use Rattle.outline.specs.declared.Outlined.{Outlined}
 use Rattle.outline.specs.Tables.{outlinedOf, InLimits}
 use Rattle.bodies.specs.declared.Judged.{Judged}
@@ -25,10 +26,9 @@ use Rattle.depths.specs.Table.{padded}
 use Rattle.depths.proofs.Rounds.{least-front}
 use Rattle.rulefile.specs.declared.Checked.{Checked}
 use Rattle.rulefile.specs.declared.Checked.the-variants as Checked
-use Rattle.rulefile.specs.declared.Goal.{Goal}
 use Rattle.rulefile.specs.declared.Loaded.{Loaded}
 use Rattle.rulefile.specs.Answering.{checkedOf}
-use Rattle.rulefile.specs.Loading.{typesIn, functionsIn, goalOf, Outlines, Reads, sourceShallow, LoadsAs}
+use Rattle.rulefile.specs.Loading.{typesIn, functionsIn, Outlines, Reads, sourceShallow, LoadsAs}
 use Rattle.reach.proofs.Stages.{numbers-refused, bodies-refused, empty-refused, depth-refused, file-accepted}
 use Rattle.rulefile.proofs.Passes as Passes
 use Rattle.rulefile.proofs.Tabled.{depth-tested}
@@ -50,7 +50,7 @@ answer-is s r (Checked.Refused why) loads = rw loads
 -- what the first pass leaves
 pub outlines :
     {s : List ℕ} {o : Outlined} {n : ℕ} → length s ≤ fileLimit → length (o .«type_at») ≡ typeLimit → length (o .«function_at») ≡ functionLimit
-    → outline s 0 ≡ outlinedOf s o → InLimits s o → o .step ≡ Next n → Outlines s o
+    → outline s 0 ≡ outlinedOf s o → InLimits o → o .step ≡ Next n → Outlines s o
 outlines {n = n} size types functions told limits e =
     record {
       size = size;
@@ -60,7 +60,6 @@ outlines {n = n} size types functions told limits e =
       types-held = types;
       functions-limit = limits .functions-limit;
       functions-held = functions;
-      goal-inside = limits .goal-there;
     }
 
 -- the tables have as many places as they count
@@ -73,7 +72,7 @@ module _ {s : List ℕ} {o : Outlined} (out : Outlines s o) where
 
 module _ (s : List ℕ) (o : Outlined) where
   abbrev whole : Outline
-  whole = outlineAt s (typesIn o) (functionsIn o) (o .«goal_at»)
+  whole = outlineAt s (typesIn o) (functionsIn o) (goalOf (o .goal))
 
   -- the second and the third pass
   module _ (out : Outlines s o) {r : Bool} (tested : r ≡ numbersExist whole) where
@@ -112,50 +111,44 @@ module _ (s : List ℕ) (o : Outlined) where
           empty-refused s (reads .outlined .size) (reads .passed .read) (reads .passed .exist) (reads .passed .bodies)
           (none-empty-is ∙ not-true r e)
 
-      module _
-          (filled : not r ≡ false) {g : Goal} (goal-is : goalOf g ≡ goalAt s (o .«goal_at»)) {d : Bool}
-          (deep : d ≡ sourceShallow s (functionsIn o) (goalOf g) least)
-        where
-          deep-is : deepEnough (programOf whole (reads .functions)) ≡ d
-          deep-is = sym (deep ∙ rw (are, goal-is) (depth-tested (reads .passed)))
+      module _ (filled : not r ≡ false) {d : Bool} (deep : d ≡ sourceShallow s (functionsIn o) (goalOf (o .goal)) least) where
+        deep-is : deepEnough (programOf whole (reads .functions)) ≡ d
+        deep-is = sym (deep ∙ rw are (depth-tested (reads .passed)))
 
-          pub depth-small : not d ≡ true → check s ≡ turnedBack DepthTooSmall
-          unfolding outlineAt
-          depth-small e =
-              depth-refused s (reads .outlined .size) (reads .passed .read) (reads .passed .exist) (reads .passed .bodies)
-              (none-empty-is ∙ not-false r filled) (deep-is ∙ not-true d e)
+        pub depth-small : not d ≡ true → check s ≡ turnedBack DepthTooSmall
+        unfolding outlineAt
+        depth-small e =
+            depth-refused s (reads .outlined .size) (reads .passed .read) (reads .passed .exist) (reads .passed .bodies)
+            (none-empty-is ∙ not-false r filled) (deep-is ∙ not-true d e)
 
-          -- the file is accepted, and this is what is handed on
-          abbrev loaded : Loaded
-          loaded =
-              record {
-                answer = Checked.Accepted;
-                types = o .types;
-                «type_at» = o .«type_at»;
-                functions = o .functions;
-                «function_at» = o .«function_at»;
-                «goal_at» = o .«goal_at»;
-                goal = g;
-                least = least;
-              }
-
-          pub all-passed : not d ≡ false → LoadsAs s loaded Checked.Accepted
-          unfolding programOf declarationsAt outlineAt
-          all-passed e = (
-            programOf whole (reads .functions),
-            file-accepted s (reads .outlined .size) (reads .passed .read) (reads .passed .exist) (reads .passed .bodies)
-                (none-empty-is ∙ not-false r filled) (deep-is ∙ not-false d e),
+        -- the file is accepted, and this is what is handed on
+        abbrev loaded : Loaded
+        loaded =
             record {
-              size = reads .outlined .size;
-              types-limit = reads .outlined .types-limit;
-              types-count = types-count (reads .outlined);
-              functions-limit = reads .outlined .functions-limit;
-              functions-count = functions-count (reads .outlined);
-              goal-inside = reads .outlined .goal-inside;
-              goal-there = goal-is;
-              functions = reads .functions;
-              passed = reads .passed;
-              program = refl;
-              depths = are;
-            },
-          )
+              answer = Checked.Accepted;
+              types = o .types;
+              «type_at» = o .«type_at»;
+              functions = o .functions;
+              «function_at» = o .«function_at»;
+              goal = o .goal;
+              least = least;
+            }
+
+        pub all-passed : not d ≡ false → LoadsAs s loaded Checked.Accepted
+        unfolding programOf declarationsAt outlineAt
+        all-passed e = (
+          programOf whole (reads .functions),
+          file-accepted s (reads .outlined .size) (reads .passed .read) (reads .passed .exist) (reads .passed .bodies)
+              (none-empty-is ∙ not-false r filled) (deep-is ∙ not-false d e),
+          record {
+            size = reads .outlined .size;
+            types-limit = reads .outlined .types-limit;
+            types-count = types-count (reads .outlined);
+            functions-limit = reads .outlined .functions-limit;
+            functions-count = functions-count (reads .outlined);
+            functions = reads .functions;
+            passed = reads .passed;
+            program = refl;
+            depths = are;
+          },
+        )

@@ -8,7 +8,7 @@ use lib.ListN.{length, getD}
 use Rattle.reach.specs.declared.Refusal.{Refusal}
 use Rattle.reach.specs.Syntax.{Function}
 use Rattle.reach.specs.Reader.{Got, got, refused}
-use Rattle.reach.specs.RuleFile.{Head, Declarations, outline, functionsOf}
+use Rattle.reach.specs.RuleFile.{Head, Goal, Declarations, outline, functionsOf}
 use Rattle.reach.specs.Places.{typeAt, headAt, declarationsAt, outlineAt}
 use Rattle.reach.specs.Base.{Each}
 use Rattle.reach.proofs.Base.{clash, nth-member, each-member}
@@ -26,7 +26,7 @@ use Rattle.bodies.specs.Check.{Small, BodiesThere, functionsAt, bodiesOf}
 each-at : {A : Type 0} (P : A → Type 0) (f : ℕ → A) (places : List ℕ) → Each P (map f places) → (n : ℕ) → n < length places → P (f (getD places n 0))
 each-at P f places all n h = each-member P all (nth-member (map f places) n _ (found f places 0 n h))
 
-module _ (s types functions : List ℕ) (goal : ℕ) {n : ℕ} (read : outline s 0 ≡ got (outlineAt s types functions goal) n) where
+module _ (s types functions : List ℕ) (goal : Goal) {n : ℕ} (read : outline s 0 ≡ got (outlineAt s types functions goal) n) where
   kept : OutlineKept (outlineAt s types functions goal)
   kept = subst (IfFound (λ o next. OutlineKept o)) read (outline-kept .found s 0)
 

@@ -1,7 +1,7 @@
 -- What the tables of places that passed say of the program: its types, its functions and their bodies, its goal, and the parameters of its
 -- source. For the test of depth, and for whoever goes on with a loaded file.
--- Rests on Loading of specs/, on reach's Encoding for the bodies and Numbers for the source, and on depths' Padded.
-use Prim.Native.Nat.{ℕ, zero, suc, _+_, _<_, _≤_}
+-- Rests on Loading of specs/, on goal's Goals, on reach's Encoding for the bodies and Numbers for the source, and on depths' Padded.
+use Prim.Native.Nat.{ℕ, zero, suc, _<_, _≤_}
 use mathlib.Core.Path.{_≡_, refl, sym, _∙_, ap}
 use mathlib.Core.List.{List, [], _∷_, map}
 use mathlib.Core.Option.{none, some}
@@ -9,16 +9,17 @@ use lib.ListN.{length, getD, getElem?, length-map}
 use native.Mathlib.Omega.{arith}
 use Rattle.reach.specs.Syntax.{Function, Program, functionAt, sourceTypes}
 use Rattle.reach.specs.Types.{leastDepths}
-use Rattle.reach.specs.RuleFile.{Head, Declarations, Outline, programOf, deepEnough}
-use Rattle.reach.specs.Places.{typeAt, headAt, goalAt, declarationsAt, outlineAt}
+use Rattle.reach.specs.RuleFile.{Head, Goal, Declarations, Outline, programOf, deepEnough}
+use Rattle.reach.specs.Places.{typeAt, headAt, declarationsAt, outlineAt}
 use Rattle.reach.proofs.Base.{clash}
 use Rattle.reach.proofs.Numbers.{numbers-exist-exactly}
 use Rattle.reach.proofs.Encoding.{BodyAt, Bodies, function-of, bodies-are}
 use Rattle.lookups.proofs.Tables.{found, missing}
+use Rattle.goal.specs.Goals.{Asks}
 use Rattle.depths.specs.Table.{padded}
 use Rattle.depths.proofs.Padded.{padded-lookup, padded-shallow}
 use Rattle.rulefile.specs.declared.Loaded.{Loaded}
-use Rattle.rulefile.specs.Loading.{Passed, goalOf, sourceShallow, typePlaces, functionPlaces, Tabled}
+use Rattle.rulefile.specs.Loading.{Passed, sourceShallow, typePlaces, functionPlaces, Tabled}
 
 -- ---- tables of places that passed
 
@@ -30,7 +31,7 @@ no-function d s (h ∷ hs) [] all f e = absurd all
 no-function d s (h ∷ hs) (g ∷ gs) all zero e = absurd (clash (cc))
 no-function d s (h ∷ hs) (g ∷ gs) all (suc f) e = no-function d s hs gs (all .1) f e
 
-module _ {s types functions : List ℕ} {goal : ℕ} {fs : List Function} (passed : Passed s types functions goal fs) where
+module _ {s types functions : List ℕ} {goal : Goal} {fs : List Function} (passed : Passed s types functions goal fs) where
   abbrev declared : Declarations
   declared = declarationsAt s types functions
 
@@ -38,7 +39,7 @@ module _ {s types functions : List ℕ} {goal : ℕ} {fs : List Function} (passe
   whole = outlineAt s types functions goal
 
   -- the source is one of the functions
-  pub source-there : (goalAt s goal) .source < length functions
+  pub source-there : goal .source < length functions
   unfolding declarationsAt outlineAt
   source-there = omega (arith, (numbers-exist-exactly whole .0 (passed .exist)) .1, length-map functions (headAt s))
 
@@ -55,14 +56,14 @@ module _ {s types functions : List ℕ} {goal : ℕ} {fs : List Function} (passe
   unfolding declarationsAt
   function-missing f h = no-function declared s (declared .heads) fs all-bodies f (missing (headAt s) functions f h)
 
-  source-parameters : sourceTypes (programOf whole fs) ≡ (headAt s (getD functions ((goalAt s goal) .source) 0)) .parameters
+  source-parameters : sourceTypes (programOf whole fs) ≡ (headAt s (getD functions (goal .source) 0)) .parameters
   unfolding sourceTypes functionAt programOf outlineAt
-  source-parameters = let g = function-found ((goalAt s goal) .source) source-there in rw (g .1) (g .2 .parameters)
+  source-parameters = let g = function-found (goal .source) source-there in rw (g .1) (g .2 .parameters)
 
   -- the test of depth on the padded table is the one of the definition
-  pub depth-tested : sourceShallow s functions (goalAt s goal) (padded (leastDepths (map (typeAt s) types))) ≡ deepEnough (programOf whole fs)
+  pub depth-tested : sourceShallow s functions goal (padded (leastDepths (map (typeAt s) types))) ≡ deepEnough (programOf whole fs)
   unfolding deepEnough programOf declarationsAt outlineAt
-  depth-tested = rw source-parameters (padded-shallow (leastDepths (map (typeAt s) types)) ((goalAt s goal) .depth) _)
+  depth-tested = rw source-parameters (padded-shallow (leastDepths (map (typeAt s) types)) (goal .depth) _)
 
 -- ---- the program of a loaded file
 
@@ -74,26 +75,16 @@ module _ {s : List ℕ} {r : Loaded} {p : Program} (t : Tabled s r p) where
   pub types-many : length (p .types) ≡ r .types
   types-many = rw program-types (length-map (typePlaces r) (typeAt s) ∙ t .types-count)
 
-  -- what the functions `source`, `label`, `depth` and `steps` answer for the goal's place is the program's
-  pub program-source : (goalAt s (r .«goal_at»)) .source ≡ p .source
+  -- the goal that is handed on asks for what the program does
+  pub program-goal : Asks (r .goal) p
   unfolding programOf outlineAt
-  program-source = sym (ap (λ q. q .source) (t .program))
-
-  pub program-label : (goalAt s (r .«goal_at»)) .label ≡ p .label
-  unfolding programOf outlineAt
-  program-label = sym (ap (λ q. q .label) (t .program))
-
-  pub program-depth : (goalAt s (r .«goal_at»)) .depth ≡ p .depth
-  unfolding programOf outlineAt
-  program-depth = sym (ap (λ q. q .depth) (t .program))
-
-  pub program-steps : (goalAt s (r .«goal_at»)) .steps ≡ p .steps
-  unfolding programOf outlineAt
-  program-steps = sym (ap (λ q. q .steps) (t .program))
-
-  -- and so is the goal that is handed on
-  pub program-goal : goalOf (r .goal) ≡ record { source = p .source; label = p .label; depth = p .depth; steps = p .steps }
-  program-goal = t .goal-there ∙ rw (← program-source, ← program-label, ← program-depth, ← program-steps)
+  program-goal =
+      record {
+        source-is = sym (ap (λ q. q .source) (t .program));
+        label-is = sym (ap (λ q. q .label) (t .program));
+        depth-is = sym (ap (λ q. q .depth) (t .program));
+        steps-is = sym (ap (λ q. q .steps) (t .program));
+      }
 
   -- the functions, by their places
   functions-are : p .functions ≡ t .functions
@@ -111,11 +102,11 @@ module _ {s : List ℕ} {r : Loaded} {p : Program} (t : Tabled s r p) where
 
   -- the source is one of them, and these are its parameters
   pub program-source-there : p .source < r .functions
-  program-source-there = omega (arith, source-there (t .passed), t .functions-count, program-source)
+  program-source-there = omega (arith, source-there (t .passed), t .functions-count, program-goal .source-is)
 
   pub program-source-types : sourceTypes p ≡ (headAt s (getD (functionPlaces r) (p .source) 0)) .parameters
-  unfolding programOf goalAt outlineAt
-  program-source-types = rw (← program-source, t .program) (source-parameters (t .passed))
+  unfolding programOf outlineAt
+  program-source-types = rw (← program-goal .source-is, t .program) (source-parameters (t .passed))
 
   -- the least depths, by type
   pub program-least : (n : ℕ) → getD (r .least) n 0 ≡ getD (leastDepths (p .types)) n 0

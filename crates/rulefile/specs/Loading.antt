@@ -1,5 +1,5 @@
 -- What a loaded file holds, in terms of reach's `check`.
--- Rests on reach's Answers, RuleFile, Places, on depths' Table and on the types of src/lib.rt.
+-- Rests on reach's Answers, RuleFile, Places, on goal's Goals, on depths' Table and on the types of src/lib.rt.
 use Prim.Native.Nat.{ℕ, _≤_}
 use mathlib.Core.Path.{_≡_}
 use mathlib.Core.Bool.{Bool, true}
@@ -11,17 +11,17 @@ use Rattle.reach.specs.Types.{leastDepths, shallow}
 use Rattle.reach.specs.Reader.{got}
 use Rattle.reach.specs.RuleFile as RuleFile
 use Rattle.reach.specs.RuleFile.{outline, numbersExist, functionsOf, programOf}
-use Rattle.reach.specs.Places.{headAt, goalAt, declarationsAt, outlineAt}
+use Rattle.reach.specs.Places.{headAt, declarationsAt, outlineAt}
 use Rattle.reach.specs.Answers as Answers
+use Rattle.goal.specs.Goals.{goalOf}
 use Rattle.outline.specs.declared.Outlined.{Outlined}
 use Rattle.depths.specs.Table.{padded}
 use Rattle.rulefile.specs.declared.Checked.{Checked}
 use Rattle.rulefile.specs.declared.Checked.the-variants.{Accepted, Refused}
-use Rattle.rulefile.specs.declared.Goal.{Goal}
 use Rattle.rulefile.specs.declared.Loaded.{Loaded}
 
--- Tables of places as the three passes leave them: each pass over the records that stand there found nothing.
-pub record Passed (s types functions : List ℕ) (goal : ℕ) (fs : List Function) : Type 0 where
+-- Tables of places and a goal as the three passes leave them: each pass over the records that stand there found nothing.
+pub record Passed (s types functions : List ℕ) (goal : RuleFile.Goal) (fs : List Function) : Type 0 where
   pub behind : ℕ
   pub read : outline s 0 ≡ got (outlineAt s types functions goal) behind
   pub exist : numbersExist (outlineAt s types functions goal) ≡ true
@@ -39,22 +39,17 @@ functionsIn o = take (o .functions) (o .«function_at»)
 pub record Outlines (s : List ℕ) (o : Outlined) : Type 0 where
   pub size : length s ≤ fileLimit
   pub behind : ℕ
-  pub read : outline s 0 ≡ got (outlineAt s (typesIn o) (functionsIn o) (o .«goal_at»)) behind
+  pub read : outline s 0 ≡ got (outlineAt s (typesIn o) (functionsIn o) (goalOf (o .goal))) behind
   pub types-limit : o .types ≤ typeLimit
   pub types-held : length (o .«type_at») ≡ typeLimit
   pub functions-limit : o .functions ≤ functionLimit
   pub functions-held : length (o .«function_at») ≡ functionLimit
-  pub goal-inside : o .«goal_at» ≤ length s
 
 -- the second and third pass found nothing either
 pub record Reads (s : List ℕ) (o : Outlined) : Type 0 where
   pub outlined : Outlines s o
   pub functions : List Function
-  pub passed : Passed s (typesIn o) (functionsIn o) (o .«goal_at») functions
-
--- a goal that was looked up, as the goal that it is
-abbrev pub goalOf : Goal → RuleFile.Goal
-goalOf g = record { source = g .source; label = g .label; depth = g .depth; steps = g .steps }
+  pub passed : Passed s (typesIn o) (functionsIn o) (goalOf (o .goal)) functions
 
 -- each parameter of the source has a closed value that is at most D deep, by the table
 abbrev pub sourceShallow : List ℕ → List ℕ → RuleFile.Goal → List ℕ → Bool
@@ -67,18 +62,16 @@ typePlaces r = take (r .types) (r .«type_at»)
 abbrev pub functionPlaces : Loaded → List ℕ
 functionPlaces r = take (r .functions) (r .«function_at»)
 
--- What an accepted file's tables hold: its program is the one that the places give.
+-- What an accepted file's tables hold: its program is the one that the places and the goal give.
 pub record Tabled (s : List ℕ) (r : Loaded) (p : Program) : Type 0 where
   pub size : length s ≤ fileLimit
   pub types-limit : r .types ≤ typeLimit
   pub types-count : length (typePlaces r) ≡ r .types
   pub functions-limit : r .functions ≤ functionLimit
   pub functions-count : length (functionPlaces r) ≡ r .functions
-  pub goal-inside : r .«goal_at» ≤ length s
-  pub goal-there : goalOf (r .goal) ≡ goalAt s (r .«goal_at»)
   pub functions : List Function
-  pub passed : Passed s (typePlaces r) (functionPlaces r) (r .«goal_at») functions
-  pub program : p ≡ programOf (outlineAt s (typePlaces r) (functionPlaces r) (r .«goal_at»)) functions
+  pub passed : Passed s (typePlaces r) (functionPlaces r) (goalOf (r .goal)) functions
+  pub program : p ≡ programOf (outlineAt s (typePlaces r) (functionPlaces r) (goalOf (r .goal))) functions
   pub depths : r .least ≡ padded (leastDepths (p .types))
 
 abbrev pub LoadsAs : List ℕ → Loaded → Checked → Type 0

@@ -1,21 +1,19 @@
 // The check of a rule file: the three passes in their order, then the tests of depth. `check` answers accepted or the one refusal
-// of 1 to 9; `load` also hands on what later layers need of an accepted file: the places of its records, its goal and the least
-// depths. `goal_of` alone looks the goal up, at the place of its record; `source`, `label`, `depth` and `steps` ask it there. Rests on
-// crates outline, numbers, bodies, depths and lookups.
+// of 1 to 9; `load` also hands on what later layers need of an accepted file: the places of its types and functions, its goal by
+// value and the least depths. Rests on crates outline, numbers, bodies, depths, lookups and goal.
 ghost use mathlib.Core.Path.{_≡_};
-ghost use Prim.Native.Nat.{_+_, _≤_};
-ghost use lib.ListN.{getD};
-ghost use Rattle.reach.specs.Places.{goalAt};
+ghost use Rattle.goal.specs.Goals.{goalOf};
 ghost use Rattle.rulefile.specs.Answering.{Promised};
-ghost use Rattle.rulefile.specs.Loading.{goalOf, Outlines, Reads, Loads, sourceShallow};
+ghost use Rattle.rulefile.specs.Loading.{Outlines, Reads, Loads, sourceShallow};
 use bodies::Judged;
 use bodies::bodies;
 use depths::Depths;
 use depths::all_shallow;
 use depths::least_depths;
 use depths::none_empty;
+use goal::Goal;
+use goal::no_goal;
 use lookups::head_of;
-use marks::byte_or_zero;
 use numbers::numbers_exist;
 use outline::Outlined;
 use outline::first_pass;
@@ -30,23 +28,14 @@ pub enum Checked {
     Refused(Refusal),
 }
 
-// What the goal asks for: the source, the label, D and S.
-pub struct Goal {
-    pub source: usize,
-    pub label: usize,
-    pub depth: usize,
-    pub steps: usize,
-}
-
 // A file as the check leaves it. Where it is accepted: how many types and functions there are and where their records stand
-// behind their marks, where the goal's stands and what it asks for, and the least depth of each type.
+// behind their marks, what the goal asks for, and the least depth of each type.
 pub struct Loaded {
     pub answer: Checked,
     pub types: usize,
     pub type_at: [u16; 32],
     pub functions: usize,
     pub function_at: [u16; 64],
-    pub goal_at: usize,
     pub goal: Goal,
     pub least: [u8; 32],
 }
@@ -61,43 +50,8 @@ fn turned_back(why: Refusal) -> Loaded
         type_at: [0; 32],
         functions: 0,
         function_at: [0; 64],
-        goal_at: 0,
-        goal: Goal {
-            source: 0,
-            label: 0,
-            depth: 0,
-            steps: 0,
-        },
+        goal: no_goal(),
         least: [0; 32],
-    }
-}
-
-// The byte so far behind a place, or 0 past the end.
-fn byte_behind(s: &[u8], at: usize, far: usize) -> usize
-    ensures { λ r. ⌜ r ≡ getD (now (s .entry)) (at + far) 0 ⌝ }
-{
-    if s.len() <= at {
-        return 0;
-    }
-    if s.len() - at <= far {
-        return 0;
-    }
-    byte_or_zero(s, at + far)
-}
-
-// The goal whose record stands at a place.
-fn goal_of(file: &[u8], at: usize) -> Goal
-    ensures { λ r. ⌜ goalOf r ≡ goalAt (now (file .entry)) at ⌝ }
-{
-    let source = byte_or_zero(file, at);
-    let label = byte_behind(file, at, 1);
-    let depth = byte_behind(file, at, 2);
-    let steps = byte_behind(file, at, 3) + 256 * byte_behind(file, at, 4);
-    Goal {
-        source,
-        label,
-        depth,
-        steps,
     }
 }
 
@@ -116,14 +70,13 @@ fn with_depths(file: &[u8], o: Outlined) -> Loaded
 {
     let types = o.types;
     let functions = o.functions;
-    let goal_at = o.goal_at;
     let type_at = o.type_at;
     let function_at = o.function_at;
+    let goal = o.goal;
     let table = least_depths(file, &type_at[..types]);
     if !none_empty(table, types) {
         return turned_back(Refusal::EmptyType);
     }
-    let goal = goal_of(file, goal_at);
     if !source_shallow(file, &function_at[..functions], goal, table) {
         return turned_back(Refusal::DepthTooSmall);
     }
@@ -134,7 +87,6 @@ fn with_depths(file: &[u8], o: Outlined) -> Loaded
         type_at,
         functions,
         function_at,
-        goal_at,
         goal,
         least,
     }
@@ -147,10 +99,9 @@ fn with_outline(file: &[u8], o: Outlined) -> Loaded
 {
     let types = o.types;
     let functions = o.functions;
-    let goal_at = o.goal_at;
     let type_at = o.type_at;
     let function_at = o.function_at;
-    if !numbers_exist(file, &type_at[..types], &function_at[..functions], goal_at) {
+    if !numbers_exist(file, &type_at[..types], &function_at[..functions], o.goal) {
         return turned_back(Refusal::UnknownNumber);
     }
     match bodies(file, &type_at[..types], &function_at[..functions]) {
@@ -178,33 +129,4 @@ pub fn check(file: &[u8]) -> Checked
 {
     let loaded = load(file);
     loaded.answer
-}
-
-// What the goal's record at a place asks for: the source, the label, D and S.
-pub fn source(file: &[u8], goal: usize) -> usize
-    ensures { λ r. ⌜ r ≡ (goalAt (now (file .entry)) goal) .source ⌝ }
-{
-    let asked = goal_of(file, goal);
-    asked.source
-}
-
-pub fn label(file: &[u8], goal: usize) -> usize
-    ensures { λ r. ⌜ r ≡ (goalAt (now (file .entry)) goal) .label ⌝ }
-{
-    let asked = goal_of(file, goal);
-    asked.label
-}
-
-pub fn depth(file: &[u8], goal: usize) -> usize
-    ensures { λ r. ⌜ r ≡ (goalAt (now (file .entry)) goal) .depth ⌝ }
-{
-    let asked = goal_of(file, goal);
-    asked.depth
-}
-
-pub fn steps(file: &[u8], goal: usize) -> usize
-    ensures { λ r. ⌜ r ≡ (goalAt (now (file .entry)) goal) .steps ⌝ }
-{
-    let asked = goal_of(file, goal);
-    asked.steps
 }

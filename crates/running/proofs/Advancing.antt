@@ -24,6 +24,7 @@ use Rattle.lookups.specs.Fields.{fieldsIn, FieldCount}
 use Rattle.machine.specs.Cells.{cellWord, cellOf, Cells, Unmoved}
 use Rattle.machine.proofs.Cells.{kept-cells}
 use Rattle.cells.proofs.Rooms.{cell-room}
+use Rattle.inputs.specs.Positions.{Placed}
 use Rattle.values.specs.Notes.{FollowsInput}
 use Rattle.values.proofs.Binding.{OpenStands, open-stands, bound-follows}
 use Rattle.steps.specs.declared.Registers.{Registers}
@@ -35,6 +36,7 @@ use Rattle.steps.specs.Running.{AtBoundPart}
 use Rattle.steps.proofs.Waiting.{waits-control}
 use Rattle.machine.proofs.Words.{records-same}
 use Rattle.steps.proofs.Standing.{stands-after, stands-below}
+use Rattle.loaded.specs.Beginning.{GivenFile}
 use Rattle.running.specs.Running.{GivenInput, Running, Underway, notedNumber, Bindable, BoundAs, Advances, AdvancesAll, ComesTo, BoundSoFar}
 use Rattle.running.proofs.Bound.{head-now, first-now, no-fewer, fields-now}
 use Rattle.running.proofs.Reached.{below-width, reached-in, reached-sound, run-goes, run-demands, run-stops, run-spent}
@@ -78,7 +80,11 @@ with-binds no-fewer now = record {
   long = now .long;
 }
 
-module _ {file types functions input : List ℕ} {goal : ℕ} {p : Program} {j : Parts} (given : GivenInput file types functions input goal p j) where
+-- the types and the source's parameters of a checked file stand at its places
+pub placed : {file types functions : List ℕ} {p : Program} → GivenFile file types functions p → Placed p file types functions
+placed given = record { types-there = given .file-of .types-there; source-there = given .parameters-there }
+
+module _ {file types functions input : List ℕ} {p : Program} {j : Parts} (given : GivenInput file types functions input p j) where
   pub within : WithinDepth p j
   within = input-exactly p input j .0 (given .reads) .0
 
@@ -136,7 +142,7 @@ module _ {file types functions input : List ℕ} {goal : ℕ} {p : Program} {j :
       there = subst There (sym unbound) tt
 
       value : OpenStands (map (typeAt file) types) (sourceSlots p) input w (now .input) j (q .place)
-      value = open-stands (given .placed) input (given .reads) (q .place) (now .follows) unbound
+      value = open-stands (placed (given .of-file)) input (given .reads) (q .place) (now .follows) unbound
 
       -- no constructor has more than 6 fields
       few-fields : (t c : ℕ) (us : List ℕ) → fieldsIn file types t c ≡ some us → length us ≤ 6
@@ -228,7 +234,6 @@ module _ {file types functions input : List ℕ} {goal : ℕ} {p : Program} {j :
             run-spent file p (given .of-file .checked) j within (now .follows .below) (now .steps) done s′ on,
             λ left. run-goes file p (given .of-file .checked) j within (now .follows .below) (now .steps) left done s′ on,
             λ before. record {
-              goal = goal;
               given = given;
               sought = sought;
               in-time = omega arith;

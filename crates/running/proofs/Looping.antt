@@ -35,8 +35,8 @@ Last (Next.Waits x) spent = ⊥
 
 -- there the evaluation on the input that is bound so far is at the same end
 same-end :
-    {file types functions input : List ℕ} {goal : ℕ} {p : Program} {j e : Parts} {limit done : ℕ} {s : State} (n : Next) → Last n (limit ≤ done)
-    → GivenInput file types functions input goal p j → done ≤ limit → e ⊑ j → Steps p e done s → ComesTo p e s n
+    {file types functions input : List ℕ} {p : Program} {j e : Parts} {limit done : ℕ} {s : State} (n : Next) → Last n (limit ≤ done)
+    → GivenInput file types functions input p j → done ≤ limit → e ⊑ j → Steps p e done s → ComesTo p e s n
     → eval p e limit 0 (start p) ≡ eval p j limit 0 (start p)
 same-end {file} {p = p} {j} {limit = limit} Next.Demands over given in-time below steps on =
     same-demands file p (given .of-file .checked) j (within given) below steps limit in-time on

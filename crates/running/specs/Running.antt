@@ -18,7 +18,6 @@ use Rattle.reach.specs.States.{Steps}
 use Rattle.lookups.specs.Fields.{fieldsIn}
 use Rattle.machine.specs.Layout.{recordsAt}
 use Rattle.machine.specs.Cells.{cellWord, Binds, Cells}
-use Rattle.inputs.specs.Positions.{Placed}
 use Rattle.values.specs.Notes.{notedPlace, Noted, FollowsInput}
 use Rattle.steps.specs.declared.Registers.{Registers}
 use Rattle.steps.specs.declared.Next.{Next}
@@ -29,9 +28,8 @@ use Rattle.skipping.specs.Ends.{Ends}
 use Rattle.running.specs.Looked.{LookedAt}
 
 -- A checked file with its tables and its program, and a closed input of the program.
-pub record GivenInput (file types functions input : List ℕ) (goal : ℕ) (p : Program) (j : Parts) : Type 0 where
-  pub of-file : GivenFile file types functions goal p
-  pub placed : Placed p file types functions goal
+pub record GivenInput (file types functions input : List ℕ) (p : Program) (j : Parts) : Type 0 where
+  pub of-file : GivenFile file types functions p
   pub reads : inputOf p input ≡ some j
 
 -- The run after so many steps and at most so many binds, in words for `limit` steps: a part of the closed input is bound, the words stand for
@@ -48,8 +46,7 @@ pub record Running (file types functions : List ℕ) (p : Program) (j : Parts) (
 
 -- The run between two steps, not all of them taken or just so many.
 pub record Underway (file types functions input : List ℕ) (label limit : ℕ) (w : List ℕ) (base cells done : ℕ) (r : Registers) (p : Program) (j : Parts) (s : State) : Type 0 where
-  pub goal : ℕ
-  pub given : GivenInput file types functions input goal p j
+  pub given : GivenInput file types functions input p j
   pub sought : label ≡ p .label
   pub in-time : done ≤ limit
   pub running : Running file types functions p j limit w base cells done done r s

@@ -12,7 +12,6 @@ use Rattle.reach.specs.Syntax.{Program, sourceTypes}
 use Rattle.reach.specs.Parts.{Parts}
 use Rattle.reach.specs.Types.{sourceSlots}
 use Rattle.reach.specs.Search.{Entry, openInput, entries, verdict}
-use Rattle.reach.specs.Places.{goalAt}
 use Rattle.reach.specs.Lists.{listBytes, roomOf, written}
 use Rattle.reach.specs.Answers.{check, accepted, SearchAnswer, noSearch, complete, cutShort, searchAnswer, listed}
 use Rattle.machine.specs.Cells.{Cells}
@@ -20,7 +19,7 @@ use Rattle.machine.proofs.Cells.{kept-cells}
 use Rattle.rulefile.specs.declared.Checked.the-variants as Checked
 use Rattle.rulefile.specs.declared.Loaded.{Loaded}
 use Rattle.rulefile.specs.Loading.{typePlaces, functionPlaces, Tabled, Loads}
-use Rattle.rulefile.proofs.Tabled.{program-steps}
+use Rattle.rulefile.proofs.Tabled.{program-goal}
 use Rattle.loaded.proofs.Files.{given-file}
 use Rattle.loaded.proofs.Loaded.{loaded-accepted, loaded-refused, behind-kept}
 use Rattle.exploring.specs.declared.Answer.{Answer}
@@ -64,12 +63,12 @@ module _ (file : List ℕ) (r : Loaded) (loads : Loads file r) where
   pub search-refused : (work list : List ℕ) {why : Refusal} → r .answer ≡ Checked.Refused why → Promised file work work list list (Answer.Refused why)
   search-refused work list {why} is = keeps-refused file work list why (answer-refused file (length work) (length list) why (loaded-refused file r loads is))
 
-  module _ (is : r .answer ≡ Checked.Accepted) {limit words : ℕ} (read-limit : limit ≡ (goalAt file (r .«goal_at»)) .steps) (words-are : words ≡ workWords limit) where
+  module _ (is : r .answer ≡ Checked.Accepted) {words : ℕ} (words-are : words ≡ workWords (r .goal .steps)) where
     abbrev here : (p : Program) × (check file ≡ accepted p) × Tabled file r p
     here = loaded-accepted file r loads is
 
-    limit-is : limit ≡ here .0 .steps
-    limit-is = read-limit ∙ program-steps (here .2)
+    limit-is : r .goal .steps ≡ here .0 .steps
+    limit-is = program-goal (here .2) .steps-is
 
     -- too few words
     pub search-short : (work list : List ℕ) → length work < words → Promised file work work list list (Answer.Refused WorkTooShort)
@@ -78,10 +77,15 @@ module _ (file : List ℕ) (r : Loaded) (loads : Loads file r) where
     -- enough of them
     pub search-able :
         (work : List ℕ) → words ≤ length work
-        → (p : Program) × Searchable file (typePlaces r) (functionPlaces r) (r .least) (r .«goal_at») (take words work) p
+        → (p : Program) × Searchable file (typePlaces r) (functionPlaces r) (r .least) (r .goal) (take words work) p
     search-able work enough = (
       here .0,
-      record { of-file = given-file (here .1) (here .2); least-are = here .2 .depths; long = omega (arith, length-take words work, limit-is) },
+      record {
+        of-file = given-file (here .1) (here .2);
+        asks = program-goal (here .2);
+        least-are = here .2 .depths;
+        long = omega (arith, length-take words work, limit-is);
+      },
     )
 
     module _
@@ -114,7 +118,7 @@ module _ (file : List ℕ) (r : Loaded) (loads : Loads file r) where
             record {
               answer-is = rw (answered, whole .length-is, whole .verdict-is) refl;
               list-is = rw (answered, listed-complete es, whole .list-is) (written-front es list room (room-inside list room-is) fits);
-              words-are = λ p checked. (behind-kept file r loads is v work read-limit words-are long p checked, whole-open p checked (whole .all-open .1));
+              words-are = λ p checked. (behind-kept file r loads is v work words-are long p checked, whole-open p checked (whole .all-open .1));
             }
           where
             whole-open :
@@ -137,7 +141,7 @@ module _ (file : List ℕ) (r : Loaded) (loads : Loads file r) where
               list-is = rw (answered, listed-short es, first .list-is) (written-front es list room (room-inside list room-is) fits);
               words-are = λ p checked.
                   let one : here .0 ≡ p = cc (here .1, checked) in (
-                    behind-kept file r loads is v work read-limit words-are long p checked,
+                    behind-kept file r loads is v work words-are long p checked,
                     (
                       es,
                       first .next,
@@ -152,7 +156,7 @@ module _ (file : List ℕ) (r : Loaded) (loads : Loads file r) where
 
         pub search-done :
             (a : Answer)
-            → ((p : Program) → Searchable file (typePlaces r) (functionPlaces r) (r .least) (r .«goal_at») (take words work) p
+            → ((p : Program) → Searchable file (typePlaces r) (functionPlaces r) (r .least) (r .goal) (take words work) p
             → Explored (settingOf file (typePlaces r) (functionPlaces r) (r .least) p) (take room list) after v a)
             → Promised file work work-then list list-then a
         unfolding search-able

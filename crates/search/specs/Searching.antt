@@ -1,5 +1,5 @@
 -- What the search of a checked file starts from.
--- Rests on reach's Types and Limits, on machine's Layout, loaded's Beginning and choices' Returning.
+-- Rests on reach's Types and Limits, on goal's Goals, on machine's Layout, loaded's Beginning and choices' Returning.
 use Prim.Native.Nat.{ℕ}
 use mathlib.Core.Path.{_≡_}
 use mathlib.Core.List.{List}
@@ -7,15 +7,18 @@ use lib.ListN.{length}
 use Rattle.reach.specs.Limits.{workWords}
 use Rattle.reach.specs.Syntax.{Program}
 use Rattle.reach.specs.Types.{leastDepths}
+use Rattle.goal.specs.declared.Goal.{Goal}
+use Rattle.goal.specs.Goals.{Asks}
 use Rattle.machine.specs.Layout.{recordsAt, choicesAt}
 use Rattle.loaded.specs.Beginning.{GivenFile}
 use Rattle.depths.specs.Table.{padded}
 use Rattle.choices.specs.Choices.{Setting}
 use Rattle.choices.specs.Returning.{setting}
 
--- A checked file with its tables and its least depths, and as many words as its search needs.
-pub record Searchable (file types functions least : List ℕ) (goal : ℕ) (w : List ℕ) (p : Program) : Type 0 where
-  pub of-file : GivenFile file types functions goal p
+-- A checked file with its tables, its least depths and its goal, and as many words as its search needs.
+pub record Searchable (file types functions least : List ℕ) (goal : Goal) (w : List ℕ) (p : Program) : Type 0 where
+  pub of-file : GivenFile file types functions p
+  pub asks : Asks goal p
   pub least-are : least ≡ padded (leastDepths (p .types))
   pub long : length w ≡ workWords (p .steps)
 

@@ -1,5 +1,5 @@
 // The search of a rule file for the partial inputs that reach the target, by lazy narrowing: depth first, in moves, over one path
-// with a stack of choice points, all of it in the lent words; entries are written to the lent list. Rests on crates rulefile,
+// with a stack of choice points, all of it in the lent words; entries are written to the lent list. Rests on crates goal, rulefile,
 // loaded, lookups, machine, skipping and exploring.
 ghost use Rattle.reach.specs.Syntax.{Program};
 ghost use Rattle.search.specs.Answering.{Promised};
@@ -9,6 +9,7 @@ use depths::Depths;
 use entries::room;
 use exploring::Answer;
 use exploring::explore;
+use goal::Goal;
 use loaded::open_input;
 use lookups::head_of;
 use machine::choices_at;
@@ -16,11 +17,7 @@ use machine::records_at;
 use machine::work_words;
 use reach::Refusal;
 use rulefile::Checked;
-use rulefile::depth;
-use rulefile::label;
 use rulefile::load;
-use rulefile::source;
-use rulefile::steps;
 use skipping::fill_ends;
 
 // The search of a checked file, in as many words as it needs.
@@ -29,7 +26,7 @@ fn search_checked<'a>(
     types: &'a [u16],
     functions: &'a [u16],
     least: Depths,
-    goal: usize,
+    goal: Goal,
     work: &mut [u32],
     list: &mut [u8],
 ) -> Answer
@@ -38,21 +35,20 @@ fn search_checked<'a>(
 {
     let mut ends = [0u16; 16384];
     fill_ends(file, types, functions, &mut ends);
-    let limit = steps(file, goal);
-    let base = records_at(limit);
-    let stack = choices_at(limit);
-    let head = head_of(file, functions, source(file, goal));
+    let base = records_at(goal.steps);
+    let stack = choices_at(goal.steps);
+    let head = head_of(file, functions, goal.source);
     let n = head.count;
-    let from = open_input(file, work, base, head, depth(file, goal));
+    let from = open_input(file, work, base, head, goal.depth);
     explore(
         file,
         types,
         functions,
         &ends,
         least,
-        label(file, goal),
+        goal.label,
         work,
-        limit,
+        goal.steps,
         base,
         stack,
         n,
@@ -72,11 +68,11 @@ pub fn search<'a>(file: &'a [u8], work: &mut [u32], list: &mut [u8]) -> Answer
     }
     let types = loaded.types;
     let functions = loaded.functions;
-    let goal = loaded.goal_at;
+    let goal = loaded.goal;
     let type_at = loaded.type_at;
     let function_at = loaded.function_at;
     let least = loaded.least;
-    let words = work_words(steps(file, goal));
+    let words = work_words(goal.steps);
     if work.len() < words {
         return Answer::Refused(Refusal::WorkTooShort);
     }

@@ -93,11 +93,11 @@ open-places n r t = by-place (bind-places here 0 n (opened end) (inside r) refl 
 -- The parameters' open cells, and in these the places from the first byte on, as `note_values` notes them: the words stand for the input with every
 -- parameter open, and follow the closed one.
 pub start-follows :
-    {p : Program} {file types functions : List ℕ} {goal : ℕ} (placed : Placed p file types functions goal) (input : List ℕ) {j : Parts}
+    {p : Program} {file types functions : List ℕ} (placed : Placed p file types functions) (input : List ℕ) {j : Parts}
     {v w′ ts : List ℕ} {n depth : ℕ} → inputOf p input ≡ some j → ts ≡ sourceTypes p → depth ≡ p .depth → length ts ≡ n
     → Cells (map (typeAt file) types) (sourceSlots p) v n (allOpen n) → Noted file types input v w′ 0 ts 0 depth
     → FollowsInput (map (typeAt file) types) (sourceSlots p) w′ n (allOpen n) j
-start-follows {p} {file} {types} {functions} {goal} placed input {j} {v} {w′} {ts} {n} {depth} reads source deep count cells noted = record {
+start-follows {p} {file} {types} {functions} placed input {j} {v} {w′} {ts} {n} {depth} reads source deep count cells noted = record {
   cells = noted-cells cells noted (λ r c k h. absurd (open-unbound n r h));
   below = rw (← count, ← (row-width known input depth ts 0 whole)) (open-least j);
   notes = λ r h. by-part r (open-places n r (free-there h));
@@ -111,7 +111,7 @@ start-follows {p} {file} {types} {functions} {goal} placed input {j} {v} {w′} 
 
     whole : row known depth ts input 0 ≡ got j next
     whole =
-        let same : row known depth ts input 0 ≡ sourceRow file types functions goal input = rw (source, deep, placed .source-there, placed .depth-there) in
+        let same : row known depth ts input 0 ≡ sourceRow file types functions (p .source) (p .depth) input = rw (source, deep, placed .source-there) in
         same ∙ input-row placed input reads .1
 
     by-part : (r : Place) → OneOf n part r → notedPlace w′ (cellOf w′ r) ≡ byteOf j r 0
@@ -161,7 +161,7 @@ open-by p there type room place = record {
 
 -- so it is where the input is bound as its closed bytes say
 pub open-stands :
-    {p : Program} {file types functions : List ℕ} {goal : ℕ} (placed : Placed p file types functions goal) (input : List ℕ) {w : List ℕ} {top : ℕ} {e j : Parts}
+    {p : Program} {file types functions : List ℕ} (placed : Placed p file types functions) (input : List ℕ) {w : List ℕ} {top : ℕ} {e j : Parts}
     → inputOf p input ≡ some j → (q : Place) → FollowsInput (map (typeAt file) types) (sourceSlots p) w top e j → at e q ≡ free
     → OpenStands (map (typeAt file) types) (sourceSlots p) input w e j q
 open-stands {p} {file} {types} placed input {w} {e = e} {j} reads q follows unbound =

@@ -3,7 +3,7 @@ use lib.ListN.{length-map}
 use borrow.Author.Tests.{not-true, not-false}
 use borrow.Author.Needs.{needs}
 use Rattle.reach.specs.RuleFile.{numbersExist}
-use Rattle.reach.specs.Places.{typeAt, headAt, goalAt, declarationsAt, outlineAt}
+use Rattle.reach.specs.Places.{typeAt, headAt, declarationsAt, outlineAt}
 use Rattle.numbers.proofs.numbers_exist.Statement.{statement}
 use Rattle.numbers.proofs.numbers_exist.Tie as tie
 
@@ -23,7 +23,7 @@ returns-2 c =
     )
 
 returns-3 : tie.Need-returns-3
-unfolding numbersExist declarationsAt outlineAt goalAt
+unfolding numbersExist declarationsAt outlineAt
 returns-3 c =
     rw (
       length-map _ (typeAt _),
@@ -32,7 +32,6 @@ returns-3 c =
       ← c .before .before .heads-exist .ensures,
       not-false (c .before .before .heads-exist .result) (c .before .if2 .left),
       length-map _ (headAt _),
-      ← c .byte-or-zero .ensures,
     )
 
 pub numbers-exist-spec : {M : Type 1} → statement M
@@ -43,5 +42,4 @@ numbers-exist-spec =
     returns
     (λ c κs. search needs)
     returns-2
-    (λ c κs. search needs)
     returns-3)

@@ -3,7 +3,7 @@
 use native.Mathlib.Omega.{arith}
 use borrow.Author.Needs.{needs}
 use Rattle.reach.specs.Places.{declarationsAt, outlineAt}
-use Rattle.outline.proofs.Whole.{goal-begins, no-type, types-refused, functions-refused, goal-refused, outlined}
+use Rattle.outline.proofs.Whole.{no-type, types-refused, functions-refused, goal-refused, outlined}
 use Rattle.outline.proofs.first_pass.Statement.{statement}
 use Rattle.outline.proofs.first_pass.Tie as tie
 
@@ -60,14 +60,14 @@ returns-4 c =
 returns-5 : tie.Need-returns-5
 unfolding declarationsAt outlineAt
 returns-5 c =
-    let read = c .before .before in
+    let read = c .before .before .before in
     let last = read .before .before in
     let defined = last .before .before in
     let functions = defined .before .before in
     let typed = functions .before .before in
     let types = typed .before .before in
     let marked = types .before .before in (
-      rw (read .enum-told4 .given .1)
+      rw (read .enum-told4 .given .1, c .goal-of .ensures)
           (outlined _ (marked .before .before .first-mark .ensures) (marked .begin .given .1)
           (rw (typed .typed .given .1) at (types .read-types .ensures .0))
           (rw (defined .defined .given .1) at (functions .read-functions .ensures .0))
@@ -76,7 +76,6 @@ returns-5 c =
       record {
         types-limit = types .read-types .ensures .1;
         functions-limit = functions .read-functions .ensures .1;
-        goal-there = omega (arith, goal-begins _ _ (last .last-record .ensures) (read .enum-told4 .given .1));
       },
     )
 
@@ -104,4 +103,5 @@ first-pass-spec =
     (λ c. search needs)
     (λ c κs. search needs)
     returns-4
+    (λ c κs. search needs)
     returns-5)

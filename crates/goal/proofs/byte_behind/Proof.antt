@@ -1,10 +1,10 @@
--- `rulefile::byte_behind` meets its contract: past the end stands 0, and before it the sum of the two numbers is a place.
+-- `goal::byte_behind` meets its contract: past the end stands 0, and before it the sum of the two numbers is a place.
 use mathlib.Core.Path.{sym}
 use lib.ListN.{List·getD-eq-default}
 use native.Mathlib.Omega.{arith}
 use borrow.Author.Needs.{needs}
-use Rattle.rulefile.proofs.byte_behind.Statement.{statement}
-use Rattle.rulefile.proofs.byte_behind.Tie as tie
+use Rattle.goal.proofs.byte_behind.Statement.{statement}
+use Rattle.goal.proofs.byte_behind.Tie as tie
 
 returns : tie.Need-returns
 returns c = sym (List·getD-eq-default (c .before .before .args .s .now) 0 (omega arith))

@@ -1,11 +1,11 @@
--- `rulefile::goal_of` meets its contract: the bytes of the goal's record, of which the last two make one number. Bytes are small, so the sum fits.
+-- `goal::goal_of` meets its contract: the bytes of the goal's record, of which the last two make one number. Bytes are small, so the sum fits.
 use Prim.Native.Nat.{_+_}
 use mathlib.Core.Path.{_≡_}
 use native.Mathlib.Omega.{arith}
 use borrow.Author.Needs.{needs}
 use Rattle.reach.specs.Places.{goalAt, wordAt}
-use Rattle.rulefile.proofs.goal_of.Statement.{statement}
-use Rattle.rulefile.proofs.goal_of.Tie as tie
+use Rattle.goal.proofs.goal_of.Statement.{statement}
+use Rattle.goal.proofs.goal_of.Tie as tie
 
 mul-steps : tie.Need-mul-steps
 mul-steps c =
