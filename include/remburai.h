@@ -14,7 +14,7 @@
  * file and input may be lent to several at once, as long as nothing writes to them.
  * Time: a search stops, but it may run for years, and no call ends it. S bounds the steps of one path, not the number of paths; what bounds
  * that is D with the types of the source's parameters: there are at most as many paths as closed inputs within the depth. A rule of 115
- * bytes that walks over eight numbers has 64^8 of them at D 64 and would take 11 years; with four numbers it takes 21 s (docs/COSTS.md).
+ * bytes that walks over eight numbers has 64^8 of them at D 64 and would take 10 years; with four numbers it takes 20 s (docs/COSTS.md).
  * So begin with a small D, and search in a process of its own where the search may have to be given up.
  */
 #ifndef REMBURAI_H
