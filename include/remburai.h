@@ -125,11 +125,11 @@ static inline size_t remburai_entry_size(uint64_t answer) { return (size_t)(answ
 #define REMBURAI_ENTRY_HEAD 6u
 #define REMBURAI_OPEN 0xFF
 
-/* The size of the entry that begins at a place of a list, at most list_length; 0 where none does. So all entries are met in one pass by
+/* The size of the entry that begins at a place of a list; 0 where none does. The place is at most list_length. One pass over all entries:
  *
  *     for (place = 0; (size = remburai_size_at(list, length, place)) != 0; place += size)
  *
- * each at list + place. */
+ * with each entry at list + place. */
 static inline size_t remburai_size_at(const uint8_t *list, size_t list_length, size_t place) {
     return remburai_entry_size(remburai_entry(list + place, list_length - place, 0));
 }
