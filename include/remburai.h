@@ -1,14 +1,21 @@
 /* Remburai, the case finder, for C: the check of a rule file, its search, a closed run, and where an entry of a list stands.
  *
- * Link with target/staticlib/libremburai.a, which `rt staticlib remburai` proves and writes (x86-64 Linux).
+ * Link with libremburai.a, which `rt staticlib remburai` proves and writes to target/staticlib, and `make install` puts beside this file
+ * (x86-64 Linux). docs/FORMAT.md has the bytes of rule files, inputs and lists.
  *
- * Each function is proved to give the number that its definition gives, for every content and every length of the slices, to stop,
- * and to read and write inside the slices only. What the caller owes:
+ * Each call is proved to give the number that its definition gives, for every content and every length of the slices, to stop, and to
+ * read and write inside the slices only. What the caller owes:
  *   - each pointer is not NULL, also where its length is 0, and stands for as many elements as its length says;
  *   - work is aligned for uint32_t;
  *   - work and list overlap neither each other nor file or input;
- *   - the thread has 256 KiB of stack left (tested with what nests deepest; the proofs say nothing of the stack).
- * Nothing is kept between calls, so they may run at the same time, each with slices of its own.
+ *   - the thread has 256 KiB of stack left (tested with what nests deepest; the proofs say nothing of the stack);
+ *   - the program has `memset`, with the meaning of C: the library asks for no other function.
+ * Threads: nothing is kept between calls and nothing is shared, so calls may run at the same time, each with work and list of its own;
+ * file and input may be lent to several at once, as long as nothing writes to them.
+ * Time: a search stops, but it may run for years, and no call ends it. S bounds the steps of one path, not the number of paths; what bounds
+ * that is D with the types of the source's parameters: there are at most as many paths as closed inputs within the depth. A rule of 115
+ * bytes that walks over eight numbers has 64^8 of them at D 64 and would take 10 years; with four numbers it takes 20 s (docs/COSTS.md).
+ * So begin with a small D, and search in a process of its own where the search may have to be given up.
  */
 #ifndef REMBURAI_H
 #define REMBURAI_H
@@ -20,7 +27,24 @@
 extern "C" {
 #endif
 
-/* Refusals: bits 0 to 7 of the answer of remburai_check, remburai_search and remburai_run. */
+/* The version of this file and of the library beside it. */
+#define REMBURAI_VERSION_MAJOR 0
+#define REMBURAI_VERSION_MINOR 1
+#define REMBURAI_VERSION_PATCH 0
+#define REMBURAI_VERSION "0.1.0"
+
+/* Every call answers with one number; the functions under "The parts of an answer" take it apart.
+ *
+ *                     bits 0 to 7     bits 8 to 15    from bit 16 on
+ *   remburai_check    the refusal     0               0
+ *   remburai_search   the refusal     the verdict     the length of the list, in bytes
+ *   remburai_run      the refusal     the outcome     the steps
+ *
+ *                     bits 0 to 31                    from bit 32 on
+ *   remburai_entry    the place in the list           the size, in bytes
+ */
+
+/* Refusals. */
 #define REMBURAI_ACCEPTED 0          /* no refusal */
 #define REMBURAI_TRUNCATED 1         /* bytes run out in a record, in a body, or before GO is read */
 #define REMBURAI_UNEXPECTED_MARK 2   /* a mark is unknown or out of its turn */
@@ -35,13 +59,13 @@ extern "C" {
 #define REMBURAI_WORK_TOO_SHORT 11   /* the work slice is shorter than REMBURAI_WORK_WORDS(S) */
 #define REMBURAI_LIST_FULL 12        /* remburai_search only: the next entry does not fit the list slice */
 
-/* Verdicts: bits 8 to 15 of the answer of remburai_search. */
+/* Verdicts. */
 #define REMBURAI_NO_VERDICT 0        /* with every refusal */
 #define REMBURAI_FOUND 1             /* an entry reaches the target */
 #define REMBURAI_UNDECIDED 2         /* no entry reaches the target, and one ran out of steps */
 #define REMBURAI_NONE 3              /* no entry: every closed input within the depth stops in time off target */
 
-/* Outcomes: bits 8 to 15 of the answer of remburai_run. */
+/* Outcomes of a run, and kinds of entries. An entry is of the kind REMBURAI_REACHED or REMBURAI_UNFINISHED. */
 #define REMBURAI_NO_OUTCOME 0        /* with every refusal */
 #define REMBURAI_REACHED 1           /* the sought target is demanded */
 #define REMBURAI_ENDED 2             /* it stops off target */
@@ -60,20 +84,24 @@ uint64_t remburai_check(const uint8_t *file, size_t file_length);
 
 /* The search. Without a refusal: the verdict, and the length of the complete list, which stands at the front of `list`. With 12: the
  * length of the list of all entries before the one that does not fit, and no verdict. With 1 to 9 or 11: nothing else, and no slice is
- * changed. The bytes of `list` behind the list are as before, and so are the words from REMBURAI_WORK_WORDS(S) on. */
+ * changed. The bytes of `list` behind the list are as before, and so are the words from REMBURAI_WORK_WORDS(S) on; do not count on what
+ * the words before them hold. */
 uint64_t remburai_search(const uint8_t *file, size_t file_length,
                          uint32_t *work, size_t work_length,
                          uint8_t *list, size_t list_length);
 
 /* The run on one closed input. Without a refusal: the outcome, and the steps that it took, at most S. With 1 to 11: nothing else, and
- * no word is changed. The words from REMBURAI_WORK_WORDS(S) on are as before. */
+ * no word is changed. The words from REMBURAI_WORK_WORDS(S) on are as before; do not count on what the words before them hold.
+ * The whole input is read, whatever the run looks at, 5 to 13 ns a byte, and of each part that a case looks at all fields but the last are
+ * read again, to find where they end (docs/COSTS.md). */
 uint64_t remburai_run(const uint8_t *file, size_t file_length,
                       const uint8_t *input, size_t input_length,
                       uint32_t *work, size_t work_length);
 
 /* Where the entry of a given number stands in a list, counted from 0, and how many bytes it fills, from mark to last byte. Beyond the
- * last entry, or where a mark met is unknown or a header or length runs past the end: the list's end, and size 0. Give the length that
- * the search answered as `list_length`, else bytes behind the list may be read as entries. */
+ * last entry, or where a mark met is unknown or a header or length runs past the end: the list's end, and size 0. The list's end is
+ * list_length, or REMBURAI_LIST_LIMIT where list_length is above that. Give the length that the search answered as `list_length`, else
+ * bytes behind the list may be read as entries. */
 uint64_t remburai_entry(const uint8_t *list, size_t list_length, size_t number);
 
 /* The parts of an answer. They are proved to be those of the definition's answer (crates/remburai/proofs/Demands.antt). */
@@ -84,6 +112,33 @@ static inline size_t remburai_list_length(uint64_t answer) { return (size_t)(ans
 static inline unsigned remburai_steps(uint64_t answer) { return (unsigned)(answer >> 16); }
 static inline size_t remburai_entry_place(uint64_t answer) { return (size_t)(answer & 0xFFFFFFFF); }
 static inline size_t remburai_entry_size(uint64_t answer) { return (size_t)(answer >> 32); }
+
+/* A list is entries, one behind the other. An entry is
+ *
+ *   bytes 0 and 1   its mark: RE, each input that completes it reaches the target, or UN, each of them runs out of steps
+ *   bytes 2 and 3   the steps that each of them takes, low byte first
+ *   bytes 4 and 5   the length in bytes of what follows, low byte first
+ *   from byte 6 on  its values, one for each parameter of the source function, in prefix form: a constructor's number, then its fields
+ *                   in order; or REMBURAI_OPEN for an open part, where anything may stand
+ *
+ * The rule file says how many fields a constructor has; the list does not. */
+#define REMBURAI_ENTRY_HEAD 6u
+#define REMBURAI_OPEN 0xFF
+
+/* The size of the entry that begins at a place of a list; 0 where none does. The place is at most list_length. One pass over all entries:
+ *
+ *     for (place = 0; (size = remburai_size_at(list, length, place)) != 0; place += size)
+ *
+ * with each entry at list + place. */
+static inline size_t remburai_size_at(const uint8_t *list, size_t list_length, size_t place) {
+    return remburai_entry_size(remburai_entry(list + place, list_length - place, 0));
+}
+
+/* Of an entry, given by its first byte: its kind, the steps, the length of its values in bytes, and where they begin. */
+static inline unsigned remburai_entry_kind(const uint8_t *entry) { return entry[0] == 'R' ? REMBURAI_REACHED : REMBURAI_UNFINISHED; }
+static inline unsigned remburai_entry_steps(const uint8_t *entry) { return entry[2] + 256u * entry[3]; }
+static inline size_t remburai_entry_values_length(const uint8_t *entry) { return entry[4] + 256u * entry[5]; }
+static inline const uint8_t *remburai_entry_values(const uint8_t *entry) { return entry + REMBURAI_ENTRY_HEAD; }
 
 #ifdef __cplusplus
 }

@@ -15,13 +15,10 @@ static uint8_t file[REMBURAI_FILE_LIMIT + 1]; /* one byte more, so that a file t
 static uint32_t work[REMBURAI_WORK_MOST];
 static uint8_t list[REMBURAI_LIST_LIMIT];
 
-/* Passes from entry to entry: the next one is entry 0 of what is left. */
 static size_t count_entries(size_t length) {
-    size_t count = 0, place = 0, size;
-    while ((size = remburai_entry_size(remburai_entry(list + place, length - place, 0))) != 0) {
-        place += size;
+    size_t count = 0, place, size;
+    for (place = 0; (size = remburai_size_at(list, length, place)) != 0; place += size)
         count++;
-    }
     return count;
 }
 

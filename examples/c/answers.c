@@ -1,0 +1,55 @@
+/* Makes every call on one rule, examples/p.rule, and prints each answer: the number, and what is read off it. docs/FORMAT.md shows the
+ * lines and goes through the bytes. From the root of the repository:
+ *
+ *     rt staticlib remburai
+ *     gcc -O2 -Wall -Wextra -I include -o target/answers examples/c/answers.c target/staticlib/libremburai.a
+ *     target/answers
+ */
+#include <inttypes.h>
+#include <stdio.h>
+#include "remburai.h"
+
+static const uint8_t file[] = {
+    'T', 'Y', 2, 0, 1, 0,
+    'F', 'N', 1, 0, 0, 23, 0, 3, 0, 0, 0, 1, 2, 0, 0, 1, 3, 0, 0, 1, 1, 2, 0, 0, 1, 5, 7, 2, 0, 0,
+    'G', 'O', 0, 7, 4, 20, 0,
+};
+static uint32_t work[REMBURAI_WORK_WORDS(20)]; /* its S is 20 */
+static uint8_t list[64];
+
+static void print_number(const char *call, uint64_t answer) { printf("%-19s 0x%-10" PRIX64 " ", call, answer); }
+
+static void print_search(const char *call, size_t list_length) {
+    static const char *const verdicts[] = {"no verdict", "found", "undecided", "none"};
+    uint64_t answer = remburai_search(file, sizeof file, work, sizeof work / sizeof *work, list, list_length);
+    print_number(call, answer);
+    printf("refusal %u, %s, %zu bytes\n", remburai_refusal(answer), verdicts[remburai_verdict(answer)], remburai_list_length(answer));
+}
+
+static void print_run(const char *call, const uint8_t *input, size_t input_length) {
+    static const char *const outcomes[] = {"no outcome", "reached", "ended", "unfinished"};
+    uint64_t answer = remburai_run(file, sizeof file, input, input_length, work, sizeof work / sizeof *work);
+    print_number(call, answer);
+    printf("refusal %u, %s, %u steps\n", remburai_refusal(answer), outcomes[remburai_outcome(answer)], remburai_steps(answer));
+}
+
+static void print_entry(const char *call, size_t list_length, size_t number) {
+    uint64_t answer = remburai_entry(list, list_length, number);
+    print_number(call, answer);
+    printf("place %zu, size %zu\n", remburai_entry_place(answer), remburai_entry_size(answer));
+}
+
+int main(void) {
+    static const uint8_t two[] = {1, 1, 0}, zero[] = {0}, stranger[] = {2};
+    uint64_t answer = remburai_check(file, sizeof file);
+    print_number("check", answer);
+    printf("refusal %u\n", remburai_refusal(answer));
+    print_search("search, 8 bytes", 8);
+    print_search("search, 64 bytes", sizeof list);
+    print_entry("entry 0", 9, 0);
+    print_entry("entry 1", 9, 1);
+    print_run("run on 01 01 00", two, sizeof two);
+    print_run("run on 00", zero, sizeof zero);
+    print_run("run on 02", stranger, sizeof stranger);
+    return fflush(stdout) != 0 || ferror(stdout);
+}

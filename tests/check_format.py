@@ -1,0 +1,200 @@
+"""Checks docs/FORMAT.md: its dumps are the bytes of examples/p.rule, of an input that the blind side runs and of the list that it gives; the
+steps of that run, the limits and the answers of the calls for C are those of the blind side. The exit status is 1 where anything
+differs, and where the page lacks what is to be compared."""
+
+import os
+import re
+import sys
+
+sys.dont_write_bytecode = True
+
+from blind.build import con, fn, go, let, target, ty
+from blind.compare import Different, same
+from blind.enumerate import search
+from blind.evaluate import Outcome, run
+from blind.rulefile import RANGE, check
+from make_boundary import file_of_size
+
+ROOT = os.path.dirname(os.path.dirname(os.path.abspath(__file__)))
+WORDS = 64 * 20 + 1024  # the step limit of P is 20
+DUMPED = re.compile(r"    ([0-9A-F]{4})  ((?:[0-9A-F]{2} )+) +\S")
+VERDICTS = {None: 0, "found": 1, "undecided": 2, "none": 3}
+OUTCOMES = {"reached": 1, "ended": 2, "unfinished": 3}
+
+
+def stored(*path):
+    with open(os.path.join(ROOT, *path), "rb") as file:
+        return file.read()
+
+
+def only(what, found):
+    """The one thing that is found."""
+    same(f"how many times the page has {what}", len(found), 1)
+    return found[0]
+
+
+# What the page has.
+
+def section(page, title):
+    return only(f"a section '{title}'", [part for part in page.split("\n## ") if part.split("\n")[0] == title])
+
+
+def blocks(text):
+    """The indented blocks, each as its lines."""
+    return [block.splitlines() for block in re.findall(r"(?:^    .*\n)+", text, re.MULTILINE)]
+
+
+def dump(text):
+    """The bytes of the one dump of a section; each line begins at the place where the last one ends."""
+    lines = only("a dump in a section", [block for block in blocks(text) if DUMPED.match(block[0])])
+    data = b""
+    for line in lines:
+        match = DUMPED.match(line)
+        same(f"whether '{line}' is a line of a dump", match is not None, True)
+        same(f"the place of '{line}'", int(match.group(1), 16), len(data))
+        data += bytes.fromhex(match.group(2))
+    return data
+
+
+def table(text, first):
+    """The rows of the table whose head begins with this word."""
+    rows = text.split(f"\n| {first} |")
+    same(f"tables that begin with '{first}'", len(rows), 2)
+    lines = rows[1].split("\n\n")[0].split("\n")[2:]
+    return [[cell.strip() for cell in line.strip("|").split("|")] for line in lines]
+
+
+# What it should have.
+
+def check_rule_file(page):
+    data = stored("examples", "p.rule")
+    text = section(page, "The rule file")
+    same("the dump of P", dump(text), data)
+    same("the length of P", re.findall(r"P has (\d+) bytes", text), [str(len(data))])
+
+
+def check_input(page):
+    """The steps of the run are numbered, and those that look at the input name the byte: in a number, the field is the next one."""
+    text = section(page, "A closed input")
+    data = dump(text)
+    outcome = run(stored("examples", "p.rule"), data, WORDS)
+    same(f"whether P runs on {data.hex(' ')}", isinstance(outcome, Outcome), True)
+    same("how the run ends", (outcome.end, re.findall(r"reaches the target after (\d+) steps", text)), ("reached", [str(outcome.steps)]))
+    steps = only("the steps of a run", [block for block in blocks(text) if block[0].startswith("    1  ")])
+    same("the numbers of the steps", [line.split()[0] for line in steps], [str(number + 1) for number in range(outcome.steps)])
+    looked = [(number, int(byte)) for number, line in enumerate(steps, 1) for byte in re.findall(r"the input's byte (\d+)$", line)]
+    same("the steps that look at the input", looked, [(wait.steps, len(wait.place) - 1) for wait in outcome.waits])
+
+
+def check_list(page):
+    data = search(stored("examples", "p.rule"), WORDS, 64).record()
+    text = section(page, "A list")
+    same("the dump of the list of P", dump(text), data)
+    same("its length", re.findall(r"The list of P has (\d+) bytes", text), [str(len(data))])
+
+
+# Limits: a rule file with so many of each.
+
+LEAF = con(0, 0)
+
+
+def one(body, parameters=()):
+    return ty(()) + fn(parameters, 0, body) + go(depth=1)
+
+
+def nested(number, body=LEAF):
+    for _ in range(number - 1):
+        body = target(0, body)
+    return one(body)
+
+
+def in_view(number, body=LEAF):
+    for _ in range(number - 8):
+        body = let(0, LEAF, body)
+    return one(body, (0,) * 8)
+
+
+FILES = {
+    "types": lambda n: ty(()) * n + fn((), 0, LEAF) + go(),
+    "constructors of a type": lambda n: ty(*[()] * n) + fn((), 0, LEAF) + go(),
+    "fields of a constructor": lambda n: ty((), (0,) * n) + fn((), 0, LEAF) + go(),
+    "functions": lambda n: ty(()) + fn((), 0, LEAF) * n + go(),
+    "parameters of a function": lambda n: one(LEAF, (0,) * n),
+    "bytes of a body": lambda n: one(bytes(n)),
+    "depth D": lambda n: ty(()) + fn((), 0, LEAF) + go(depth=n),
+    "step limit S": lambda n: ty(()) + fn((), 0, LEAF) + go(steps=n),
+    "variables in view": in_view,
+    "expressions one inside another, the body being 1": nested,
+    "bytes of a file": file_of_size,
+}
+
+
+def check_limits(page):
+    """A number at a limit is not refused by 3, and the next one beyond it is."""
+    rows = table(section(page, "The rule file"), "Number")
+    same("the limits of the page", [row[0] for row in rows], list(FILES))
+    for name, least, most in rows:
+        most = int(most.replace(",", ""))
+        inside = [most] if least == "" else [int(least), most]
+        outside = [most + 1] + [number - 1 for number in inside[:-1] if number > 0]
+        for number in inside + outside:
+            same(f"whether {number} {name} are beyond the limit", check(FILES[name](number)) == RANGE, number in outside)
+
+
+# Answers.
+
+def packed_search(data, room):
+    listing = search(data, WORDS, room)
+    length = len(listing.record())
+    number = (listing.refusal or 0) + 256 * VERDICTS[listing.verdict] + 65536 * length
+    return number, f"refusal {listing.refusal or 0}, {listing.verdict or 'no verdict'}, {length} bytes"
+
+
+def packed_run(data, closed):
+    outcome = run(data, bytes.fromhex(closed), WORDS)
+    if not isinstance(outcome, Outcome):
+        return outcome, f"refusal {outcome}, no outcome, 0 steps"
+    return 256 * OUTCOMES[outcome.end] + 65536 * outcome.steps, f"refusal 0, {outcome.end}, {outcome.steps} steps"
+
+
+def packed_entry(data, number):
+    records = [entry.record() for entry in search(data, WORDS, 64).entries]
+    place, size = len(b"".join(records[:number])), len(records[number]) if number < len(records) else 0
+    return place + 2 ** 32 * size, f"place {place}, size {size}"
+
+
+def answer(data, call):
+    word, *rest = re.split(r",? (?:on )?", call, maxsplit=1)
+    if word == "check":
+        refusal = check(data) if isinstance(check(data), int) else 0
+        return refusal, f"refusal {refusal}"
+    if word == "search":
+        return packed_search(data, int(rest[0].split()[0]))
+    return packed_run(data, rest[0]) if word == "run" else packed_entry(data, int(rest[0]))
+
+
+def check_answers(page):
+    data = stored("examples", "p.rule")
+    lines = only("the answers of the calls", blocks(section(page, "What the calls for C answer with")))
+    same("the calls", sorted({line.split()[0].rstrip(",") for line in lines}), ["check", "entry", "run", "search"])
+    for line in lines:
+        call = re.split(r"  +", line.strip())[0]
+        number, said = answer(data, call)
+        same(f"the line of '{call}'", line, f"    {call:<19} {f'0x{number:X}':<12} {said}")
+
+
+def main():
+    page = stored("docs", "FORMAT.md").decode()
+    wrong = 0
+    for part in check_rule_file, check_input, check_list, check_limits, check_answers:
+        try:
+            part(page)
+        except Different as different:
+            wrong += 1
+            print(f"docs/FORMAT.md: {part.__name__}: {different}", file=sys.stderr)
+    print(f"docs/FORMAT.md: {'ok' if wrong == 0 else f'{wrong} parts differ'}")
+    return 1 if wrong else 0
+
+
+if __name__ == "__main__":
+    sys.exit(main())
