@@ -1,5 +1,5 @@
--- What the search of a checked file starts from.
--- Rests on reach's Types and Limits, on goal's Goals, on machine's Layout, loaded's Beginning and choices' Returning.
+-- What the search of a checked file starts from, and what it comes to.
+-- Rests on reach's Types and Limits, on goal's Goals, on machine's Layout, loaded's Beginning, choices' Returning and exploring's Exploring.
 use Prim.Native.Nat.{ℕ}
 use mathlib.Core.Path.{_≡_}
 use mathlib.Core.List.{List}
@@ -14,6 +14,8 @@ use Rattle.loaded.specs.Beginning.{GivenFile}
 use Rattle.depths.specs.Table.{padded}
 use Rattle.choices.specs.Choices.{Setting}
 use Rattle.choices.specs.Returning.{setting}
+use Rattle.exploring.specs.declared.Answer.{Answer}
+use Rattle.exploring.specs.Exploring.{Explored}
 
 -- A checked file with its tables, its least depths and its goal, and as many words as its search needs.
 pub record Searchable (file types functions least : List ℕ) (goal : Goal) (w : List ℕ) (p : Program) : Type 0 where
@@ -25,3 +27,12 @@ pub record Searchable (file types functions least : List ℕ) (goal : Goal) (w :
 -- the setting of its search
 abbrev pub settingOf : List ℕ → List ℕ → List ℕ → List ℕ → Program → Setting
 settingOf file types functions least p = setting file types functions least p (p .steps) (recordsAt (p .steps)) (choicesAt (p .steps))
+
+-- some program is searchable in these words
+abbrev pub SomeSearchable : (file types functions least : List ℕ) (goal : Goal) (w : List ℕ) → Type 0
+SomeSearchable file types functions least goal w = (p : Program) × Searchable file types functions least goal w p
+
+-- the list and the answer are those of every program that is
+abbrev pub ExploresThem : (file types functions least : List ℕ) (goal : Goal) (w w′ l l′ : List ℕ) → Answer → Type 0
+ExploresThem file types functions least goal w w′ l l′ a =
+    (p : Program) → Searchable file types functions least goal w p → Explored (settingOf file types functions least p) l l′ w′ a

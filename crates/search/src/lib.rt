@@ -1,10 +1,8 @@
 // The search of a rule file for the partial inputs that reach the target, by lazy narrowing: depth first, in moves, over one path
 // with a stack of choice points, all of it in the lent words; entries are written to the lent list. Rests on crates goal, rulefile,
 // loaded, lookups, machine, skipping and exploring.
-ghost use Rattle.reach.specs.Syntax.{Program};
 ghost use Rattle.search.specs.Answering.{Promised};
-ghost use Rattle.exploring.specs.Exploring.{Explored};
-ghost use Rattle.search.specs.Searching.{Searchable, settingOf};
+ghost use Rattle.search.specs.Searching.{SomeSearchable, ExploresThem};
 use depths::Depths;
 use entries::room;
 use exploring::Answer;
@@ -30,8 +28,8 @@ fn search_checked<'a>(
     work: &mut [u32],
     list: &mut [u8],
 ) -> Answer
-    requires { ⌜ ((p : Program) × Searchable (now file) (now types) (now functions) (least .of) goal (now work) p) ⌝ }
-    ensures { λ a. ⌜ ((p : Program) → Searchable (now (file .entry)) (now (types .entry)) (now (functions .entry)) (least .of) goal (now (work .entry)) p → Explored (settingOf (now (file .entry)) (now (types .entry)) (now (functions .entry)) (least .of) p) (now (list .entry)) (now (list .exit)) (now (work .exit)) a) ⌝ }
+    requires { ⌜ SomeSearchable (now file) (now types) (now functions) (least .of) goal (now work) ⌝ }
+    ensures { λ a. ⌜ ExploresThem (now (file .entry)) (now (types .entry)) (now (functions .entry)) (least .of) goal (now (work .entry)) (now (work .exit)) (now (list .entry)) (now (list .exit)) a ⌝ }
 {
     let mut ends = [0u16; 16384];
     fill_ends(file, types, functions, &mut ends);
