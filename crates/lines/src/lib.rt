@@ -18,8 +18,8 @@ use reach::Kind;
 use reach::Refusal;
 use refusals::number;
 use writing::put_byte;
-use writing::put_number;
 use writing::put_bytes;
+use writing::put_number;
 
 // Writes a space and a byte of the prefix form.
 fn put_part(text: &mut [u8], at: usize, b: u8) -> usize
