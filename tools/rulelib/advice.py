@@ -8,6 +8,7 @@ from rulelib.syntax import Apply, Case, Let, Target, first_line
 
 class Part(NamedTuple):
     what: str
+    line: int
     expression: object
     times: int  # how often it stands in the body: once for each constructor that a '_' stands for
 
@@ -15,16 +16,22 @@ class Part(NamedTuple):
 def parts(body, expression, times):
     """The operands and alternatives of an expression."""
     if isinstance(expression, Case):
-        return [Part("the scrutinee", expression.scrutinee, times)] + \
-               [Part(f"the alternative for '{constructor.text}'", inner, times * body.stands.get(id(alternative), 1))
-                for alternative in expression.alternatives for constructor, _, inner in [alternative] if inner is not None]
+        scrutinee = Part("the scrutinee", first_line(expression.scrutinee), expression.scrutinee, times)
+        return [scrutinee] + [alternative_part(body, alternative, times)
+                              for alternative in expression.alternatives if alternative.body is not None]
     if isinstance(expression, Let):
-        return [Part(f"what '{expression.variable.text}' stands for", expression.bound, times),
-                Part("what follows 'in'", expression.body, times)]
+        name = expression.variable
+        return [Part(f"what '{name.text}' stands for", name.line, expression.bound, times),
+                Part("what follows 'in'", first_line(expression.body), expression.body, times)]
     if isinstance(expression, Target):
-        return [Part(f"what is under target {expression.label}", expression.inner, times)]
-    return [Part(f"argument {number} of '{expression.name.text}'", argument, times)
+        return [Part(f"what is under target {expression.label}", first_line(expression.inner), expression.inner, times)]
+    return [Part(f"argument {number} of '{expression.name.text}'", first_line(argument), argument, times)
             for number, argument in enumerate(expression.arguments, 1)]
+
+
+def alternative_part(body, alternative, times):
+    name = alternative.constructor
+    return Part(f"the alternative for '{name.text}'", name.line, alternative.body, times * body.stands.get(id(alternative), 1))
 
 
 def all_parts(body, expression, times=1):
@@ -62,5 +69,5 @@ def advice(body, size):
         return ""
     most, part = ranked[0]
     times = f", {part.times} times" if part.times > 1 else ""
-    where = f"{part.what} in line {first_line(part.expression)} ({body.sizes[id(part.expression)]} bytes{times})"
+    where = f"{part.what} in line {part.line} ({body.sizes[id(part.expression)]} bytes{times})"
     return f": move {where} to a function" if size - most <= MAX_BODY else f": move parts of it to functions, first {where}"

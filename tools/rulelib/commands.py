@@ -27,15 +27,15 @@ class Session:
 
     def read(self, path):
         """The bytes of a file, or of standard input where the path is '-'."""
-        if path != "-":
-            self.reading = path
-            with open(path, "rb") as file:
-                return file.read()
-        self.reading = INPUT
-        if self.input_taken:
-            raise Fault(None, "it is read as something else already: give a file here")
-        self.input_taken = True
-        return standard(sys.stdin, INPUT).read()
+        self.reading = INPUT if path == "-" else path
+        with about(self.reading):
+            if path != "-":
+                with open(path, "rb") as file:
+                    return file.read()
+            if self.input_taken:
+                raise Fault(None, "it is read as something else already: give a file here")
+            self.input_taken = True
+            return standard(sys.stdin, INPUT).read()
 
     def text(self):
         """The text given. A mark that its bytes are UTF-8, as some editors put it first, is left out."""
@@ -88,14 +88,17 @@ class Session:
     def names(self):
         rule = checked(self.text())
         self.reading = INPUT
-        for number, data in enumerate(standard(sys.stdin, INPUT), 1):
-            line = data.decode(errors="replace").rstrip("\n")
-            try:
-                said = json.dumps(line_object(rule, line), ensure_ascii=False, separators=(",", ":")) if self.arguments.json \
-                    else named_line(rule, line)
-            except Fault as fault:
-                raise Fault(number, fault.message) from None
-            self.write(said.encode() + b"\n")
+        with about(INPUT):
+            for number, data in enumerate(standard(sys.stdin, INPUT), 1):
+                self.write(self.named(rule, number, data.decode(errors="replace").rstrip("\n")).encode() + b"\n")
+
+    def named(self, rule, number, line):
+        """A line of reachlist with names, or as JSON."""
+        try:
+            return json.dumps(line_object(rule, line), ensure_ascii=False, separators=(",", ":")) if self.arguments.json else \
+                named_line(rule, line)
+        except Fault as fault:
+            raise Fault(number, fault.message) from None
 
     def input(self):
         rule, values = checked(self.text()), self.arguments.values
@@ -119,12 +122,13 @@ def standard(stream, name):
 
 @contextlib.contextmanager
 def about(name):
-    """Gives an error the name of what it is about. Python is not to try again at the end what standard output did not take."""
+    """Gives an error the name of what it is about, where it has none. What standard output did not take, Python would try to write
+    again at its end: it is left."""
     try:
         yield
     except OSError as error:
         sys.stdout = None if name == OUTPUT else sys.stdout
-        raise OSError(error.errno, error.strerror, name) from None
+        raise OSError(error.errno, error.strerror, error.filename or name) from None
 
 
 def complain(message):

@@ -20,6 +20,7 @@ class Parser:
     def __init__(self, text):
         self.tokens, self.place = tokens_of(text), 0
         self.left = self.tokens[0].column  # of the first declaration
+        self.latest = None  # the word that began the latest declaration, where it has no fault
         self.margin, self.parentheses = 0, 0
         self.types, self.functions, self.go = [], [], None
         self.faults = []
@@ -78,7 +79,7 @@ class Parser:
     def text(self):
         """Reads the whole text."""
         while self.tokens[self.place].kind != "end":
-            start, token = self.place, self.tokens[self.place]
+            token, start = self.tokens[self.place], self.place
             self.margin, self.parentheses = token.column if token.first else 0, 0
             self.losing = {"type", "name", "go"}
             try:
@@ -91,7 +92,8 @@ class Parser:
         return Text(self.types, self.functions, self.go, self.faults, self.lost)
 
     def begins(self, token):
-        """What reads the declaration that the token begins, or None. `equal` is a name, but not in the first column."""
+        """What reads the declaration that the token begins, or None. `equal` begins one in the first column alone: elsewhere it is
+        a name."""
         if token.text == "equal":
             return self.equal if token.first and token.column <= self.left else None
         return {"type": self.type, "fn": self.function, "go": self.goal}.get(token.text)
@@ -99,24 +101,34 @@ class Parser:
     def declaration(self, token):
         self.place += 1
         reader = self.begins(token)
-        if token.kind == "bad":
-            raise Fault(token.line, meaningless(token))
         if reader is None:
+            self.spoil(token)
             hint = f" {INDENT}" if token.first else HINTS.get(token.text, "")
-            raise Fault(token.line, f"'type', 'fn', 'equal' or 'go' is expected, not {token}{hint}")
+            raise Fault(token.line, meaningless(token) if token.kind == "bad" else
+                        f"'type', 'fn', 'equal' or 'go' is expected, not {token}{hint}")
+        self.latest = None
         reader(token)
+        self.latest = token.text
+
+    def spoil(self, token):
+        """Takes the latest declaration for one with a fault, where a token follows that it may have been meant to have."""
+        if token.first and token.column <= self.left:
+            return
+        if self.latest == "type":
+            self.types[-1] = self.types[-1]._replace(constructors=None)
+            self.lost["name"].add(None)
+        if self.latest == "fn":
+            self.functions[-1] = self.functions[-1]._replace(body=None)
 
     def recover(self, start):
-        """Goes on to the next declaration that begins a line. What lies between may declare any of its names; where a character in
-        it has no meaning, any name at all."""
+        """Goes on to the next declaration that begins a line. What lies between the start and it may declare any of its names; where
+        a character there has no meaning, any name at all."""
         token = self.tokens[self.place]
         while token.kind != "end" and not (token.first and self.begins(token)):
             self.place += 1
             token = self.tokens[self.place]
-        left = self.tokens[start:self.place]
-        names = {None if token.kind == "bad" else token.text for token in left}
-        for kind in self.losing:
-            self.lost[kind] |= names
+        names = {None if token.kind == "bad" else token.text for token in self.tokens[start:self.place]}
+        self.lost = {kind: lost | names if kind in self.losing else lost for kind, lost in self.lost.items()}
 
     def limit(self, number, most, line, message):
         """Notes the first that is too many; it is read on."""

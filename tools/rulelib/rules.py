@@ -6,6 +6,7 @@ from rulelib.faults import Fault, Faults, Unsure
 from rulelib.limits import MAX_BODY, MAX_FILE
 from rulelib.parser import parse
 from rulelib.scope import Scope
+from rulelib.syntax import Function
 
 
 def two(number):
@@ -72,8 +73,9 @@ class Rule:
             + b"GO" + bytes([self.source.number, go.label, go.depth]) + two(go.steps)
 
     def too_large(self):
-        derived = sum(len(self.function_record(number)) for number in range(len(self.text.functions), len(self.codes)))
-        share = f", {derived} of them for functions of derived equalities" if derived else ""
+        written = {number for number, function in enumerate(self.text.functions) if isinstance(function, Function)}
+        derived = sum(len(self.function_record(number)) for number in range(len(self.codes)) if number not in written)
+        share = f", {derived} of them for derived equalities" if derived else ""
         return Fault(self.text.go.line, f"the rule file has {len(self.data())} bytes{share}; it may have {MAX_FILE}")
 
     # Depths.

@@ -24,17 +24,28 @@ class Scope:
         self.text, self.faults = text, list(text.faults)
         self.doubled = {"type": set(), "name": set()}  # names that two declarations have
         self.types, self.constructors, self.functions = {}, {}, {}
-        for number, type_ in enumerate(text.types):
-            self.declare("type", type_.name, number, [(self.types, "type")])
-        for number, type_ in enumerate(text.types):
-            self.declare_constructors(number, type_)
+        self.declare_types()
+        self.declare_constructors()
         self.listed = self.with_equalities()
         self.heads = [Head(number, [self.known_type(type_) for _, type_ in function.parameters], self.known_type(function.result))
                       for number, function in enumerate(self.listed)]
-        for function, head in zip(self.listed, self.heads):
-            self.declare("name", function.name, head, [(self.functions, "function"), (self.constructors, "constructor")])
+        self.declare_functions()
 
     # Declarations.
+
+    def declare_types(self):
+        for number, type_ in enumerate(self.text.types):
+            self.declare("type", type_.name, number, [(self.types, "type")])
+
+    def declare_constructors(self):
+        heads = [(name, Head(number, [self.known_type(field) for field in fields], gives))
+                 for gives, type_ in enumerate(self.text.types) for number, (name, fields) in enumerate(type_.constructors or [])]
+        for name, head in heads:
+            self.declare("name", name, head, [(self.constructors, "constructor")])
+
+    def declare_functions(self):
+        for function, head in zip(self.listed, self.heads):
+            self.declare("name", function.name, head, [(self.functions, "function"), (self.constructors, "constructor")])
 
     def declare(self, kind, name, meaning, tables):
         """Puts a name into the first of the tables, where none of them has it."""
@@ -45,11 +56,6 @@ class Scope:
         self.doubled[kind].add(name.text)
         if " " not in name.text:
             self.faults.append(already(name, taken[0]))
-
-    def declare_constructors(self, gives, type_):
-        for number, (name, fields) in enumerate(type_.constructors or []):
-            head = Head(number, [self.known_type(field) for field in fields], gives)
-            self.declare("name", name, head, [(self.constructors, "constructor")])
 
     def known_type(self, name):
         """The number of a type, or None where it has a fault, which is noted."""

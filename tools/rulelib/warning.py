@@ -8,9 +8,8 @@ def reached(rule):
     """The numbers of the functions that the source calls, and those that these call, and so on."""
     found, waiting = set(), [rule.source.number]
     while waiting:
-        number = waiting.pop()
-        waiting += [called for called in rule.bodies[number].calls if called not in found and called != number]
-        found.add(number)
+        found.add(waiting.pop())
+        waiting = [called for number in found for called in rule.bodies[number].calls if called not in found]
     return found
 
 
@@ -18,14 +17,13 @@ def label_warnings(rule, found):
     """The label sought is on no target, or only where the source does not come."""
     label, line = rule.text.go.label, rule.text.go.line
     labels = sorted(set().union(*(body.labels for body in rule.bodies)))
-    near = sorted(set().union(*(rule.bodies[number].labels for number in found)))
-    if label in near:
+    if any(label in rule.bodies[number].labels for number in found):
         return []
     if label in labels:
         return [Fault(line, f"the targets with label {label} are in functions that '{rule.text.go.source.text}' does not call")]
-    others = f"label {labels[0]}" if len(labels) == 1 else f"labels {listed([str(number) for number in labels])}" if labels else ""
-    return [Fault(line, f"no target has label {label}" + (f"; there are targets with {others}" if others else
-                                                          "; the text has no target"))]
+    there = f"there are targets with label{'s' * (len(labels) > 1)} {listed(list(map(str, labels)))}" if labels else \
+        "the text has no target"
+    return [Fault(line, f"no target has label {label}; {there}")]
 
 
 def function_warnings(rule, found):
