@@ -4,23 +4,18 @@ cannot be written."""
 import json
 import os
 import shutil
-import subprocess
-import sys
 import unicodedata
 from tempfile import TemporaryDirectory
 
-from rule_tool import EXAMPLES, ROOT, TOOL, build, changed, compare, count, run, start, stored, wrong
+from rule_tool import ROOT, TOOL, build, changed, compare, count, run, shell, start, stored, wrong
+from blind.enumerate import fill, printed
 from blind.evaluate import REACHED, run as closed_run
+from blind.narrow import Narrowing
+from blind.rulefile import read
 
 P, P_RULE = stored("examples", "p.txt").decode(), stored("examples", "p.rule")
 WARNED = changed(P, "go isTwo label 7", "go isTwo label 8")
 WARNING = "16: {}no target has label 8; there are targets with label 7\n"
-
-
-def page_example():
-    """The first example on the page about the text."""
-    lines = stored("docs", "RULES.md").decode().split("\n## ")[0].split("\n")
-    return "\n".join(line[4:] for line in lines if line.startswith("    ")) + "\n"
 
 
 def command(what, got, wanted):
@@ -28,10 +23,39 @@ def command(what, got, wanted):
     count("commands")
 
 
+# docs/RULES.md
+
+def quoted(part):
+    """The indented lines of a part of the page, without their indentation."""
+    lines = [line for line in part.split("\n") if line.startswith("    ")]
+    least = min(len(line) - len(line.lstrip()) for line in lines)
+    return [line[least:] for line in lines]
+
+
+def check_page():
+    """What the page shows is so: its first example, what names prints as JSON, and the way of a name to the list."""
+    first, *parts = stored("docs", "RULES.md").decode().split("\n## ")
+    compare("the first example of docs/RULES.md", build("\n".join(quoted(first)) + "\n"), P_RULE)
+    objects = [line for line in quoted(parts[3]) if line.startswith("{")]
+    compare("its JSON", run("names", "--json", "p.txt", stdin=b"reach 6 1 1 _\ntotal 1 0 0 found\nrefused 12\n")[1].decode().splitlines(), objects)
+    way, text = parts[4], stored("examples", "relay.txt").decode()
+    shown = way[:way.index("$ ./reachlist")].split("tools/rule")[0]
+    compare("its lines that the example has not", [line for line in quoted(shown) if line.strip() and line.strip() not in text], [])
+    listed = [line.strip() for line in way[way.index("$ ./reachlist"):].split("\n\n")[0].split("\n")[1:]]
+    lines = run("names", "relay.txt", stdin=relay_list())[1].decode().splitlines()
+    compare("its list", listed, lines[:2] + [".."] + lines[-2:])
+    message = "no target has label 8; there are targets with label 7"
+    compare("its message", (message in way, run("build", "--strict", "-", stdin=changed(text, "enter label 7", "enter label 8").encode())),
+            (True, (1, b"", f"standard input:{len(text.splitlines())}: {message}\n")))
+
+
+def relay_list():
+    return printed(fill(list(Narrowing(read(stored("examples", "relay.rule"))).entries({})), 32768)).encode()
+
+
 # build
 
 def check_build():
-    compare("the example of docs/RULES.md", build(page_example()), P_RULE)
     command("build", run("build", "p.txt"), (0, P_RULE, ""))
     command("build -", run("build", "-", stdin=P.encode()), (0, P_RULE, ""))
     command("a mark of UTF-8", run("build", "-", stdin=b"\xef\xbb\xbf" + P.encode()), (0, P_RULE, ""))
@@ -103,6 +127,16 @@ def check_show():
 LINES = b"reach 6 1 1 _\nunfinished 20 1 0\ntotal 1 1 50 found\nrefused 12\n"
 
 
+BAD_LINES = [
+    ("reach 6 1 2 _", "'2' does not fit the rule's type nat here"),
+    ("reach 6 1 x", "'x' does not fit the rule's type nat here"),
+    ("reach 6 1", "the entry is too short for the rule"),
+    ("reach 6 0 0", "the entry is too long for the rule"),
+    ("reach 6" + 65 * " 1" + " _", "'1' does not fit the rule's type nat here"),
+] + [(line, "this is no line of reachlist") for line in ("reach", "reach x 1", "reached", "", "total 1 0 0", "total 1 0 0 lost", "refused 0",
+                                                          "refused 13", "refused", "total " + "9" * 5000)]
+
+
 def check_names():
     command("names", run("names", "p.txt", stdin=stored("tests", "reachlist", "p.out")),
             (0, b"reach 6  suc (suc _)\ntotal 1 0 0 found\n", ""))
@@ -115,19 +149,11 @@ def check_names():
     compare("JSON", [json.loads(line).get("verdict") for line in output.splitlines()], [None, None, "found", None])
     command("a depth that the text has not", run("names", "p.txt", stdin=b"reach 6 1 1 1 1 1 _\n"),
             (0, b"reach 6  suc (suc (suc (suc (suc _))))\n", ""))
-    for line, message in (("reach 6 1 2 _", "'2' does not fit the rule's type nat here"),
-                          ("reach 6 1 x", "'x' does not fit the rule's type nat here"),
-                          ("reach 6 1", "the entry is too short for the rule"),
-                          ("reach 6 0 0", "the entry is too long for the rule"),
-                          ("reach 6" + 65 * " 1" + " _", "'1' does not fit the rule's type nat here"),
-                          ("reach", "this is no line of reachlist"), ("reach x 1", "this is no line of reachlist"),
-                          ("reached", "this is no line of reachlist"), ("", "this is no line of reachlist"),
-                          ("total 1 0 0", "this is no line of reachlist"), ("total 1 0 0 lost", "this is no line of reachlist"),
-                          ("refused 0", "this is no line of reachlist"), ("refused 13", "this is no line of reachlist"),
-                          ("refused", "this is no line of reachlist"), ("total " + "9" * 5000, "this is no line of reachlist")):
+    for line, message in BAD_LINES:
         for more in ([], ["--json"]):
             command(line[:40], run("names", "p.txt", *more, stdin=line.encode() + b"\n"),
                     (1, b"", f"standard input:1: {message}\n"))
+    command("lines that end as on other systems", run("names", "p.txt", stdin=LINES.replace(b"\n", b"\r\n")), run("names", "p.txt", stdin=LINES))
     command("a second line", run("names", "p.txt", stdin=b"reach 6 1 1 _\nh\xc9llo\n"),
             (1, b"reach 6  suc (suc _)\n", "standard input:2: this is no line of reachlist\n"))
     command("names -", run("names", "-", stdin=P.encode()),
@@ -207,19 +233,11 @@ def check_input():
     compare("what becomes of it", (outcome.end, outcome.steps), (REACHED, 64))
 
 
-# A process of its own.
+# Processes of their own.
 
 def process(what, got, wanted):
     compare(what, got, wanted)
     count("processes")
-
-
-def shell(line):
-    """The exit status of a line of the shell, with `rule` for the tool, and what it prints and reports."""
-    python = f"'{sys.executable}' -B '{TOOL}'"
-    ran = subprocess.run(["bash", "-c", line.replace("rule ", python + " ", 1)], stdin=subprocess.DEVNULL, stdout=subprocess.PIPE,
-                         stderr=subprocess.PIPE, cwd=EXAMPLES)
-    return ran.returncode, ran.stdout, ran.stderr.decode()
 
 
 def check_streams():
@@ -247,7 +265,10 @@ def check_places():
         with open(text, "wb") as file:
             file.write(PAIR.encode())
         plain = {"LC_ALL": "C", "PYTHONCOERCECLOCALE": "0", "PYTHONUTF8": "0"}
-        process("letters without a locale", start("names", text, stdin=b"reach 9 _ 0 _ 1\n", env=plain), (0, "reach 9  _  É _ ω\n".encode(), ""))
+        line = b"reach 9 _ 0 _ 1\n"
+        process("letters without a locale", start("names", text, stdin=line, settings=plain), (0, "reach 9  _  É _ ω\n".encode(), ""))
+        process("letters in JSON", start("names", "--json", text, stdin=line, settings=plain),
+                (0, '{"kind":"reach","steps":9,"parameters":["_","É _ ω"]}\n'.encode(), ""))
         link = os.path.join(folder, "link")
         os.symlink(TOOL, link)
         process("through a link", start("build", "p.txt", tool=link), (0, P_RULE, ""))
@@ -261,6 +282,7 @@ def check_places():
 
 
 def check_all():
+    check_page()
     check_build()
     check_output()
     check_show()

@@ -100,8 +100,18 @@ def run(*words, stdin=b"", folder=EXAMPLES):
     return status, streams.out.getvalue(), streams.err.getvalue()
 
 
-def start(*words, tool=TOOL, stdin=b"", folder=EXAMPLES, **others):
-    """The same, with a process of its own."""
-    ran = subprocess.run([sys.executable, "-B", tool, *words], input=stdin, stdout=subprocess.PIPE, stderr=subprocess.PIPE,
-                         cwd=folder, **others)
+def process(words, stdin, folder, settings):
+    """The exit status of a process, what it prints, and what it reports. It has no settings of Python but these."""
+    plain = {name: value for name, value in os.environ.items() if not name.startswith("PYTHON")}
+    ran = subprocess.run(words, input=stdin, stdout=subprocess.PIPE, stderr=subprocess.PIPE, cwd=folder, env={**plain, **settings})
     return ran.returncode, ran.stdout, ran.stderr.decode()
+
+
+def start(*words, tool=TOOL, stdin=b"", folder=EXAMPLES, settings={}):
+    """The same as `run`, with a process of its own."""
+    return process([sys.executable, "-B", tool, *words], stdin, folder, settings)
+
+
+def shell(line):
+    """The same for a line of the shell that begins with `rule`, which stands for the tool."""
+    return process(["bash", "-c", line.replace("rule ", f"'{sys.executable}' -B '{TOOL}' ", 1)], b"", EXAMPLES, {})

@@ -90,7 +90,7 @@ class Session:
         self.reading = INPUT
         with about(INPUT):
             for number, data in enumerate(standard(sys.stdin, INPUT), 1):
-                self.write(self.named(rule, number, data.decode(errors="replace").rstrip("\n")).encode() + b"\n")
+                self.write(self.named(rule, number, data.decode(errors="replace").rstrip("\r\n")).encode() + b"\n")
 
     def named(self, rule, number, line):
         """A line of reachlist with names, or as JSON."""
