@@ -215,11 +215,14 @@ BAD_INPUTS = [
 ]
 
 
+def check_values():
+    answers = [(values, (0, bytes(wanted), "")) for values, wanted in INPUTS] + \
+              [(values, (1, b"", message + "\n")) for values, message in BAD_INPUTS]
+    for values, answer in answers:
+        command(f"input {str(values)[:60]}", run("input", "-", *values, stdin=PAIR.encode()), answer)
+
+
 def check_input():
-    for values, wanted in INPUTS:
-        command(f"input {values}", run("input", "-", *values, stdin=PAIR.encode()), (0, bytes(wanted), ""))
-    for values, message in BAD_INPUTS:
-        command(f"input {str(values)[:60]}", run("input", "-", *values, stdin=PAIR.encode()), (1, b"", message + "\n"))
     deep = ["--depth", "4", "-", "suc (suc (suc zero))", "1"]
     command("a depth for the search", run("input", *deep, stdin=PAIR.encode()), (0, bytes([1, 1, 1, 0, 1]), ""))
     for depth in ("0", "65", "x"):
@@ -272,6 +275,7 @@ def check_places():
         link = os.path.join(folder, "link")
         os.symlink(TOOL, link)
         process("through a link", start("build", "p.txt", tool=link), (0, P_RULE, ""))
+        process("with no folder of modules", start("build", "p.txt", tool=link, settings={"PYTHONSAFEPATH": "1"}), (0, P_RULE, ""))
         there = os.path.join(folder, "bin")
         os.mkdir(there)
         shutil.copy(TOOL, there)
@@ -287,6 +291,7 @@ def check_all():
     check_output()
     check_show()
     check_names()
+    check_values()
     check_input()
     check_streams()
     check_places()

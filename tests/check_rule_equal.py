@@ -144,6 +144,17 @@ def check_steps():
             4 * [steps("c0", 9) - steps("c0", 8)])
 
 
+def check_order():
+    """The values are looked at one after the other, and then their fields from left to right, up to the first difference."""
+    def looked_at(left, right):
+        program = read(build(text_of("type three = three t2 t2 t2\ntype t2 = low | high", "three")))
+        values_ = [Value(0, tuple(Value(number, ()) for number in numbers)) for numbers in (left, right)]
+        return [wait.place for wait in evaluate(program, values_).waits]
+    order = [(0,), (1,), (0, 0), (1, 0), (0, 1), (1, 1), (0, 2), (1, 2)]
+    compare("the order of equal values", looked_at((0, 1, 1), (0, 1, 1)), order)
+    compare("the order up to a difference", looked_at((0, 1, 1), (0, 0, 1)), order[:6])
+
+
 # Names.
 
 CROWDED = """type half = a | b half | c
@@ -183,4 +194,5 @@ def check_all():
     check_sizes()
     check_limits()
     check_steps()
+    check_order()
     check_names()

@@ -272,12 +272,16 @@ LONG = [
 ]
 
 
-def check_all():
+def check_single():
     compare("a text without fault", faults_of(RIGHT), [])
     for old, new, line, message in FAULTS:
         if old not in RIGHT:
             wrong.append(f"{old!r} is not in the text")
         compare(f"{new[:60]!r} for {old!r}", faults_of(RIGHT.replace(old, new, 1)), [(line, message)])
+    count("faults", len(FAULTS))
+
+
+def check_limits():
     compare("an empty text", faults_of(""), [(1, "the text has no 'go' line")])
     compare("a wide view", faults_of(wide_view()), [(35, "'b15' is one variable too many; 32 may be in view")])
     compare("many bytes", faults_of(many_bytes()), [(62, "the rule file has 22155 bytes; it may have 16384")])
@@ -285,7 +289,16 @@ def check_all():
                                                         "depth 2 at least (refusal 9)")])
     for text, message in LONG:
         compare("a long body", faults_of(text), [(2, message)])
-    count("faults", len(FAULTS) + len(LONG) + 4)
+    count("faults", len(LONG) + 4)
+
+
+def check_several():
     for text, faults in SEVERAL:
         compare("several faults", faults_of(text), faults)
     count("texts with several faults", len(SEVERAL))
+
+
+def check_all():
+    check_single()
+    check_limits()
+    check_several()
