@@ -6,7 +6,7 @@
     equality           the functions that an `equal` declaration stands for
     scope, bodies      the names of a text; the check of an expression, and its bytes
     advice             which part of a long body to move to a function
-    rules              a checked text: its rule file and its warnings
+    rules, warning     a checked text and its rule file; what is to be warned of in it
     reader             from a rule file to a text
     values             closed inputs and the lines of reachlist, with the names of a text
     commands           the command

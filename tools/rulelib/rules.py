@@ -1,4 +1,4 @@
-"""A checked text: its rule file, and what is to be warned of."""
+"""A checked text and its rule file."""
 
 from rulelib.advice import advice
 from rulelib.bodies import Body
