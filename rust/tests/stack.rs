@@ -51,7 +51,9 @@ fn a_search_with_the_deepest_entries() {
         let mut list = vec![0; 64 * 400];
         let listed = search(&descent(), &mut work, &mut list).expect("a complete list");
         assert_eq!(listed.verdict, Verdict::Found);
-        let lengths: Vec<usize> = entries(&list[..listed.length]).map(<[u8]>::len).collect();
+        let lengths: Vec<usize> = entries(&list[..listed.length])
+            .map(|e| e.bytes().len())
+            .collect();
         let expected: Vec<usize> = (0..DEPTH as usize).map(|nodes| 7 + 6 * nodes).collect();
         assert_eq!(lengths, expected);
     });
