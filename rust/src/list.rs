@@ -107,13 +107,20 @@ impl fmt::Display for Part {
             return f.write_str("_");
         };
         write!(f, "{constructor}")?;
-        fields.iter().try_for_each(|field| write!(f, " {field}"))
+        for field in fields {
+            write!(f, " {field}")?;
+        }
+        Ok(())
     }
 }
 
 /// A part of each of these types, each at most so deep, from the front of the bytes.
 fn row(rule: &Rule, types: &[u8], room: u8, rest: &mut &[u8]) -> Option<Vec<Part>> {
-    types.iter().map(|of| part(rule, *of, room, rest)).collect()
+    let mut parts = Vec::with_capacity(types.len());
+    for of in types {
+        parts.push(part(rule, *of, room, rest)?);
+    }
+    Some(parts)
 }
 
 /// A part of a type that is at most so deep, from the front of the bytes.

@@ -22,7 +22,7 @@ pub struct Subject {
 impl Subject {
     /// The rule of a request, with the goal that the request gives it.
     pub fn of(request: &Request) -> Result<Subject, Stop> {
-        let (mut file, mut text) = match Content::read(&request.rule)? {
+        let (mut file, text) = match Content::read(&request.rule)? {
             Content::RuleFile(file) => (file, None),
             Content::Text(text) => (text.build()?, Some(text)),
         };
@@ -32,9 +32,6 @@ impl Subject {
         }
         give_goal(&mut file, &rule, request);
         let rule = Rule::read(&file).map_err(Stop::Refused)?;
-        if let Some(text) = &mut text {
-            text.follow(&file)?;
-        }
         Ok(Subject { file, rule, text })
     }
 }

@@ -1,11 +1,11 @@
 //! A rule's text, and what tools/rule does with it: the rule file, the bytes of a closed input, and the names in a list.
 //!
-//! The text is read once. A search may take long, and names must not come from a text that was changed meanwhile, so what is read is kept
-//! here, and given to tools/rule in a file of a folder that is removed again.
+//! A search may take long, and names must not come from a text that was changed meanwhile. So what was read is kept here, and given to
+//! tools/rule for the names in a file of a folder that is removed again.
 use crate::standard::Output;
 use crate::status::{fault, Stop};
 use remburai::entries;
-use std::ffi::{OsStr, OsString};
+use std::ffi::OsString;
 use std::fs::{self, DirBuilder};
 use std::io::{self, BufWriter, ErrorKind, Read, Write};
 use std::os::unix::fs::DirBuilderExt;
@@ -17,7 +17,7 @@ pub struct Text {
     /// The program tools/rule.
     tool: PathBuf,
     content: Vec<u8>,
-    /// Where the text stands, if the content is the same as there and can be read once more.
+    /// Where the text stands, if it can be read there once more.
     path: Option<PathBuf>,
 }
 
@@ -32,43 +32,27 @@ impl Text {
 
     /// The rule file of the text.
     pub fn build(&self) -> Result<Vec<u8>, Stop> {
-        let Some(path) = &self.path else {
-            return self.output(&["build".as_ref(), "-".as_ref()], &self.content);
-        };
-        self.output(&["build".as_ref(), &plain(path)], b"")
+        let file = self.output(&["build", "--library"], &[])?;
+        match &self.path {
+            Some(path) if !fs::read(path).is_ok_and(|again| again == self.content) => {
+                Err(fault(path.display(), "it was changed while it was read"))
+            }
+            _ => Ok(file),
+        }
     }
 
-    /// Makes it the text of a rule file that has another goal.
-    pub fn follow(&mut self, file: &[u8]) -> Result<(), Stop> {
-        let folder = Folder::new()?;
-        let (rule, text) = (
-            folder.put("rule", file)?,
-            folder.put("text", &self.content)?,
-        );
-        self.content = self.output(&["show".as_ref(), rule.as_ref(), text.as_ref()], b"")?;
-        self.path = None;
-        Ok(())
-    }
-
-    /// The bytes of a closed input, given by a value for each parameter.
+    /// The bytes of a closed input, given by a value for each parameter. How deep a value may be is left to the library.
     pub fn input(&self, values: &[OsString]) -> Result<Vec<u8>, Stop> {
-        let folder = Folder::new()?;
-        let text = match &self.path {
-            Some(path) => plain(path),
-            None => folder.put("text", &self.content)?.into(),
-        };
-        let mut words: Vec<&OsStr> = vec!["input".as_ref(), &text];
-        words.extend(values.iter().map(OsString::as_os_str));
-        self.output(&words, b"")
+        self.output(&["input", "--depth", "64"], values)
     }
 
     /// Writes the entries of a list with the names of the text.
     pub fn name_entries(&self, list: &[u8], json: bool, out: &mut Output) -> Result<(), Stop> {
         let folder = Folder::new()?;
-        let text = folder.put("text", &self.content)?;
-        let mut words: Vec<&OsStr> = vec!["names".as_ref(), text.as_ref()];
-        words.extend(json.then_some(OsStr::new("--json")));
-        let mut child = self.start(&words)?;
+        let mut command = Command::new(&self.tool);
+        command.arg("names").arg(folder.put("text", &self.content)?);
+        command.args(json.then_some("--json"));
+        let mut child = self.start(command)?;
         let (to, from) = (child.stdin.take(), child.stdout.take());
         let written = thread::scope(|scope| {
             scope.spawn(|| write_lines(list, to.expect("it is piped")));
@@ -79,18 +63,20 @@ impl Text {
         self.see(ended)
     }
 
-    fn start(&self, words: &[&OsStr]) -> Result<Child, Stop> {
-        let mut command = Command::new(&self.tool);
-        command
-            .args(words)
-            .stdin(Stdio::piped())
-            .stdout(Stdio::piped());
+    fn start(&self, mut command: Command) -> Result<Child, Stop> {
+        command.stdin(Stdio::piped()).stdout(Stdio::piped());
         command.spawn().map_err(|why| self.failed(why))
     }
 
-    /// What tools/rule writes when it is run with these words and this input.
-    fn output(&self, words: &[&OsStr], input: &[u8]) -> Result<Vec<u8>, Stop> {
-        let mut child = self.start(words)?;
+    /// What tools/rule writes when it is given these words, then the text, then these values.
+    fn output(&self, words: &[&str], values: &[OsString]) -> Result<Vec<u8>, Stop> {
+        let (text, input) = match &self.path {
+            Some(path) => (plain(path), &[][..]),
+            None => ("-".into(), &self.content[..]),
+        };
+        let mut command = Command::new(&self.tool);
+        command.args(words).arg(text).args(values);
+        let mut child = self.start(command)?;
         let mut to = child.stdin.take().expect("it is piped");
         // Where it ends before it has read all, its exit status says why.
         let _ = to.write_all(input);

@@ -3,11 +3,7 @@ use remburai::{Goal, Outcome, Refusal, Total, Verdict, STEP_LIMIT};
 
 /// The depth and the step limit.
 pub fn limits(goal: Goal) -> String {
-    format!(
-        "depth {}, {}",
-        goal.depth,
-        counted(goal.steps as usize, "step")
-    )
+    format!("depth {}, {}", goal.depth, steps(goal.steps))
 }
 
 /// Within which limits something holds.
@@ -15,18 +11,18 @@ pub fn within(goal: Goal) -> String {
     format!("within {}", limits(goal))
 }
 
-fn counted(number: usize, word: &str) -> String {
+fn steps(number: u16) -> String {
     let plural = if number == 1 { "" } else { "s" };
-    format!("{number} {word}{plural}")
+    format!("{number} step{plural}")
 }
 
 /// What the verdict of a complete list stands for.
 pub fn verdict(total: &Total, goal: Goal) -> Vec<String> {
     let begin = format!("{} {}", total.verdict, within(goal));
-    let steps = counted(goal.steps as usize, "step");
     let stops = format!(
-        "input of depth {} or less stops within {steps}, off target.",
-        goal.depth
+        "input of depth {} or less stops within {}, off target.",
+        goal.depth,
+        steps(goal.steps)
     );
     let deeper = "Of deeper inputs nothing is said.";
     if total.verdict == Verdict::None {
@@ -60,34 +56,35 @@ fn more_steps(goal: Goal) -> String {
 
 /// What the outcome of a run stands for.
 pub fn outcome(outcome: Outcome, goal: Goal) -> String {
-    let (word, steps, what) = match outcome {
-        Outcome::Reached(steps) => ("reached", steps, "the input reaches the target".to_string()),
-        Outcome::Ended(steps) => ("ended", steps, "the input stops off target".to_string()),
-        Outcome::Unfinished(steps) => {
+    let within = within(goal);
+    match outcome {
+        Outcome::Reached(n) => format!("reached after {}, {within}.", steps(n)),
+        Outcome::Ended(n) => format!("ended off target after {}, {within}.", steps(n)),
+        Outcome::Unfinished(n) => {
             let unknown = "whether the input reaches the target is not known";
-            (
-                "unfinished",
-                steps,
-                format!("{unknown}; {}", more_steps(goal)),
+            let more = more_steps(goal);
+            format!(
+                "unfinished after {}, {within}: {unknown}; {more}.",
+                steps(n)
             )
         }
-    };
-    format!(
-        "{word} after {}, {}: {what}.",
-        counted(steps as usize, "step"),
-        within(goal)
-    )
+    }
 }
 
 /// What to do about a refusal.
 pub fn advice(why: Refusal) -> &'static str {
     match why {
-        Refusal::Truncated => "the file was cut off, or a length in it is wrong",
-        Refusal::UnexpectedMark => "it is no rule file, or a count before the mark is wrong",
+        Refusal::Truncated => "get the file anew; it was cut off, or a length in it is wrong",
+        Refusal::UnexpectedMark => {
+            "see whether it is a rule file, which begins with TY; if so, a count before the mark is wrong"
+        }
         Refusal::OutOfRange => "split the rule, or lower D or S",
-        Refusal::UnknownNumber | Refusal::UnknownCode => "build the file anew from its text",
-        Refusal::TypeMismatch => "build the file anew from its text; tools/rule names the line",
-        Refusal::TrailingBytes => "a body's length is wrong, or the file has something behind its end",
+        Refusal::UnknownNumber | Refusal::UnknownCode | Refusal::TypeMismatch => {
+            "build the file anew from its text"
+        }
+        Refusal::TrailingBytes => {
+            "build the file anew from its text; a length is wrong, or something stands behind the end"
+        }
         Refusal::EmptyType => "give the type a constructor that ends",
         Refusal::DepthTooSmall => "raise D, or give a larger --depth",
         Refusal::BadInput => {
