@@ -29,7 +29,7 @@ fn print(part: &Part, indent: usize) {
     }
 }
 
-fn main() -> Result<(), Box<dyn Error>> {
+fn print_list() -> Result<(), Box<dyn Error>> {
     let path = env::args_os().nth(1).ok_or("usage: list FILE")?;
     let file = fs::read(path)?;
     let rule = Rule::read(&file)?;
@@ -57,4 +57,11 @@ fn main() -> Result<(), Box<dyn Error>> {
     println!("{}", answer?.total(&list));
     println!("within depth {}, {} steps", goal.depth, goal.steps);
     Ok(())
+}
+
+fn main() {
+    if let Err(why) = print_list() {
+        eprintln!("{why}");
+        std::process::exit(1);
+    }
 }
