@@ -4,6 +4,8 @@ use std::ffi::OsString;
 use std::io::Write;
 use std::path::PathBuf;
 use std::process::{Child, Command, Output, Stdio};
+use std::thread::sleep;
+use std::time::{Duration, Instant};
 
 pub const COMMAND: &str = env!("CARGO_BIN_EXE_remburai");
 
@@ -67,6 +69,22 @@ impl Called {
 
 pub fn call(words: &[&str]) -> Called {
     Called::of(command(words).output().expect("the command"))
+}
+
+/// A call that has to end within some seconds.
+pub fn call_within(seconds: u64, words: &[&str]) -> Called {
+    let mut command = command(words);
+    command.stdout(Stdio::piped()).stderr(Stdio::piped());
+    let mut child = command.spawn().expect("the command");
+    let end = Instant::now() + Duration::from_secs(seconds);
+    while child.try_wait().expect("the command").is_none() {
+        if end < Instant::now() {
+            child.kill().expect("the command");
+            panic!("{words:?} has not ended within {seconds} s");
+        }
+        sleep(Duration::from_millis(10));
+    }
+    Called::of(child.wait_with_output().expect("the command"))
 }
 
 /// A call with this on standard input.

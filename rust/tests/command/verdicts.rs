@@ -1,5 +1,5 @@
 //! What is said of a verdict or of an outcome: never without the depth and the step limit.
-use crate::calling::{call, path, Scratch};
+use crate::calling::{call, call_within, path, Scratch};
 use crate::rules::{endless, Stored};
 use std::time::{Duration, Instant};
 
@@ -124,7 +124,7 @@ fn a_limit() {
     let rule = Scratch::file("endless.rule", &endless());
     for words in [&["list", rule.name()][..], &["entry", rule.name(), "0"]] {
         let began = Instant::now();
-        let called = call(&[words, &["--limit", "0.3"]].concat());
+        let called = call_within(20, &[words, &["--limit", "0.3"]].concat());
         assert!(Duration::from_millis(300) <= began.elapsed());
         assert_eq!(called.lines(2), [""; 0]);
         assert!(called.said.contains(
