@@ -2,28 +2,48 @@
 //!
 //! The calls stand in a static library whose functions are proved, for every content and every length of the slices: they stop, stay
 //! inside the slices, and give the answer that their definition gives. This crate passes slices to them and takes their answers, one
-//! number each, apart. It allocates nothing. A call needs up to 256 KiB of stack.
+//! number each, apart. The calls allocate nothing; [`Rule`] and [`Part`], which read what stands in the bytes, do.
+//!
+//! Calls share nothing and keep nothing: they may run at the same time in any number of threads, each with a work slice and a list slice
+//! of its own, also on one file. Every type of this crate is [`Send`] and [`Sync`]. A call needs up to 256 KiB of stack.
+//!
+//! A search stops, but it may take years, and nothing ends it before its answer: what bounds it is the number of partial inputs up to
+//! depth D that S steps can tell apart. So let a caller choose D and S, and run a search of unknown length in a thread or a process that
+//! can be given up. A run takes at most S steps, and reads its whole input, whatever its length.
 //!
 //! ```
-//! use remburai::{check, entries, run, search, work_words, Outcome, Verdict};
+//! use remburai::{check, entries, run, search, work_words, Kind, Outcome, Rule, Verdict};
 //!
 //! let file = b"TY\x02\x00\x01\x00FN\x01\x00\x00\x17\x00\x03\x00\x00\x00\x01\x02\x00\x00\x01\x03\x00\x00\x01\x01\x02\x00\x00\x01\x05\x07\x02\x00\x00GO\x00\x07\x04\x14\x00";
 //! assert_eq!(check(file), Ok(()));
 //!
-//! // The step limit of this file is 20.
-//! let mut work = vec![0; work_words(20)];
+//! let rule = Rule::read(file).unwrap();
+//! let mut work = vec![0; work_words(rule.goal().steps as usize)];
 //! let mut list = vec![0; 1000];
 //! let listed = search(file, &mut work, &mut list).unwrap();
 //! assert_eq!(listed.verdict, Verdict::Found);
+//! assert_eq!(listed.total(&list).to_string(), "total 1 0 0 found");
 //!
-//! // One entry: reached after 6 steps by every input that begins with 1 1, whatever is below (255).
-//! let all: Vec<&[u8]> = entries(&list[..listed.length]).collect();
-//! assert_eq!(all, [b"RE\x06\x00\x03\x00\x01\x01\xFF"]);
+//! // One entry: reached after 6 steps by every input that begins with 1 1, whatever is below.
+//! let entry = entries(&list[..listed.length]).next().unwrap();
+//! assert_eq!((entry.kind(), entry.steps()), (Kind::Reach, 6));
+//! assert_eq!(entry.to_string(), "reach 6 1 1 _");
+//! assert_eq!(entry.parts(&rule).unwrap()[0].to_string(), "1 1 _");
 //!
 //! assert_eq!(run(file, &[1, 1, 0], &mut work), Ok(Outcome::Reached(6)));
 //! ```
 
+mod list;
+mod refusal;
+mod rule;
+
+pub use list::{entries, Entries, Entry, Kind, Part, Total};
+pub use refusal::Refusal;
+pub use rule::{Goal, Rule};
 use std::fmt;
+
+/// The version of this crate, which is that of the library and of its header.
+pub const VERSION: &str = env!("CARGO_PKG_VERSION");
 
 extern "C" {
     fn remburai_check(file: *const u8, file_length: usize) -> u64;
@@ -60,88 +80,6 @@ pub const fn work_words(steps: usize) -> usize {
     64 * steps + 1_024
 }
 
-/// Why a call gave no result.
-#[derive(Clone, Copy, Debug, PartialEq, Eq, Hash, PartialOrd, Ord)]
-pub enum Refusal {
-    /// 1: bytes run out in a record, in a body, or before GO is read.
-    Truncated = 1,
-    /// 2: a mark is unknown or out of its turn.
-    UnexpectedMark = 2,
-    /// 3: a count, length, D, S, file size, nesting or view is beyond its limit.
-    OutOfRange = 3,
-    /// 4: a type, constructor, function or variable number does not exist.
-    UnknownNumber = 4,
-    /// 5: an expression byte above 5, or an alternative byte above 1.
-    UnknownCode = 5,
-    /// 6: an expression's type is not the one expected.
-    TypeMismatch = 6,
-    /// 7: bytes follow a body's expression, or GO.
-    TrailingBytes = 7,
-    /// 8: a type has no closed value.
-    EmptyType = 8,
-    /// 9: a source parameter's least depth exceeds D.
-    DepthTooSmall = 9,
-    /// 10, of [`run`] only: the bytes are not one closed, fitting value per parameter.
-    BadInput = 10,
-    /// 11: the work slice is shorter than [`work_words`] of S.
-    WorkTooShort = 11,
-    /// 12, of [`search`] only: the next entry does not fit the list slice.
-    ListFull = 12,
-}
-
-impl Refusal {
-    /// All refusals, in the order of their numbers.
-    pub const ALL: [Refusal; 12] = [
-        Refusal::Truncated,
-        Refusal::UnexpectedMark,
-        Refusal::OutOfRange,
-        Refusal::UnknownNumber,
-        Refusal::UnknownCode,
-        Refusal::TypeMismatch,
-        Refusal::TrailingBytes,
-        Refusal::EmptyType,
-        Refusal::DepthTooSmall,
-        Refusal::BadInput,
-        Refusal::WorkTooShort,
-        Refusal::ListFull,
-    ];
-
-    /// The number of the refusal, 1 to 12.
-    pub const fn number(self) -> u8 {
-        self as u8
-    }
-
-    /// The refusal in bits 0 to 7 of an answer, if there is one.
-    fn of(answer: u64) -> Option<Refusal> {
-        match answer & 0xFF {
-            0 => None,
-            number => Some(Refusal::ALL[number as usize - 1]),
-        }
-    }
-}
-
-impl fmt::Display for Refusal {
-    fn fmt(&self, f: &mut fmt::Formatter<'_>) -> fmt::Result {
-        let words = match self {
-            Refusal::Truncated => "bytes run out",
-            Refusal::UnexpectedMark => "a mark is unknown or out of its turn",
-            Refusal::OutOfRange => "a number is beyond its limit",
-            Refusal::UnknownNumber => "a type, constructor, function or variable does not exist",
-            Refusal::UnknownCode => "an expression or alternative byte is unknown",
-            Refusal::TypeMismatch => "an expression's type is not the one expected",
-            Refusal::TrailingBytes => "bytes follow a body's expression, or GO",
-            Refusal::EmptyType => "a type has no closed value",
-            Refusal::DepthTooSmall => "a source parameter's least depth exceeds D",
-            Refusal::BadInput => "the input is not one closed, fitting value per parameter",
-            Refusal::WorkTooShort => "the work slice is too short",
-            Refusal::ListFull => "the next entry does not fit the list slice",
-        };
-        write!(f, "refused {}: {}", self.number(), words)
-    }
-}
-
-impl std::error::Error for Refusal {}
-
 /// What a complete list says of its rule file.
 #[derive(Clone, Copy, Debug, PartialEq, Eq, Hash)]
 pub enum Verdict {
@@ -153,6 +91,16 @@ pub enum Verdict {
     None = 3,
 }
 
+impl fmt::Display for Verdict {
+    fn fmt(&self, f: &mut fmt::Formatter<'_>) -> fmt::Result {
+        f.write_str(match self {
+            Verdict::Found => "found",
+            Verdict::Undecided => "undecided",
+            Verdict::None => "none",
+        })
+    }
+}
+
 /// How the run of a closed input ends, with the steps that it took.
 #[derive(Clone, Copy, Debug, PartialEq, Eq, Hash)]
 pub enum Outcome {
@@ -162,6 +110,16 @@ pub enum Outcome {
     Ended(u16),
     /// S steps are done and it is none of these.
     Unfinished(u16),
+}
+
+impl fmt::Display for Outcome {
+    fn fmt(&self, f: &mut fmt::Formatter<'_>) -> fmt::Result {
+        match self {
+            Outcome::Reached(steps) => write!(f, "reached {steps}"),
+            Outcome::Ended(steps) => write!(f, "ended {steps}"),
+            Outcome::Unfinished(steps) => write!(f, "unfinished {steps}"),
+        }
+    }
 }
 
 /// A complete list: its length in bytes, at the front of the list slice, and its verdict.
@@ -213,7 +171,7 @@ pub fn check(file: &[u8]) -> Result<(), Refusal> {
 }
 
 /// Searches a rule file in the words of `work`, and writes its list to the front of `list`. The bytes of `list` behind the list are as
-/// before, and so are the words from [`work_words`] of S on.
+/// before, and so are the words from [`work_words`] of S on; what the words below it hold is not specified.
 ///
 /// ```
 /// use remburai::{search, Refusal, SearchError};
@@ -247,7 +205,8 @@ pub fn search(file: &[u8], work: &mut [u32], list: &mut [u8]) -> Result<Listed, 
     Ok(Listed { length, verdict })
 }
 
-/// Runs a rule file on one closed input, in the words of `work`: how it ends, or a refusal of 1 to 11, which changes no word.
+/// Runs a rule file on one closed input, in the words of `work`: how it ends, or a refusal of 1 to 11, which changes no word. The words
+/// from [`work_words`] of S on are as before; what the words below it hold is not specified.
 pub fn run(file: &[u8], input: &[u8], work: &mut [u32]) -> Result<Outcome, Refusal> {
     // SAFETY: each pointer and length are those of one slice, lent until the call returns, work to it alone.
     let answer = unsafe {
@@ -274,8 +233,8 @@ pub fn run(file: &[u8], input: &[u8], work: &mut [u32]) -> Result<Outcome, Refus
 
 /// The part of a list that the entry of a given number fills, counted from 0; else the empty part at the list's end.
 ///
-/// Give the list alone, `&list[..length]`: bytes behind it may be read as entries. Each call passes over the entries before that number;
-/// [`entries`] gives all of them in one pass.
+/// Give the list alone, `&list[..length]`: bytes behind it may be read as entries. Of a slice longer than [`LIST_LIMIT`] the list's end is
+/// there. Each call passes over the entries before that number; [`entries`] gives all of them in one pass.
 ///
 /// ```
 /// let list = b"UN\x02\x00\x01\x00\xFFRE\x06\x00\x00\x00";
@@ -288,31 +247,4 @@ pub fn entry(list: &[u8], number: usize) -> &[u8] {
     let place = (answer & 0xFFFF_FFFF) as usize;
     let size = (answer >> 32) as usize;
     &list[place..place + size]
-}
-
-/// The entries of a list, one behind the other, up to the first place where none stands.
-pub fn entries(list: &[u8]) -> Entries<'_> {
-    Entries {
-        rest: &list[..list.len().min(LIST_LIMIT)],
-    }
-}
-
-/// What [`entries`] gives.
-#[derive(Clone, Debug)]
-pub struct Entries<'l> {
-    rest: &'l [u8],
-}
-
-impl<'l> Iterator for Entries<'l> {
-    type Item = &'l [u8];
-
-    fn next(&mut self) -> Option<&'l [u8]> {
-        let first = entry(self.rest, 0);
-        self.rest = &self.rest[first.len()..];
-        if first.is_empty() {
-            None
-        } else {
-            Some(first)
-        }
-    }
 }

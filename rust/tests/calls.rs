@@ -309,7 +309,8 @@ fn entries_of_lists() {
         both.as_ptr_range().end
     );
     assert_eq!(entry(&both, usize::MAX), b"");
-    assert_eq!(entries(&both).collect::<Vec<_>>(), [&first[..], &second]);
+    let all: Vec<&[u8]> = entries(&both).map(|entry| entry.bytes()).collect();
+    assert_eq!(all, [&first[..], &second]);
     // a header or a length that runs past the end, and an unknown mark
     for end in first.len()..both.len() {
         assert_eq!(entry(&both[..end], 0), first);

@@ -1,5 +1,9 @@
-//! The stack that a call needs: each call on a thread with a small stack of its own, with what nests deepest. The proofs say nothing of the stack;
-//! a call that needs more than the thread has ends the test by a signal.
+//! The stack that a call needs: each call on a thread with a small stack of its own, with what nests deepest. The proofs say nothing of the
+//! stack; a call that needs more than the thread has ends the test by a signal.
+//!
+//! What nests: the check of a body, by its expressions, up to the one at nesting 33, which is refused; the reading of a closed input, by
+//! its depth; and the writing of an entry, by its depth and by the parameters and fields before each part: so the eighth parameter, and
+//! the last of six fields at every depth.
 use remburai::*;
 use std::thread;
 
@@ -8,10 +12,14 @@ const STACK: usize = 256 * 1024;
 
 const DEPTH: u8 = 64;
 const NESTING: usize = 32;
+const PARAMETERS: u8 = 8;
+const FIELDS: u8 = 6;
 
-/// A rule file with one type, a leaf (constructor 0) and a node of six fields (constructor 1), and one function of one parameter with this body.
+/// A rule file with one type, a leaf (constructor 0) and a node of six fields (constructor 1), and one function of eight parameters with
+/// this body.
 fn tree_rule(body: &[u8]) -> Vec<u8> {
-    let mut file = b"TY\x02\x00\x06\x00\x00\x00\x00\x00\x00FN\x01\x00\x00".to_vec();
+    let mut file = b"TY\x02\x00\x06\x00\x00\x00\x00\x00\x00FN\x08".to_vec();
+    file.extend([0; PARAMETERS as usize + 1]);
     file.extend((body.len() as u16).to_le_bytes());
     file.extend(body);
     file.extend(b"GO\x00\x07");
@@ -20,28 +28,48 @@ fn tree_rule(body: &[u8]) -> Vec<u8> {
     file
 }
 
-/// The rule that follows the last field of every node down to a leaf, its target.
+/// The rule that follows the last field of every node of the last parameter down to a leaf, its target.
 fn descent() -> Vec<u8> {
-    tree_rule(&[3, 0, 0, 0, 1, 5, 7, 2, 0, 0, 1, 1, 0, 0, 6])
-}
-
-/// A body of cases, each inside the alternative of the one before, as deep as an expression may nest.
-fn nested_cases() -> Vec<u8> {
-    let mut body = vec![0, 0];
-    for _ in 1..NESTING {
-        body = [&[3, 0, 0, 0, 1], &body[..], &[0]].concat();
-    }
+    let last = PARAMETERS - 1;
+    let mut body = vec![3, 0, 0, last, 1, 5, 7, 2, 0, 0, 1, 1, 0];
+    body.extend((0..last).flat_map(|variable| [0, variable]));
+    body.extend([0, last + FIELDS]);
     tree_rule(&body)
 }
 
-fn on_a_small_stack(call: fn()) {
+/// A variable inside as many expressions as make it nest so deep.
+fn nested(before: &[u8], behind: &[u8], nesting: usize) -> Vec<u8> {
+    let before = before.repeat(nesting - 1);
+    tree_rule(&[&before, &[0, 0][..], &behind.repeat(nesting - 1)].concat())
+}
+
+fn on_a_small_stack(call: impl FnOnce() + Send + 'static) {
     let thread = thread::Builder::new().stack_size(STACK).spawn(call);
     thread.expect("a thread").join().expect("no panic");
 }
 
+/// Expressions inside an alternative of a case, its scrutinee, a field, an argument, a let's bound expression, and a target: at nesting 32
+/// accepted, at 33 refused there. What binds variables comes to the limit of the view before.
 #[test]
-fn a_check_of_the_deepest_body() {
-    on_a_small_stack(|| assert_eq!(check(&nested_cases()), Ok(())));
+fn a_check_of_the_deepest_bodies() {
+    let field = [&[2, 0, 1][..], &[0, 0].repeat(FIELDS as usize - 1)].concat();
+    let argument = [&[1, 0][..], &[0, 0].repeat(PARAMETERS as usize - 1)].concat();
+    let bodies: [(&[u8], &[u8]); 6] = [
+        (&[3, 0, 0, 0, 1], &[0]),
+        (&[3, 0], &[0, 0]),
+        (&field, &[]),
+        (&argument, &[]),
+        (&[4, 0], &[0, 0]),
+        (&[5, 7], &[]),
+    ];
+    for (before, behind) in bodies {
+        let (most, more) = (
+            nested(before, behind, NESTING),
+            nested(before, behind, NESTING + 1),
+        );
+        on_a_small_stack(move || assert_eq!(check(&most), Ok(())));
+        on_a_small_stack(move || assert_eq!(check(&more), Err(Refusal::OutOfRange)));
+    }
 }
 
 #[test]
@@ -51,8 +79,13 @@ fn a_search_with_the_deepest_entries() {
         let mut list = vec![0; 64 * 400];
         let listed = search(&descent(), &mut work, &mut list).expect("a complete list");
         assert_eq!(listed.verdict, Verdict::Found);
-        let lengths: Vec<usize> = entries(&list[..listed.length]).map(<[u8]>::len).collect();
-        let expected: Vec<usize> = (0..DEPTH as usize).map(|nodes| 7 + 6 * nodes).collect();
+        let all = entries(&list[..listed.length]);
+        let lengths: Vec<usize> = all.map(|entry| entry.bytes().len()).collect();
+        let shallowest = 6 + PARAMETERS as usize;
+        let fields = FIELDS as usize;
+        let expected: Vec<usize> = (0..DEPTH as usize)
+            .map(|nodes| shallowest + fields * nodes)
+            .collect();
         assert_eq!(lengths, expected);
     });
 }
@@ -60,10 +93,36 @@ fn a_search_with_the_deepest_entries() {
 #[test]
 fn a_run_on_the_deepest_input() {
     on_a_small_stack(|| {
-        let mut input = [1, 0, 0, 0, 0, 0].repeat(DEPTH as usize - 1);
-        input.push(0);
+        let mut value = [1, 0, 0, 0, 0, 0].repeat(DEPTH as usize - 1);
+        value.push(0);
         let mut work = vec![0; work_words(STEP_LIMIT)];
+        let input = value.repeat(PARAMETERS as usize);
         let outcome = run(&descent(), &input, &mut work);
         assert!(matches!(outcome, Ok(Outcome::Reached(_))), "{outcome:?}");
+        // one deeper, in the last place
+        let deeper = [&input[..input.len() - 1], &[1, 0, 0, 0, 0, 0, 0]].concat();
+        assert_eq!(run(&descent(), &deeper, &mut work), Err(Refusal::BadInput));
+    });
+}
+
+/// The deepest entry as trees, and printed.
+#[test]
+fn the_deepest_parts() {
+    on_a_small_stack(|| {
+        let node = [1, 255, 255, 255, 255, 255].repeat(DEPTH as usize - 1);
+        let parameters = [&[255; PARAMETERS as usize - 1], &node[..], &[0]].concat();
+        let mut list = b"RE\x06\x00".to_vec();
+        list.extend((parameters.len() as u16).to_le_bytes());
+        list.extend(&parameters);
+        let entry = entries(&list).next().expect("an entry");
+        let rule = Rule::read(&descent()).expect("an accepted rule file");
+        let parts = entry.parts(&rule).expect("its parameters");
+        let printed: String = parts.iter().map(|part| format!(" {part}")).collect();
+        assert_eq!(entry.to_string(), format!("reach 6{printed}"));
+        // one deeper is none of the rule's
+        let at = list.len() - 1;
+        list.splice(at.., [1, 255, 255, 255, 255, 255, 255]);
+        list[4..6].copy_from_slice(&(parameters.len() as u16 + 6).to_le_bytes());
+        assert_eq!(entries(&list).next().expect("an entry").parts(&rule), None);
     });
 }

@@ -138,11 +138,13 @@ fn searches() {
         lines.push(format!("{bytes}{} {}", kept(behind), kept(words)));
         // the entries fill the list, and each is found by its number
         assert_eq!(
-            entries(&list[..length]).map(<[u8]>::len).sum::<usize>(),
+            entries(&list[..length])
+                .map(|e| e.bytes().len())
+                .sum::<usize>(),
             length
         );
         for (number, part) in entries(&list[..length]).enumerate().take(20) {
-            assert_eq!(entry(&list[..length], number), part);
+            assert_eq!(entry(&list[..length], number), part.bytes());
         }
     }
     see_lines("search_vectors", lines, 5000);

@@ -1,0 +1,129 @@
+//! The answers to the four commands.
+use crate::arguments::{whole, Command, Request};
+use crate::lines::{tell, write_entries, write_refusal, write_total};
+use crate::searching::{searched, Searched};
+use crate::standard::{say, Output};
+use crate::status::{fault, Status, Stop};
+use crate::subject::Subject;
+use crate::wording;
+use remburai::{entries, entry, run, work_words, SearchError};
+
+/// Writes the answer to a request.
+pub fn answer(request: &Request, out: &mut Output) -> Result<Status, Stop> {
+    let given = Subject::of(request).and_then(|subject| match request.command {
+        Command::List => list(request, &subject, out),
+        Command::Entry => one_entry(request, &subject, out),
+        Command::Run => outcome(request, &subject, out),
+        Command::Check => accepted(&subject, out),
+    });
+    let Err(Stop::Refused(why)) = given else {
+        return given;
+    };
+    write_refusal(request.form, why, out)?;
+    Ok(Status::Refused)
+}
+
+fn accepted(subject: &Subject, out: &mut Output) -> Result<Status, Stop> {
+    let goal = subject.rule.goal();
+    out.line(format_args!("accepted: {}", wording::limits(goal)))?;
+    Ok(Status::Yes)
+}
+
+fn list(request: &Request, subject: &Subject, out: &mut Output) -> Result<Status, Stop> {
+    let Some(found) = search(request, subject)? else {
+        return Ok(Status::Open);
+    };
+    write_entries(request.form, subject, found.list(), out)?;
+    match found.answer {
+        Ok(listed) => {
+            let total = listed.total(found.list());
+            write_total(request.form, &total, subject.rule.goal(), out)?;
+            Ok(listed.verdict.into())
+        }
+        Err(why) => cut_short(why, &found, request, subject, out),
+    }
+}
+
+/// The search of the rule, or nothing where the limit has passed.
+fn search(request: &Request, subject: &Subject) -> Result<Option<Searched>, Stop> {
+    let goal = subject.rule.goal();
+    let found = searched(&subject.file, goal.steps, request.limit)?;
+    if let (None, Some(limit)) = (&found, request.limit) {
+        let (seconds, within) = (limit.as_secs_f64(), wording::within(goal));
+        say(format_args!(
+            "no answer after {seconds} s: the search {within} was given up, and nothing is known"
+        ));
+    }
+    Ok(found)
+}
+
+/// A search that was refused. With 12 the entries that fit are known, and nothing of the others.
+fn cut_short(
+    why: SearchError,
+    found: &Searched,
+    request: &Request,
+    subject: &Subject,
+    out: &mut Output,
+) -> Result<Status, Stop> {
+    if let SearchError::Full { .. } = why {
+        let within = wording::within(subject.rule.goal());
+        let count = entries(found.list()).count();
+        let sentence = format!(
+            "No verdict {within}: the list is full after {count} entries, and there are more."
+        );
+        tell(request.form, &sentence, out)?;
+    }
+    Err(Stop::Refused(why.refusal()))
+}
+
+fn one_entry(request: &Request, subject: &Subject, out: &mut Output) -> Result<Status, Stop> {
+    let word = request.more[0].to_string_lossy();
+    let number = whole(&word).ok_or_else(|| fault(&word, "entries have numbers, from 0 on"))?;
+    let Some(found) = search(request, subject)? else {
+        return Ok(Status::Open);
+    };
+    let part = entry(found.list(), number);
+    write_entries(request.form, subject, part, out)?;
+    let within = wording::within(subject.rule.goal());
+    if !part.is_empty() {
+        tell(
+            request.form,
+            &format!("entry {number} of the list {within}."),
+            out,
+        )?;
+        return Ok(Status::Yes);
+    }
+    if let Err(why) = found.answer {
+        return cut_short(why, &found, request, subject, out);
+    }
+    let count = entries(found.list()).count();
+    let sentence = format!("no entry {number}: the list {within} has {count}, counted from 0.");
+    tell(request.form, &sentence, out)?;
+    Ok(Status::No)
+}
+
+fn outcome(request: &Request, subject: &Subject, out: &mut Output) -> Result<Status, Stop> {
+    let input = match &subject.text {
+        Some(text) => text.input(&request.more)?,
+        None => numbers(request)?,
+    };
+    let goal = subject.rule.goal();
+    let mut work = vec![0; work_words(goal.steps as usize)];
+    let outcome = run(&subject.file, &input, &mut work).map_err(Stop::Refused)?;
+    out.line(wording::outcome(outcome, goal))?;
+    Ok(outcome.into())
+}
+
+/// A closed input in numbers: the words of a request, or what stands between spaces in them.
+fn numbers(request: &Request) -> Result<Vec<u8>, Stop> {
+    let mut input = vec![];
+    for word in request.more.iter().map(|word| word.to_string_lossy()) {
+        for number in word.split_whitespace() {
+            let byte = whole(number).and_then(|number| u8::try_from(number).ok());
+            let wrong =
+                "the input of a rule file is numbers from 0 to 255; names need the rule's text";
+            input.push(byte.ok_or_else(|| fault(number, wrong))?);
+        }
+    }
+    Ok(input)
+}

@@ -1,0 +1,86 @@
+//! Rule files: those stored in tests/reachlist, and two that are too large for `reachlist`.
+use crate::calling::path;
+use std::fs;
+
+/// A stored rule file, and what `reachlist` prints for it.
+pub struct Stored {
+    pub name: String,
+    pub rule: String,
+    pub printed: String,
+}
+
+impl Stored {
+    pub fn named(name: &str) -> Stored {
+        let out = path(&format!("tests/reachlist/{name}.out"));
+        Stored {
+            name: name.to_string(),
+            rule: path(&format!("tests/reachlist/{name}.rule")),
+            printed: fs::read_to_string(out).expect("a stored text"),
+        }
+    }
+
+    pub fn last(&self) -> &str {
+        self.printed.lines().last().expect("a line")
+    }
+
+    /// Where it says nothing of the buffers of `reachlist`, whose refusals 11 and 12 the command does not share.
+    pub fn whole(&self) -> bool {
+        !["refused 11", "refused 12"].contains(&self.last())
+    }
+}
+
+pub fn stored() -> Vec<Stored> {
+    let folder = fs::read_dir(path("tests/reachlist")).expect("a folder");
+    let names = folder.map(|entry| {
+        entry
+            .expect("an entry")
+            .file_name()
+            .into_string()
+            .expect("UTF-8")
+    });
+    let mut names: Vec<String> = names
+        .filter_map(|name| Some(name.strip_suffix(".rule")?.to_string()))
+        .collect();
+    names.sort();
+    assert!(40 < names.len());
+    names.iter().map(|name| Stored::named(name)).collect()
+}
+
+/// A function of a rule file.
+fn function(parameters: usize, body: &[u8]) -> Vec<u8> {
+    let mut record = b"FN".to_vec();
+    record.push(parameters as u8);
+    record.extend(vec![0; parameters + 1]);
+    record.extend((body.len() as u16).to_le_bytes());
+    record.extend(body);
+    record
+}
+
+/// Six parameters of a type of sixteen constructors without fields, all looked at: 16,777,216 entries of 12 bytes, more than any list holds.
+pub fn too_many_entries() -> Vec<u8> {
+    const PARAMETERS: usize = 6;
+    let mut file = [&b"TY\x10"[..], &[0; 16]].concat();
+    for number in 0..PARAMETERS {
+        let left = PARAMETERS - number;
+        let operands = (1..left as u8).flat_map(|variable| [0, variable]);
+        let next: Vec<u8> = match left {
+            1 => vec![5, 7, 2, 0, 0],
+            _ => [1, number as u8 + 1].into_iter().chain(operands).collect(),
+        };
+        let alternative = [&[1], &next[..]].concat();
+        let body = [&[3, 0, 0, 0], &alternative.repeat(16)[..]].concat();
+        file.extend(function(left, &body));
+    }
+    file.extend(b"GO\x00\x07\x01\x64\x00");
+    file
+}
+
+/// A search without end, as far as anyone can wait: all trees of depth 64 that 4,096 steps can pass through.
+pub fn endless() -> Vec<u8> {
+    let right = [3, 0, 1, 0, 0, 1, 1, 1, 0, 0, 2, 0];
+    let body = [&[3, 0, 0, 0, 1, 2, 0, 0, 1], &right[..]].concat();
+    let mut file = b"TY\x02\x00\x02\x00\x00".to_vec();
+    file.extend(function(1, &body));
+    file.extend(b"GO\x00\x07\x40\x00\x10");
+    file
+}

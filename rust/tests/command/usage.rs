@@ -1,0 +1,119 @@
+//! Help, and faults of use.
+use crate::calling::{call, path};
+
+const COMMANDS: [&str; 4] = ["list", "entry", "run", "check"];
+
+#[test]
+fn help() {
+    let general = call(&["--help"]);
+    for words in [&["-h"][..], &["help"], &["help", "nothing"]] {
+        assert_eq!(call(words), general);
+    }
+    let text = general.lines(0).join("\n");
+    for status in [
+        "0  found",
+        "1  none",
+        "2  undecided",
+        "3  refused",
+        "4  a fault",
+        "told apart",
+    ] {
+        assert!(text.contains(status), "{status}");
+    }
+    for name in COMMANDS {
+        let page = call(&[name, "--help"]);
+        assert!(page.lines(0)[0].starts_with(&format!("  remburai {name} RULE")));
+        assert!(page.printed.contains("Exit status: 0 "));
+        assert!(text.contains(&format!("remburai {name} RULE")));
+        assert_eq!(call(&["help", name]), page);
+        assert_eq!(call(&[name, "rule", "--depth", "3", "-h"]), page);
+    }
+}
+
+#[test]
+fn version() {
+    assert_eq!(
+        call(&["--version"]).lines(0),
+        [format!("remburai {}", env!("CARGO_PKG_VERSION"))]
+    );
+}
+
+#[test]
+fn options_for_every_command_are_in_its_help() {
+    for (name, options) in [("list", 5), ("run", 2), ("check", 2)] {
+        let page = call(&[name, "--help"]).printed;
+        assert_eq!(
+            page.lines().filter(|line| line.starts_with("  --")).count(),
+            options,
+            "{name}"
+        );
+    }
+}
+
+#[test]
+fn faults() {
+    let rule = path("examples/p.rule");
+    let faults: [(&[&str], &str); 22] = [
+        (&[], "a command is missing"),
+        (&["lists", &rule], "there is no command \"lists\""),
+        (&["list"], "the rule is missing"),
+        (&["list", &rule, &rule], "one rule is needed"),
+        (&["check", &rule, "0"], "one rule is needed"),
+        (&["entry", &rule], "the number of an entry"),
+        (&["entry", &rule, "0", "1"], "the number of an entry"),
+        (&["entry", &rule, "first"], "first: entries have numbers"),
+        (&["entry", &rule, "+1"], "+1: entries have numbers"),
+        (
+            &["run", &rule, "suc"],
+            "suc: the input of a rule file is numbers",
+        ),
+        (
+            &["run", &rule, "256"],
+            "256: the input of a rule file is numbers",
+        ),
+        (&["list", &rule, "--depth"], "--depth needs a value"),
+        (
+            &["list", &rule, "--depth", "0"],
+            "--depth is a number from 1 to 64",
+        ),
+        (
+            &["list", &rule, "--depth=65"],
+            "--depth is a number from 1 to 64",
+        ),
+        (
+            &["list", &rule, "--steps", "4097"],
+            "--steps is a number from 0 to 4096",
+        ),
+        (
+            &["list", &rule, "--steps="],
+            "--steps is a number from 0 to 4096",
+        ),
+        (
+            &["list", &rule, "--limit", "0"],
+            "--limit is a number of seconds above 0",
+        ),
+        (
+            &["list", &rule, "--limit", "nan"],
+            "--limit is a number of seconds above 0",
+        ),
+        (
+            &["list", &rule, "--raw", "--json"],
+            "--raw and --json exclude each other",
+        ),
+        (
+            &["list", &rule, "--raw=1"],
+            "there is no option --raw=1 here",
+        ),
+        (
+            &["run", &rule, "0", "--limit", "3"],
+            "there is no option --limit here",
+        ),
+        (
+            &["check", "--", "--raw"],
+            "--raw: No such file or directory",
+        ),
+    ];
+    for (words, part) in faults {
+        call(words).see_fault(part);
+    }
+}

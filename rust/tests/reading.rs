@@ -1,0 +1,244 @@
+//! Lists read and printed by the crate: the text of `reachlist` from its own calls, entries as trees, and calls at the same time.
+use remburai::*;
+use std::fmt::Write;
+use std::{fs, thread};
+
+/// The buffers of `reachlist`.
+const WORDS: usize = 16_384;
+const BYTES: usize = 32_768;
+
+fn folder() -> String {
+    format!("{}/../tests/reachlist", env!("CARGO_MANIFEST_DIR"))
+}
+
+/// The stored rule files with what `reachlist` prints.
+fn stored() -> Vec<(Vec<u8>, String)> {
+    let paths = fs::read_dir(folder())
+        .expect("a folder")
+        .map(|entry| entry.expect("an entry").path());
+    let rules = paths.filter(|path| path.extension().is_some_and(|end| end == "rule"));
+    let read = |path: std::path::PathBuf| {
+        let printed = fs::read_to_string(path.with_extension("out")).expect("a stored text");
+        (fs::read(path).expect("a rule file"), printed)
+    };
+    rules.map(read).collect()
+}
+
+/// What `reachlist` prints for a rule file.
+fn text(file: &[u8]) -> String {
+    let (mut work, mut list) = (vec![0; WORDS], vec![0; BYTES]);
+    let answer = search(file, &mut work, &mut list);
+    let (length, last) = match answer {
+        Ok(listed) => (listed.length, listed.total(&list).to_string()),
+        Err(SearchError::Full { length }) => (length, "refused 12".to_string()),
+        Err(SearchError::Refused(why)) => (0, format!("refused {}", why.number())),
+    };
+    let mut text = String::new();
+    for entry in entries(&list[..length]) {
+        writeln!(text, "{entry}").expect("a string");
+    }
+    text + &last + "\n"
+}
+
+#[test]
+fn texts() {
+    let stored = stored();
+    assert!(40 < stored.len());
+    for (file, printed) in stored {
+        assert_eq!(text(&file), printed);
+    }
+}
+
+/// The trees of an entry, one for each parameter of the source, are printed as the entry is.
+#[test]
+fn trees() {
+    let mut seen = 0;
+    for (file, _) in stored() {
+        let Ok(rule) = Rule::read(&file) else {
+            continue;
+        };
+        let mut work = vec![0; work_words(rule.goal().steps as usize)];
+        let mut list = vec![0; LIST_LIMIT];
+        let listed = search(&file, &mut work, &mut list).expect("a complete list");
+        for entry in entries(&list[..listed.length]) {
+            let parts = entry.parts(&rule).expect("the rule's own parameters");
+            assert_eq!(parts.len(), rule.parameters().len());
+            let printed: String = parts.iter().map(|part| format!(" {part}")).collect();
+            assert_eq!(
+                entry.to_string(),
+                format!("{} {}{printed}", entry.kind(), entry.steps())
+            );
+            see_types(&rule, rule.parameters(), &parts);
+            seen += 1;
+        }
+    }
+    assert!(5000 < seen, "{seen}");
+}
+
+/// Each bound part has as many fields as its constructor.
+fn see_types(rule: &Rule, types: &[u8], parts: &[Part]) {
+    assert_eq!(types.len(), parts.len());
+    for (of, part) in types.iter().zip(parts) {
+        if let Part::Bound(constructor, fields) = part {
+            see_types(
+                rule,
+                rule.fields(*of, *constructor)
+                    .expect("a constructor of the type"),
+                fields,
+            );
+        }
+    }
+}
+
+/// Two types: a list of colours, of which there are three, and the colours. The parameters are a list and a colour.
+const COLOURS: &[u8] = b"TY\x02\x00\x02\x01\x00TY\x03\x00\x00\x00FN\x02\x00\x01\x01\x02\x00\x00\x01GO\x00\x07\x03\x14\x00";
+
+fn parts_of(parameters: &[u8]) -> Option<Vec<Part>> {
+    let mut list = b"UN\x14\x00".to_vec();
+    list.extend((parameters.len() as u16).to_le_bytes());
+    list.extend(parameters);
+    let rule = Rule::read(COLOURS).expect("an accepted rule file");
+    let entry = entries(&list).next().expect("an entry");
+    assert_eq!(
+        (entry.kind(), entry.steps(), entry.parameters()),
+        (Kind::Unfinished, 20, parameters)
+    );
+    entry.parts(&rule)
+}
+
+#[test]
+fn parts_of_two_types() {
+    let colour = |number| Part::Bound(number, vec![]);
+    let list = Part::Bound(1, vec![colour(2), Part::Open]);
+    assert_eq!(parts_of(&[1, 2, 255, 0]), Some(vec![list, colour(0)]));
+    assert_eq!(parts_of(&[255, 255]), Some(vec![Part::Open, Part::Open]));
+    assert!(parts_of(&[1, 0, 1, 0, 0, 2]).is_some());
+}
+
+/// Bytes that are no parameters of the rule: too few, too many, no constructor of the type, too deep.
+#[test]
+fn parts_of_another_rule() {
+    let wrong: [&[u8]; 8] = [
+        &[],
+        &[0],
+        &[1, 0],
+        &[0, 0, 0],
+        &[2, 0],
+        &[0, 3],
+        &[1, 3, 0, 0],
+        &[1, 0, 1, 0, 1, 0, 0, 0],
+    ];
+    for parameters in wrong {
+        assert_eq!(parts_of(parameters), None, "{parameters:?}");
+    }
+    // at the last depth an open part has room, one level below it has none
+    assert!(parts_of(&[1, 0, 1, 0, 255, 0]).is_some());
+    assert_eq!(parts_of(&[1, 0, 1, 0, 1, 255, 255, 0]), None);
+}
+
+#[test]
+fn what_a_rule_file_says() {
+    let rule = Rule::read(COLOURS).unwrap();
+    let goal = Goal {
+        source: 0,
+        label: 7,
+        depth: 3,
+        steps: 20,
+    };
+    assert_eq!((rule.goal(), rule.parameters()), (goal, &[0, 1][..]));
+    assert_eq!(rule.fields(0, 1), Some(&[1, 0][..]));
+    assert_eq!(
+        (rule.fields(1, 2), rule.fields(1, 3), rule.fields(2, 0)),
+        (Some(&[][..]), None, None)
+    );
+    // the source need not be the first function
+    let records: [&[u8]; 5] = [
+        &COLOURS[..13],
+        b"FN\x00\x01\x03\x00\x02\x01\x02",
+        &COLOURS[13..23],
+        b"FN\x01\x01\x01\x02\x00\x00\x00",
+        b"GO\x02\x09\x01\x00\x10",
+    ];
+    let rule = Rule::read(&records.concat()).unwrap();
+    let goal = Goal {
+        source: 2,
+        label: 9,
+        depth: 1,
+        steps: 4096,
+    };
+    assert_eq!((rule.goal(), rule.parameters()), (goal, &[1][..]));
+}
+
+#[test]
+fn totals() {
+    let total = |reach, unfinished, verdict| {
+        Total {
+            reach,
+            unfinished,
+            verdict,
+        }
+        .to_string()
+    };
+    assert_eq!(total(0, 0, Verdict::None), "total 0 0 0 none");
+    assert_eq!(total(1, 2, Verdict::Found), "total 1 2 66 found");
+    assert_eq!(total(0, 3, Verdict::Undecided), "total 0 3 100 undecided");
+    assert_eq!(total(199, 1, Verdict::Found), "total 199 1 0 found");
+}
+
+#[test]
+fn words() {
+    let words: Vec<&str> = Refusal::ALL.iter().map(|why| why.word()).collect();
+    let wanted = "short mark range stranger code misfit tail hollow shallow input bench full";
+    assert_eq!(words.join(" "), wanted);
+    let printed = "refused 9 shallow: a source parameter's least depth exceeds D";
+    assert_eq!(Refusal::DepthTooSmall.to_string(), printed);
+    assert_eq!(Outcome::Ended(3).to_string(), "ended 3");
+}
+
+/// The crate has the version that its header says.
+#[test]
+fn version() {
+    let header = fs::read_to_string(format!(
+        "{}/../include/remburai.h",
+        env!("CARGO_MANIFEST_DIR")
+    ))
+    .unwrap();
+    let line = format!("#define REMBURAI_VERSION \"{VERSION}\"");
+    assert!(
+        header.lines().any(|have| have == line),
+        "the header has no line {line}"
+    );
+}
+
+/// Every type may be sent to another thread and be used by several at a time.
+#[test]
+fn types_for_threads() {
+    fn see<T: Send + Sync>() {}
+    see::<Refusal>();
+    see::<SearchError>();
+    see::<Listed>();
+    see::<Outcome>();
+    see::<Verdict>();
+    see::<Rule>();
+    see::<Goal>();
+    see::<Entries>();
+    see::<Entry>();
+    see::<Kind>();
+    see::<Part>();
+    see::<Total>();
+}
+
+/// Calls at the same time on the same files answer as one by one.
+#[test]
+fn calls_at_the_same_time() {
+    let stored = stored();
+    thread::scope(|scope| {
+        for _ in 0..8 {
+            scope.spawn(|| {
+                stored
+                    .iter()
+                    .for_each(|(file, printed)| assert_eq!(text(file), *printed))
+            });
+        }
+    });
+}
