@@ -13,6 +13,7 @@ The exit status is 1 where anything differs.
 import fcntl
 import os
 import pty
+import re
 import shutil
 import signal
 import subprocess
@@ -272,6 +273,11 @@ def progress(name, said):
     return [line[len(name) + 2:] for line in said.splitlines() if line.endswith("crates proved")]
 
 
+def says_how_long(what, said):
+    if not re.search(f"{what}.*: about .* minutes on first use", said):
+        raise Different(f"how long it takes is not said: {said!r}")
+
+
 FOUR = [f"{number} of 4 crates proved" for number in range(1, 5)]
 
 
@@ -280,8 +286,7 @@ def test_first_use_of_reachlist(copy):
     status, printed, said = copy.run("reachlist", input=read(P))
     same("first use", (status, printed, copy.called()), (1, "total 0 0 0 none\n", ["rt check reachlist"]))
     same("what is shown", progress("reachlist", said), FOUR)
-    if "proving and building the program: about four minutes on first use" not in said:
-        raise Different(f"how long it takes is not said: {said!r}")
+    says_how_long("proving and building the program", said)
     same("second use", (copy.run("reachlist", input=read(P))[2], copy.called()), ("reachlist: none within depth 4, 20 steps\n", []))
     for name in ("crates/one/src/lib.rt", "crates.txt"):
         copy.change(name)
@@ -303,13 +308,15 @@ def test_first_use_of_remburai(copy):
     got = copy.run("remburai", *given)
     same("first use", (got[:2], copy.called()), ((3, printed), prove + build))
     same("what is shown", progress("remburai", got[2]), FOUR[:3])
-    if "remburai: 4 of 4 crates proved, in " not in got[2] or "about four minutes on first use" not in got[2]:
-        raise Different(f"how long it takes is not said: {got[2]!r}")
+    says_how_long("proving the library", got[2])
+    same("the last count", re.findall("remburai: (.*), in [0-9]+ s\n", got[2]), FOUR[3:])
     same("second use", (copy.run("remburai", *given), copy.called()), ((3, printed, ""), []))
     for name, calls in (("crates/one/src/lib.rt", prove + build), ("rust/build.rs", build), ("rust/src/bin", build)):
         copy.change(name)
         same(f"after a change of {name}", (copy.run("remburai", *given)[:2], copy.called()), ((3, printed), calls))
         same(f"after that of {name}", (copy.run("remburai", *given), copy.called()), ((3, printed, ""), []))
+    os.symlink(os.path.join(copy.root, "remburai"), os.path.join(copy.bin, "link"))
+    same("by a link", run(["link", *given], env=copy.words, cwd="/"), (3, printed, ""))
     copy.words["REMBURAI_RULE"] = "another"
     same("another tools/rule", copy.run("remburai", "check")[1], "another\n<check>\n")
 

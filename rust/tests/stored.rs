@@ -88,13 +88,33 @@ fn closed_runs() {
         let (file, input) = (cases.part(), cases.part());
         let mut work = vec![WORD; cases.number(4)];
         lines.push(match run(&file, &input, &mut work) {
-            Ok(Outcome::Reached(steps)) => format!("reached {steps}"),
-            Ok(Outcome::Ended(steps)) => format!("ended {steps}"),
-            Ok(Outcome::Unfinished(steps)) => format!("unfinished {steps}"),
+            Ok(outcome) => outcome.to_string(),
             Err(why) => format!("refused {}", why.number()),
         });
     }
     see_lines("run_vectors", lines, 700);
+}
+
+/// What a search answers, the length of its list, and from which word on the work slice is as before.
+fn answered(file: &[u8], answer: Result<Listed, SearchError>) -> (String, usize, usize) {
+    let spare = || {
+        let steps = u16::from_le_bytes([file[file.len() - 2], file[file.len() - 1]]);
+        work_words(steps as usize)
+    };
+    match answer {
+        Ok(Listed { length, verdict }) => (format!("{verdict} {length}"), length, spare()),
+        Err(SearchError::Full { length }) => (format!("refused 12 {length}"), length, spare()),
+        Err(SearchError::Refused(why)) => (format!("refused {}", why.number()), 0, 0),
+    }
+}
+
+/// The entries fill the list, and each is found by its number.
+fn see_entries(list: &[u8]) {
+    let sizes = entries(list).map(|entry| entry.bytes().len());
+    assert_eq!(sizes.sum::<usize>(), list.len());
+    for (number, part) in entries(list).enumerate().take(20) {
+        assert_eq!(entry(list, number), part.bytes());
+    }
 }
 
 #[test]
@@ -105,29 +125,7 @@ fn searches() {
         let file = cases.part();
         let mut work = vec![WORD; cases.number(3)];
         let mut list = vec![BYTE; cases.number(3)];
-        let answer = search(&file, &mut work, &mut list);
-        let steps =
-            |file: &[u8]| u16::from_le_bytes([file[file.len() - 2], file[file.len() - 1]]) as usize;
-        let (first, length, spare) = match answer {
-            Ok(listed) => {
-                let word = match listed.verdict {
-                    Verdict::Found => "found",
-                    Verdict::Undecided => "undecided",
-                    Verdict::None => "none",
-                };
-                (
-                    format!("{word} {}", listed.length),
-                    listed.length,
-                    work_words(steps(&file)),
-                )
-            }
-            Err(SearchError::Full { length }) => (
-                format!("refused 12 {length}"),
-                length,
-                work_words(steps(&file)),
-            ),
-            Err(SearchError::Refused(why)) => (format!("refused {}", why.number()), 0, 0),
-        };
+        let (first, length, spare) = answered(&file, search(&file, &mut work, &mut list));
         lines.push(first);
         let bytes: String = list[..length]
             .iter()
@@ -136,16 +134,7 @@ fn searches() {
         let behind = list[length..].iter().all(|byte| *byte == BYTE);
         let words = work[spare..].iter().all(|word| *word == WORD);
         lines.push(format!("{bytes}{} {}", kept(behind), kept(words)));
-        // the entries fill the list, and each is found by its number
-        assert_eq!(
-            entries(&list[..length])
-                .map(|e| e.bytes().len())
-                .sum::<usize>(),
-            length
-        );
-        for (number, part) in entries(&list[..length]).enumerate().take(20) {
-            assert_eq!(entry(&list[..length], number), part.bytes());
-        }
+        see_entries(&list[..length]);
     }
     see_lines("search_vectors", lines, 5000);
 }

@@ -50,70 +50,41 @@ fn options_for_every_command_are_in_its_help() {
     }
 }
 
+/// Words with what is said of them; P is a rule file.
+const FAULTS: [(&str, &str); 21] = [
+    ("lists P", "there is no command \"lists\""),
+    ("list", "the rule is missing"),
+    ("list P P", "one rule is needed"),
+    ("check P 0", "one rule is needed"),
+    ("entry P", "the number of an entry"),
+    ("entry P 0 1", "the number of an entry"),
+    ("entry P first", "first: entries have numbers"),
+    ("entry P +1", "+1: entries have numbers"),
+    ("run P suc", "suc: the input of a rule file is numbers"),
+    ("run P 256", "256: the input of a rule file is numbers"),
+    ("list P --depth", "--depth needs a value"),
+    ("list P --depth 0", "--depth is a number from 1 to 64"),
+    ("list P --depth=65", "--depth is a number from 1 to 64"),
+    ("list P --steps 4097", "--steps is a number from 0 to 4096"),
+    ("list P --steps=", "--steps is a number from 0 to 4096"),
+    ("list P --limit 0", "--limit is a number of seconds above 0"),
+    (
+        "list P --limit nan",
+        "--limit is a number of seconds above 0",
+    ),
+    ("list P --raw --json", "--raw and --json exclude each other"),
+    ("list P --raw=1", "there is no option --raw=1 here"),
+    ("run P 0 --limit 3", "there is no option --limit here"),
+    ("check -- --raw", "--raw: No such file or directory"),
+];
+
 #[test]
 fn faults() {
     let rule = path("examples/p.rule");
-    let faults: [(&[&str], &str); 22] = [
-        (&[], "a command is missing"),
-        (&["lists", &rule], "there is no command \"lists\""),
-        (&["list"], "the rule is missing"),
-        (&["list", &rule, &rule], "one rule is needed"),
-        (&["check", &rule, "0"], "one rule is needed"),
-        (&["entry", &rule], "the number of an entry"),
-        (&["entry", &rule, "0", "1"], "the number of an entry"),
-        (&["entry", &rule, "first"], "first: entries have numbers"),
-        (&["entry", &rule, "+1"], "+1: entries have numbers"),
-        (
-            &["run", &rule, "suc"],
-            "suc: the input of a rule file is numbers",
-        ),
-        (
-            &["run", &rule, "256"],
-            "256: the input of a rule file is numbers",
-        ),
-        (&["list", &rule, "--depth"], "--depth needs a value"),
-        (
-            &["list", &rule, "--depth", "0"],
-            "--depth is a number from 1 to 64",
-        ),
-        (
-            &["list", &rule, "--depth=65"],
-            "--depth is a number from 1 to 64",
-        ),
-        (
-            &["list", &rule, "--steps", "4097"],
-            "--steps is a number from 0 to 4096",
-        ),
-        (
-            &["list", &rule, "--steps="],
-            "--steps is a number from 0 to 4096",
-        ),
-        (
-            &["list", &rule, "--limit", "0"],
-            "--limit is a number of seconds above 0",
-        ),
-        (
-            &["list", &rule, "--limit", "nan"],
-            "--limit is a number of seconds above 0",
-        ),
-        (
-            &["list", &rule, "--raw", "--json"],
-            "--raw and --json exclude each other",
-        ),
-        (
-            &["list", &rule, "--raw=1"],
-            "there is no option --raw=1 here",
-        ),
-        (
-            &["run", &rule, "0", "--limit", "3"],
-            "there is no option --limit here",
-        ),
-        (
-            &["check", "--", "--raw"],
-            "--raw: No such file or directory",
-        ),
-    ];
-    for (words, part) in faults {
-        call(words).see_fault(part);
+    for (line, part) in FAULTS {
+        let put = |word| if word == "P" { rule.as_str() } else { word };
+        let words: Vec<&str> = line.split(' ').map(put).collect();
+        call(&words).see_fault(part);
     }
+    call(&[]).see_fault("a command is missing");
 }
