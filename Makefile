@@ -25,7 +25,9 @@ help:
 
 build: $(library) $(command)
 
+# What the library rests on first, as many crates at a time as there are processors: for a static library rt proves one after the other.
 $(library): $(crates) crates.txt
+	rt check $$(sed -n 's/^remburai://p' crates.txt)
 	rt staticlib remburai
 	touch $@
 

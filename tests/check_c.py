@@ -92,7 +92,7 @@ def check_needs(programs):
 
 def check_list(programs):
     said = made([programs.example("list"), os.path.join(ROOT, "examples", "p.rule")])
-    same("the line of list", said, b"entries 1, bytes 9, verdict found\n")
+    same("the line of list", said, b"entries 1, bytes 9, found within depth 4, 20 steps\n")
 
 
 def check_answers(programs):

@@ -1,5 +1,5 @@
 """Tests `make install`: into a new folder it puts the files that it should, and no others; pkg-config finds header and library there, and
-the C example that is built by what it says prints the list of examples/p.rule; the command says its help, and the tool beside it builds
+the C example that is built by what it says prints the list of examples/p.rule; the command says its help and lists a text, and the tool beside it builds
 a rule file; a second `make install` proves and builds nothing; `make uninstall` leaves no file.
 
 It needs make, gcc, pkg-config, and what `make build` needs. The exit status is 1 where anything differs.
@@ -54,7 +54,11 @@ def check_program(prefix):
 
 
 def check_tools(prefix):
-    same("whether the command has a help", made([os.path.join(prefix, "bin", "remburai"), "--help"]) != b"", True)
+    command = os.path.join(prefix, "bin", "remburai")
+    same("whether the command has a help", made([command, "--help"]) != b"", True)
+    words = {name: word for name, word in os.environ.items() if name != "REMBURAI_RULE"}
+    listed = made([command, "list", os.path.join(ROOT, "examples", "p.txt")], env=words)
+    same("the first line of a text's list", listed.splitlines()[0], b"reach 6  suc (suc _)")
     built = made([sys.executable, "-B", os.path.join(prefix, "lib", "remburai", "rule"), "build", os.path.join(ROOT, "examples", "p.txt")])
     same("what the tool builds", built, stored("examples", "p.rule"))
 

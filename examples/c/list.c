@@ -1,4 +1,5 @@
-/* Searches a rule file, and prints how many entries its list has and the verdict, or the number of the refusal.
+/* Searches a rule file, and prints how many entries its list has, and the verdict with the depth and the step limit within which it holds,
+ * or the number of the refusal.
  *
  * From the root of the repository:
  *
@@ -6,7 +7,7 @@
  *     gcc -O2 -Wall -Wextra -I include -o target/list examples/c/list.c target/staticlib/libremburai.a
  *     target/list examples/p.rule
  *
- * The last line prints `entries 1, bytes 9, verdict found`.
+ * The last line prints `entries 1, bytes 9, found within depth 4, 20 steps`.
  */
 #include <stdio.h>
 #include "remburai.h"
@@ -43,6 +44,8 @@ int main(int arguments, char **argument) {
         return 1;
     }
     size_t bytes = remburai_list_length(answer);
-    printf("entries %zu, bytes %zu, verdict %s\n", count_entries(bytes), bytes, verdicts[remburai_verdict(answer)]);
+    const uint8_t *limits = file + length - 3; /* D and S end every rule file that is accepted */
+    printf("entries %zu, bytes %zu, %s within depth %u, %u steps\n", count_entries(bytes), bytes, verdicts[remburai_verdict(answer)], limits[0],
+           limits[1] + 256u * limits[2]);
     return refusal == REMBURAI_LIST_FULL;
 }
