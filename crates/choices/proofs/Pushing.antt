@@ -21,9 +21,9 @@ use Rattle.machine.proofs.Cells.{kept-cells}
 use Rattle.machine.specs.Records.{Control, partIn, StateAt, inspecting-at}
 use Rattle.forks.specs.Untried.{untried}
 use Rattle.forks.proofs.Untried.{untried-all}
-use Rattle.steps.specs.declared.Registers.{Registers}
-use Rattle.steps.specs.Stepping.{declarationsOf, controlIn, partKind}
-use Rattle.steps.proofs.Waiting.{inspects}
+use Rattle.registers.specs.declared.Registers.{Registers}
+use Rattle.registers.specs.Stepping.{declarationsOf, controlIn, partKind}
+use Rattle.registers.proofs.Waiting.{inspects}
 use Rattle.choices.specs.Choices.{Setting, Given, choiceWord, reopened, Path, ChoiceAt, ChoicesAt, one-choice, Pushes}
 use Rattle.choices.proofs.Keeping.{Kept, path-kept, reopened-length, reopened-other, reopened-head, reopened-first, choices-kept}
 

@@ -24,10 +24,10 @@ use Rattle.reach.proofs.Slots.{source-types}
 use Rattle.machine.specs.Cells.{cellWord, cellOf, Cells, Binds, Unmoved}
 use Rattle.machine.proofs.Cells.{bind-walks, bind-cells}
 use Rattle.forks.specs.Untried.{untried}
-use Rattle.steps.specs.declared.Registers.{Registers}
+use Rattle.registers.specs.declared.Registers.{Registers}
 use Rattle.machine.specs.Records.{OnlyTop}
-use Rattle.steps.specs.Stepping.{Follows}
-use Rattle.steps.proofs.Standing.{stands-after, stands-below}
+use Rattle.registers.specs.Stepping.{Follows}
+use Rattle.registers.proofs.Standing.{stands-after, stands-below}
 use Rattle.machine.proofs.Words.{records-same}
 use Rattle.choices.specs.Choices.{Setting, Given, choiceWord, reopened, waitingAt, Path, ChoiceAt, ChoicesAt, one-choice}
 use Rattle.choices.proofs.Keeping.{Kept, path-kept, reopened-length, reopened-other, reopened-same, reopened-lengths, unbound, there, cell-below, cells-fit, choice-same, choices-kept}

@@ -13,7 +13,7 @@ use Rattle.reach.specs.Parts.{Parts}
 use Rattle.reach.specs.Eval.{State, Question, next, waits}
 use Rattle.reach.specs.Moves.{Choice}
 use Rattle.machine.specs.Cells.{cellWord, cellOf, Binds}
-use Rattle.steps.specs.declared.Registers.{Registers}
+use Rattle.registers.specs.declared.Registers.{Registers}
 use Rattle.choices.specs.Choices.{Setting, Given, choiceWord, reopened, Path, ChoiceAt, ChoicesAt, no-choice, one-choice, Pushes}
 use Rattle.choices.specs.Weights.{power, weight}
 use Rattle.choices.proofs.Keeping.{Kept, word-kept, head-kept, kept-before}

@@ -2,7 +2,7 @@
 -- binds, that cell's word 1 before, the frame that waits, how many records and cells there were, and the steps done. Which constructor comes
 -- next is the head of its cell. What a choice point stands for is said of the words in which its cell is open again: those are the words
 -- to which a return leads.
--- Rests on machine's Layout and Cells, steps' Stepping, forks' Untried and reach's Moves and States.
+-- Rests on machine's Layout and Cells, registers' Stepping, forks' Untried and reach's Moves and States.
 use Prim.Native.Nat.{ℕ, suc, _+_, _*_, _-_, _≤_, _<_}
 use mathlib.Core.Path.{_≡_}
 use mathlib.Core.List.{List, [], _∷_}
@@ -20,8 +20,8 @@ use Rattle.machine.specs.Layout.{recordsAt, choicesAt}
 use Rattle.machine.specs.Cells.{cellWord, cellOf, Cells}
 use Rattle.depths.specs.Table.{padded}
 use Rattle.forks.specs.Untried.{untried}
-use Rattle.steps.specs.declared.Registers.{Registers}
-use Rattle.steps.specs.Stepping.{FileOf, StandsFor, partKind}
+use Rattle.registers.specs.declared.Registers.{Registers}
+use Rattle.registers.specs.Stepping.{FileOf, StandsFor, partKind}
 
 -- What stays throughout a search: the file with the places of its types and functions and the least depths, its program, the step limit, and
 -- where the records and the choice points begin in the words.

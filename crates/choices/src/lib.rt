@@ -1,6 +1,6 @@
 // Choice points in the lent words, above the records: one is made where a case waits on an open part, its cell is bound to one
 // constructor after the other, and it is dropped, its cell open again, when none is left. Rests on crates machine, cells, depths and forks;
-// the definitions also on steps.
+// the definitions also on registers.
 ghost use mathlib.Core.Path.{_≡_};
 ghost use Prim.Native.Nat.{_+_, _*_, _≤_, _<_};
 ghost use lib.ListN.{length};

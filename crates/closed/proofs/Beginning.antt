@@ -1,5 +1,5 @@
 -- The run begins: in the words that `open_input` and then `note_values` leave, the run of the program on the closed input is under way with no step
--- taken. Rests on running's Running and Advancing, on loaded's Beginning, on values' Binding and on steps' Standing.
+-- taken. Rests on running's Running and Advancing, on loaded's Beginning, on values' Binding and on registers' Standing.
 use Prim.Native.Nat.{ℕ}
 use mathlib.Core.Path.{_≡_, sym, _∙_, ap, subst}
 use mathlib.Core.List.{List, map}
@@ -25,8 +25,8 @@ use Rattle.machine.specs.Cells.{Cells, Unmoved}
 use Rattle.machine.proofs.Records.{Same}
 use Rattle.values.specs.Notes.{Noted, FollowsInput}
 use Rattle.values.proofs.Binding.{noted-unmoved, start-follows}
-use Rattle.steps.specs.declared.Registers.{Registers}
-use Rattle.steps.proofs.Standing.{stands-below}
+use Rattle.registers.specs.declared.Registers.{Registers}
+use Rattle.registers.proofs.Standing.{stands-below}
 use Rattle.loaded.specs.Beginning.{Opened, startRegisters}
 use Rattle.loaded.proofs.Beginning as Begin
 use Rattle.running.specs.Looked.{LookedAt}

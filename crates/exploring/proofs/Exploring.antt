@@ -25,7 +25,7 @@ use Rattle.reach.specs.Moves.{Choice, move, moveFrom, moves}
 use Rattle.reach.proofs.Base.{clash}
 use Rattle.reach.proofs.Slots.{source-types, source-length}
 use Rattle.reach.proofs.Moves.{choicesOwed, owedFrom, owed, move-keeps, moves-keep}
-use Rattle.steps.specs.declared.Registers.{Registers}
+use Rattle.registers.specs.declared.Registers.{Registers}
 use Rattle.choices.specs.Choices.{Setting, AllOpen, ChoicesAt, no-choice, one-choice}
 use Rattle.choices.specs.Returning.{setting}
 use Rattle.choices.proofs.Returning.{limit-few}

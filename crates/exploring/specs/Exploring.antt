@@ -16,7 +16,7 @@ use Rattle.reach.specs.Eval.{start}
 use Rattle.reach.specs.Search.{Entry, openInput, entries, oneMore, verdictBy, verdict}
 use Rattle.reach.specs.Lists.{entryBytes, listBytes, written}
 use Rattle.machine.specs.Cells.{Cells}
-use Rattle.steps.specs.declared.Registers.{Registers}
+use Rattle.registers.specs.declared.Registers.{Registers}
 use Rattle.choices.specs.Choices.{Setting, Given, AllOpen}
 use Rattle.choices.specs.Returning.{setting}
 use Rattle.moves.specs.declared.Walk.{Walk}

@@ -14,7 +14,7 @@ use reach::Kind;
 use reach::PathEnd;
 use reach::Refusal;
 use reach::Verdict;
-use steps::Registers;
+use registers::Registers;
 
 // The answer: a refusal of 1 to 9 or 11; the length of a complete list with its verdict; or, with refusal 12, the length of the list
 // that was cut short.

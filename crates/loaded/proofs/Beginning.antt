@@ -31,7 +31,7 @@ use Rattle.machine.specs.Records.{Code, Holds, Wrote, EnvAt, empty-at, parts-at
 use Rattle.machine.proofs.Cells.{walk-part, kept-cells}
 use Rattle.machine.proofs.Records.{holds-kept}
 use Rattle.machine.proofs.Words.{records-same}
-use Rattle.steps.specs.Stepping.{declarationsOf, Few, StandsFor}
+use Rattle.registers.specs.Stepping.{declarationsOf, Few, StandsFor}
 use Rattle.loaded.specs.Beginning.{GivenFile, Opened, startRegisters}
 
 -- At the start: the parameters' cells are open, record 0 is zeros, record 1 the group of the parameters, and the source's body is to be evaluated.

@@ -1,5 +1,5 @@
 -- The tables of a loaded file are those that a step asks for: the types stand at their places, and so does every function's body.
--- Rests on rulefile's Tabled, machine's Codes, steps' Stepping and specs/Beginning.
+-- Rests on rulefile's Tabled, machine's Codes, registers' Stepping and specs/Beginning.
 use Prim.Native.Nat.{ℕ}
 use mathlib.Core.Path.{_≡_}
 use mathlib.Core.List.{List}
@@ -12,7 +12,7 @@ use Rattle.machine.proofs.Codes.{code-body}
 use Rattle.rulefile.specs.declared.Loaded.{Loaded}
 use Rattle.rulefile.specs.Loading.{typePlaces, functionPlaces, Tabled}
 use Rattle.rulefile.proofs.Tabled.{program-types, program-function, program-source-there, program-source-types}
-use Rattle.steps.specs.Stepping.{FileOf}
+use Rattle.registers.specs.Stepping.{FileOf}
 use Rattle.loaded.specs.Beginning.{GivenFile}
 
 -- a loaded file is the file of its program

@@ -1,5 +1,5 @@
 -- What both runs begin with: a checked file with its tables, and the words and registers at the beginning.
--- Rests on reach's Answers, Types and Places, on cells' Writes, on machine's Records and on steps' Stepping.
+-- Rests on reach's Answers, Types and Places, on cells' Writes, on machine's Records and on registers' Stepping.
 use Prim.Native.Nat.{ℕ, _<_}
 use mathlib.Core.Path.{_≡_}
 use mathlib.Core.List.{List}
@@ -10,8 +10,8 @@ use Rattle.reach.specs.Places.{bytesAt, headAt}
 use Rattle.reach.specs.Answers.{check, accepted}
 use Rattle.machine.specs.Records.{Wrote}
 use Rattle.cells.specs.Writes.{Starts}
-use Rattle.steps.specs.declared.Registers.{Registers}
-use Rattle.steps.specs.Stepping.{FileOf, expressionKind}
+use Rattle.registers.specs.declared.Registers.{Registers}
+use Rattle.registers.specs.Stepping.{FileOf, expressionKind}
 
 -- A checked file with its program and the places of its types and functions.
 pub record GivenFile (file types functions : List ℕ) (p : Program) : Type 0 where

@@ -1,5 +1,5 @@
 // What a loaded rule file gives both runs: its tables, its goal and the bounds of its numbers, which are laws alone, and the beginning of a
-// run. Rests on crates goal, rulefile, lookups, machine, cells and steps.
+// run. Rests on crates goal, rulefile, lookups, machine, cells and registers.
 ghost use mathlib.Core.Path.{_≡_};
 ghost use Prim.Native.Nat.{_+_, _*_, _≤_};
 ghost use lib.ListN.{length};
@@ -7,8 +7,8 @@ ghost use Rattle.loaded.specs.Beginning.{Opened, startRegisters};
 use cells::start_cells;
 use lookups::Head;
 use machine::put_record;
-use steps::EXPRESSION;
-use steps::Registers;
+use registers::EXPRESSION;
+use registers::Registers;
 
 // The beginning of a run: open cells for the parameters of the source, each as deep as this, the records of the empty environment and of
 // the parameters' group, and the registers with which the source's body is evaluated.

@@ -20,10 +20,10 @@ use Rattle.reach.specs.Moves.{Choice}
 use Rattle.reach.proofs.Evaluation.{waits-free}
 use Rattle.machine.specs.Cells.{cellOf}
 use Rattle.machine.proofs.Cells.{kept-cells}
-use Rattle.steps.specs.declared.Registers.{Registers}
-use Rattle.steps.specs.declared.Next.{Next}
-use Rattle.steps.specs.declared.Next.the-variants as Next
-use Rattle.steps.specs.Stepping.{Standing, StepMeans, Stepped}
+use Rattle.registers.specs.declared.Registers.{Registers}
+use Rattle.registers.specs.declared.Next.{Next}
+use Rattle.registers.specs.declared.Next.the-variants as Next
+use Rattle.registers.specs.Stepping.{Standing, StepMeans, Stepped}
 use Rattle.steps.specs.Running.{StepsTo, no-step, one-more}
 use Rattle.choices.specs.Choices.{Setting, Given, Path, ChoicesAt, Pushes}
 use Rattle.choices.specs.Weights.{power, weight}

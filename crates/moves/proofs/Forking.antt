@@ -23,12 +23,12 @@ use Rattle.reach.proofs.Places.{bytes-length}
 use Rattle.machine.specs.Cells.{cellWord, cellOf, Binds}
 use Rattle.lookups.specs.Fields.{fieldsIn, FieldCount}
 use Rattle.cells.proofs.Rooms.{cell-room}
-use Rattle.steps.specs.declared.Registers.{Registers}
-use Rattle.steps.specs.declared.Next.{Next}
-use Rattle.steps.specs.declared.Next.the-variants as Next
-use Rattle.steps.specs.Stepping.{partKind, StepMeans, Stepped}
-use Rattle.steps.specs.Running.{AtBoundPart}
-use Rattle.steps.proofs.Waiting.{waits-control}
+use Rattle.registers.specs.declared.Registers.{Registers}
+use Rattle.registers.specs.declared.Next.{Next}
+use Rattle.registers.specs.declared.Next.the-variants as Next
+use Rattle.registers.specs.Stepping.{partKind, StepMeans, Stepped}
+use Rattle.choosing.specs.Entering.{AtBoundPart}
+use Rattle.registers.proofs.Waiting.{waits-control}
 use Rattle.choices.specs.Choices.{Setting, Given, choiceWord, reopened, waitingAt, Path, ChoicesAt}
 use Rattle.choices.specs.Weights.{power, weight}
 use Rattle.choices.specs.Returning.{setting}

@@ -13,7 +13,7 @@ use Rattle.reach.specs.Types.{leastDepths}
 use Rattle.reach.specs.Search.{Entry}
 use Rattle.reach.specs.Moves as Model
 use Rattle.reach.specs.Moves.{Choice, moveFrom, return}
-use Rattle.steps.specs.declared.Registers.{Registers}
+use Rattle.registers.specs.declared.Registers.{Registers}
 use Rattle.choices.specs.declared.Return.{Return}
 use Rattle.choices.specs.declared.Return.the-variants as Return
 use Rattle.choices.specs.Choices.{Given, ChoicesAt}

@@ -17,8 +17,8 @@ use Rattle.reach.specs.Search.{Entry}
 use Rattle.reach.specs.Moves as Model
 use Rattle.reach.specs.Moves.{Choice, takeFork, moveFrom}
 use Rattle.machine.specs.Cells.{Cells}
-use Rattle.steps.specs.declared.Registers.{Registers}
-use Rattle.steps.specs.Stepping.{missingKind}
+use Rattle.registers.specs.declared.Registers.{Registers}
+use Rattle.registers.specs.Stepping.{missingKind}
 use Rattle.choices.specs.Choices.{Setting, Given, choiceWord, reopened, Path, ChoicesAt}
 use Rattle.choices.specs.Weights.{power, weight}
 use Rattle.choices.specs.Returning.{setting, NextAt}

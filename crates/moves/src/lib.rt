@@ -1,5 +1,5 @@
 // The moves of the search: a step of the path under way, a fork to its first constructor, or a return to the last choice point with
-// a constructor left, taking it. One call makes the moves of a path up to its end. Rests on crates cells, steps and choices.
+// a constructor left, taking it. One call makes the moves of a path up to its end. Rests on crates cells, choosing, steps and choices.
 ghost use mathlib.Core.Path.{_≡_};
 ghost use mathlib.Core.Bool.{false};
 ghost use Prim.Native.Nat.{_≤_};
@@ -10,14 +10,14 @@ use choices::Return;
 use choices::choice_word;
 use choices::find_return;
 use choices::push_choice;
+use choosing::enter_part;
 use depths::Depths;
 use reach::Kind;
 use reach::PathEnd;
+use registers::MISSING;
+use registers::PART;
+use registers::Registers;
 use steps::Halt;
-use steps::MISSING;
-use steps::PART;
-use steps::Registers;
-use steps::enter_part;
 use steps::run_on;
 
 // Where the search stands: on a path, whose registers these are, or behind the end of one.

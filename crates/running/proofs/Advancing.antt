@@ -1,5 +1,5 @@
 -- The run goes on: after a step, and after the open part that a case looks at was bound to what the closed input has there.
--- Rests on specs/Running, on Reached and Bound, on steps' Standing and Waiting, and on values' laws of what is noted in the cells.
+-- Rests on specs/Running, on Reached and Bound, on registers' Standing and Waiting, and on values' laws of what is noted in the cells.
 use Prim.Native.Nat.{ℕ, suc, _+_, _*_, _-_, _≤_, _<_}
 use mathlib.Core.Path.{_≡_, refl, sym, _∙_, ap, subst}
 use mathlib.Core.List.{List, map}
@@ -27,15 +27,15 @@ use Rattle.cells.proofs.Rooms.{cell-room}
 use Rattle.inputs.specs.Positions.{Placed}
 use Rattle.values.specs.Notes.{FollowsInput}
 use Rattle.values.proofs.Binding.{OpenStands, open-stands, bound-follows}
-use Rattle.steps.specs.declared.Registers.{Registers}
-use Rattle.steps.specs.declared.Next.{Next}
-use Rattle.steps.specs.declared.Next.the-variants as Next
+use Rattle.registers.specs.declared.Registers.{Registers}
+use Rattle.registers.specs.declared.Next.{Next}
+use Rattle.registers.specs.declared.Next.the-variants as Next
 use Rattle.machine.specs.Records.{partIn, OnlyTop}
-use Rattle.steps.specs.Stepping.{controlIn, Standing, Follows, StepMeans, Stepped}
-use Rattle.steps.specs.Running.{AtBoundPart}
-use Rattle.steps.proofs.Waiting.{waits-control}
+use Rattle.registers.specs.Stepping.{controlIn, Standing, Follows, StepMeans, Stepped}
+use Rattle.choosing.specs.Entering.{AtBoundPart}
+use Rattle.registers.proofs.Waiting.{waits-control}
 use Rattle.machine.proofs.Words.{records-same}
-use Rattle.steps.proofs.Standing.{stands-after, stands-below}
+use Rattle.registers.proofs.Standing.{stands-after, stands-below}
 use Rattle.loaded.specs.Beginning.{GivenFile}
 use Rattle.running.specs.Running.{GivenInput, Running, Underway, notedNumber, Bindable, BoundAs, Advances, AdvancesAll, ComesTo, BoundSoFar}
 use Rattle.running.proofs.Bound.{head-now, first-now, no-fewer, fields-now}

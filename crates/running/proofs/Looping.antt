@@ -12,13 +12,13 @@ use Rattle.reach.specs.Eval.{State, start, eval}
 use Rattle.reach.proofs.Base.{clash}
 use Rattle.reach.specs.States.{Steps}
 use Rattle.reach.specs.Answers.{outcomeOf}
-use Rattle.steps.specs.declared.Registers.{Registers}
-use Rattle.steps.specs.declared.Next.{Next}
-use Rattle.steps.specs.declared.Next.the-variants as Next
+use Rattle.registers.specs.declared.Registers.{Registers}
+use Rattle.registers.specs.declared.Next.{Next}
+use Rattle.registers.specs.declared.Next.the-variants as Next
 use Rattle.steps.specs.declared.Halt.{Halt}
 use Rattle.steps.specs.declared.Halt.the-variants as Halt
 use Rattle.steps.specs.declared.Ran.{Ran}
-use Rattle.steps.specs.Stepping.{Standing, Stepped}
+use Rattle.registers.specs.Stepping.{Standing, Stepped}
 use Rattle.steps.specs.Running.{StepsTo, no-step, one-more, Onward, ComesToHalt, RunsOn}
 use Rattle.skipping.specs.Ends.{Ends}
 use Rattle.running.proofs.Reached.{same-demands, same-stops, same-spent}

@@ -1,5 +1,5 @@
 -- What the closed run knows between two steps, and what its functions promise.
--- Rests on reach's Eval and Answers, on machine's Layout, on steps' Stepping, on loaded's Beginning, on values' Notes and on the types of src/lib.rt.
+-- Rests on reach's Eval and Answers, on machine's Layout, on registers' Stepping, on loaded's Beginning, on values' Notes and on the types of src/lib.rt.
 use Prim.Native.Nat.{ℕ, zero, suc, _+_, _*_, _-_, _≤_, _<_}
 use mathlib.Core.Path.{_≡_}
 use mathlib.Core.List.{List, map}
@@ -19,10 +19,10 @@ use Rattle.lookups.specs.Fields.{fieldsIn}
 use Rattle.machine.specs.Layout.{recordsAt}
 use Rattle.machine.specs.Cells.{cellWord, Binds, Cells}
 use Rattle.values.specs.Notes.{notedPlace, Noted, FollowsInput}
-use Rattle.steps.specs.declared.Registers.{Registers}
-use Rattle.steps.specs.declared.Next.{Next}
-use Rattle.steps.specs.declared.Next.the-variants as Next
-use Rattle.steps.specs.Stepping.{StandsFor, Stepped}
+use Rattle.registers.specs.declared.Registers.{Registers}
+use Rattle.registers.specs.declared.Next.{Next}
+use Rattle.registers.specs.declared.Next.the-variants as Next
+use Rattle.registers.specs.Stepping.{StandsFor, Stepped}
 use Rattle.loaded.specs.Beginning.{GivenFile}
 use Rattle.skipping.specs.Ends.{Ends}
 use Rattle.running.specs.Looked.{LookedAt}

@@ -1,17 +1,17 @@
 // The loop of a closed run: steps one after the other; where a case waits on an open part, the part is bound to what the input has there and the case
-// goes on with it. Rests on crates lookups, machine, cells, values and steps.
+// goes on with it. Rests on crates lookups, machine, cells, values, choosing and steps.
 ghost use Prim.Native.Nat.{_≤_};
 ghost use Rattle.skipping.specs.Ends.{Ends};
 ghost use Rattle.running.specs.Running.{Bindable, BoundAs, SomeWaiting, Enters, RunBegins, EndsAs};
 use cells::bind_cell;
+use choosing::enter_part;
 use lookups::Fields;
 use lookups::fields_of;
 use machine::cell_word;
 use marks::byte_or_zero;
 use reach::Outcome;
+use registers::Registers;
 use steps::Halt;
-use steps::Registers;
-use steps::enter_part;
 use steps::run_on;
 use values::note_values;
 use values::noted;

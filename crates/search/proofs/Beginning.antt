@@ -14,7 +14,7 @@ use Rattle.lookups.specs.declared.Head.{Head}
 use Rattle.lookups.specs.Heads.{headOf}
 use Rattle.goal.specs.declared.Goal.{Goal}
 use Rattle.machine.specs.Layout.{recordsAt, choicesAt}
-use Rattle.steps.specs.declared.Registers.{Registers}
+use Rattle.registers.specs.declared.Registers.{Registers}
 use Rattle.loaded.specs.Beginning.{Opened, startRegisters}
 use Rattle.loaded.proofs.Beginning as Begin
 use Rattle.choices.specs.Choices.{Setting, Given, no-choice}

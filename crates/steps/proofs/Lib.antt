@@ -1,11 +1,1 @@
-pub mod Words
-pub mod Walks
-pub mod Which
-pub mod Kept
-pub mod Unfolds
-pub mod Variables
-pub mod Choosing
-pub mod Inspecting
-pub mod Standing
 pub mod Running
-pub mod Waiting

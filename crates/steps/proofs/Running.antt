@@ -1,20 +1,14 @@
--- Steps one after the other, and a case that goes on with a part that is bound.
--- Rests on specs/Running and on Inspecting.
-use Prim.Native.Nat.{ℕ, suc, _-_, _≤_, _<_}
-use mathlib.Core.Path.{_≡_, refl, sym, subst}
+-- Steps one after the other: what they came to.
+-- Rests on specs/Running.
+use Prim.Native.Nat.{ℕ, _≤_}
+use mathlib.Core.Path.{_≡_, subst}
 use mathlib.Core.List.{List}
-use native.Mathlib.Omega.{arith}
-use Rattle.machine.specs.Cells.{cellWord}
-use Rattle.machine.specs.Records.{recordWord}
-use Rattle.steps.specs.declared.Registers.{Registers}
-use Rattle.steps.specs.declared.Next.{Next}
-use Rattle.steps.specs.declared.Next.the-variants as Next
+use Rattle.registers.specs.declared.Registers.{Registers}
+use Rattle.registers.specs.declared.Next.{Next}
 use Rattle.steps.specs.declared.Halt.{Halt}
 use Rattle.steps.specs.declared.Ran.{Ran}
-use Rattle.lookups.specs.Fields.{FieldCount}
-use Rattle.steps.specs.Stepping.{Stepped, Chose}
-use Rattle.steps.specs.Running.{AtBoundPart, StepsTo, ComesToHalt, RunsOn}
-use Rattle.steps.proofs.Inspecting.{part-chooses, part-goes}
+use Rattle.registers.specs.Stepping.{Stepped}
+use Rattle.steps.specs.Running.{StepsTo, ComesToHalt, RunsOn}
 
 module _ (file types functions : List ℕ) (label : ℕ) where
   -- what is said of the last look is said of what it found
@@ -35,20 +29,3 @@ module _ (file types functions : List ℕ) (label : ℕ) where
       → ComesToHalt file types functions label (ran-on .between) w′ base (x .registers) (x .steps) left halt
   comes-so {w′ = w′} {base} {left} {x = x} ran-on halt is =
       subst (ComesToHalt file types functions label (ran-on .between) w′ base (x .registers) (x .steps) left) is (ran-on .comes)
-
--- A case that goes on with a bound part.
-module _
-    (file types functions w : List ℕ) (base cell : ℕ) (r : Registers) (c k first : ℕ) (bound : AtBoundPart file types functions w base cell r c k first)
-  where
-    pub enters : recordWord w base (r .frame) 2 < r .records
-    enters =
-        part-chooses file types functions w base cell r (bound .is-part) {head = suc c} (bound .some-frame) (sym (bound .head-is)) (λ none. absurd (omega arith)) (bound .standing)
-
-    pub entered :
-        {w′ : List ℕ} {r′ : Registers} → Chose file types functions w w′ base r c k first 0 r′ → (label : ℕ)
-        → Stepped file types functions w w′ base label r (Next.Goes r′)
-    entered {w′} {r′} chose =
-        let same : suc c - 1 ≡ c = omega arith in
-        part-goes file types functions w base cell r (bound .is-part) {head = suc c} (bound .some-frame) (sym (bound .head-is)) (λ none. absurd (omega arith))
-        (sym (bound .first-is)) refl (subst (λ (d : ℕ). FieldCount file types (cellWord w cell 2) d k) (sym same) (bound .fields))
-        (subst (λ (d : ℕ). Chose file types functions w w′ base r d k first 0 r′) (sym same) chose)

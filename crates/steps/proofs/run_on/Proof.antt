@@ -2,7 +2,7 @@
 use Prim.Native.Nat.{suc, _+_, _-_, _≤_}
 use mathlib.Core.Path.{_≡_, refl}
 use lib.ListN.{length}
-use Rattle.steps.specs.declared.Next.the-variants as Next
+use Rattle.registers.specs.declared.Next.the-variants as Next
 use Rattle.steps.specs.declared.Halt.the-variants as Halt
 use Rattle.steps.specs.Running.{StepsTo, no-step, one-more}
 use Rattle.steps.proofs.Running.{halted-so, ran}

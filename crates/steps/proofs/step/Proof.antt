@@ -1,6 +1,6 @@
 -- `steps::step` meets its contract: the kind tells which step is due, and a missing alternative is the end.
-use Rattle.steps.proofs.Which.{control-missing, control-part, control-expression}
-use Rattle.steps.proofs.Choosing.{missing-stops}
+use Rattle.registers.proofs.Which.{control-missing, control-part, control-expression}
+use Rattle.choosing.proofs.Choosing.{missing-stops}
 use borrow.Author.Needs.{needs}
 use Rattle.steps.proofs.step.Statement.{statement}
 use Rattle.steps.proofs.step.Tie as tie

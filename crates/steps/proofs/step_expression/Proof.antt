@@ -1,8 +1,8 @@
 -- `steps::step_expression` meets its contract: the code that stands in the file is that of the expression, so each arm's step is the one that is due.
 use Prim.Native.Nat.{ℕ}
 use mathlib.Core.Path.{_≡_, refl, _∙_, sym}
-use Rattle.steps.specs.Stepping.{Ready}
-use Rattle.steps.proofs.Kept.{code-known, ready-at, stepped}
+use Rattle.registers.specs.Stepping.{Ready}
+use Rattle.registers.proofs.Kept.{code-known, ready-at, stepped}
 use native.Mathlib.Omega.{arith}
 use borrow.Author.Needs.{needs}
 use Rattle.steps.proofs.step_expression.Statement.{statement}

@@ -1,0 +1,77 @@
+-- Which state the words stand for, by the registers' control and the code that stands in the file: what is to be shown of every state is shown of
+-- the one kind that it can be.
+-- Rests on machine's Records and Codes.
+use Prim.Native.Nat.{ℕ, zero, suc, _<_}
+use mathlib.Core.Path.{_≡_, refl}
+use mathlib.Core.List.{List, [], _∷_}
+use native.Mathlib.Omega.{arith}
+use Rattle.reach.specs.Syntax.{Expr, variable, call, construct, case, letIn, target, Exprs, Alternatives}
+use Rattle.reach.specs.Parts.{Place}
+use Rattle.reach.specs.Eval.{Env, Frame, waiting, State, evaluating, inspecting, missing}
+use Rattle.reach.specs.RuleFile.{Declarations}
+use Rattle.reach.proofs.Base.{clash}
+use Rattle.machine.specs.Records.{recordWord, Code, CodeAlternatives, expressionAt, partIn, nothingLeft, EnvAt, FramesAt, none-at, waiting-at, StateAt, evaluating-at, inspecting-at, missing-at}
+use Rattle.registers.specs.Stepping.{controlOf}
+use Rattle.machine.proofs.Codes.{Coded, a-variable, a-call, a-construct, a-case, a-let, a-target}
+
+-- what is being evaluated, by the number of its kind
+pub control-missing : (kind place env : ℕ) → kind ≡ 0 → controlOf kind place env ≡ nothingLeft
+control-missing kind place env is = rw is refl
+
+pub control-part : (kind place env : ℕ) → kind ≡ 1 → controlOf kind place env ≡ partIn place
+control-part kind place env is = rw is refl
+
+pub control-expression : (kind place env : ℕ) → (kind ≡ 0 → ⊥) → (kind ≡ 1 → ⊥) → controlOf kind place env ≡ expressionAt place env
+control-expression zero place env some other = absurd (some refl)
+control-expression (suc zero) place env some other = absurd (other refl)
+control-expression (suc (suc n)) place env some other = refl
+
+module _ {file : List ℕ} {o : Declarations} {w : List ℕ} {base : ℕ} {cell : Place → ℕ} (G : State → Type 0) where
+  pub when-expression :
+      {i r f : ℕ} {s : State} → StateAt file o w base cell (expressionAt i r) f s
+      → ((x : Expr) (env : Env) (fs : List Frame) → Code file o i x → EnvAt file o w base cell r env → FramesAt file o w base cell f fs → G (evaluating x env fs))
+      → G s
+  when-expression (evaluating-at code env frames) show = show _ _ _ code env frames
+
+  pub when-part :
+      {x f : ℕ} {s : State} → StateAt file o w base cell (partIn x) f s
+      → ((q : Place) (fs : List Frame) → cell q ≡ x → FramesAt file o w base cell f fs → G (inspecting q fs)) → G s
+  when-part (inspecting-at {q = q} {fs = fs} is frames) show = show q fs is frames
+
+  pub when-missing : {f : ℕ} {s : State} → StateAt file o w base cell nothingLeft f s → G missing → G s
+  when-missing missing-at show = show
+
+module _ (G : Expr → Type 0) where
+  pub when-variable : {x : Expr} → Coded 0 x → ((n : ℕ) → G (variable n)) → G x
+  when-variable a-variable show = show _
+
+  pub when-call : {x : Expr} → Coded 1 x → ((f : ℕ) (es : Exprs) → G (call f es)) → G x
+  when-call a-call show = show _ _
+
+  pub when-construct : {x : Expr} → Coded 2 x → ((t c : ℕ) (es : Exprs) → G (construct t c es)) → G x
+  when-construct a-construct show = show _ _ _
+
+  pub when-case : {x : Expr} → Coded 3 x → ((t : ℕ) (y : Expr) (alts : Alternatives) → G (case t y alts)) → G x
+  when-case a-case show = show _ _ _
+
+  pub when-let : {x : Expr} → Coded 4 x → ((t : ℕ) (y b : Expr) → G (letIn t y b)) → G x
+  when-let a-let show = show _ _ _
+
+  pub when-target : {x : Expr} → Coded 5 x → ((l : ℕ) (y : Expr) → G (target l y)) → G x
+  when-target a-target show = show _ _
+
+-- record 0 is no frame, and any other is a waiting case
+module _ {file : List ℕ} {o : Declarations} {w : List ℕ} {base : ℕ} {cell : Place → ℕ} (G : List Frame → Type 0) where
+  pub when-no-frame : {f : ℕ} {fs : List Frame} → f ≡ 0 → FramesAt file o w base cell f fs → G [] → G fs
+  when-no-frame is none-at show = show
+  when-no-frame is (waiting-at holds a<f next<f code env rest) show = absurd (clash (omega arith))
+
+  pub when-waiting :
+      {f : ℕ} {fs : List Frame} → (f ≡ 0 → ⊥) → FramesAt file o w base cell f fs
+      → ((alts : Alternatives) (outer : Env) (rest : List Frame) → recordWord w base f 2 < f → recordWord w base f 3 < f
+      → CodeAlternatives file o (recordWord w base f 0) alts → EnvAt file o w base cell (recordWord w base f 2) outer
+      → FramesAt file o w base cell (recordWord w base f 3) rest → G (waiting alts outer ∷ rest))
+      → G fs
+  when-waiting some none-at show = absurd (some refl)
+  when-waiting some (waiting-at holds a<f next<f code env rest) show =
+      show _ _ _ (rw (holds .word-2) a<f) (rw (holds .word-3) next<f) (rw (holds .word-0) code) (rw (holds .word-2) env) (rw (holds .word-3) rest)

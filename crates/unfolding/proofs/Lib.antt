@@ -1,0 +1,2 @@
+pub mod Unfolds
+pub mod Variables
