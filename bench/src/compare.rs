@@ -5,7 +5,7 @@ use crate::machine::Stop;
 use crate::problems::{steps_of, Problem, Stored};
 use crate::program::Program;
 use crate::search::search;
-use remburai::{work_words, Listed, Outcome, SearchError, Verdict};
+use remburai::{work_words, Kind, Listed, Outcome, SearchError, Verdict};
 
 /// The library's list of an accepted rule file, in a work slice and a list slice that are large enough.
 pub fn library_list(file: &[u8]) -> Result<(Vec<u8>, Verdict), SearchError> {
@@ -18,8 +18,8 @@ pub fn library_list(file: &[u8]) -> Result<(Vec<u8>, Verdict), SearchError> {
 
 /// The verdict on a complete list.
 pub fn verdict_of(list: &[u8]) -> Verdict {
-    let marks = || remburai::entries(list).map(|entry| entry[0]);
-    match (marks().any(|mark| mark == b'R'), marks().next()) {
+    let kinds = || remburai::entries(list).map(|entry| entry.kind());
+    match (kinds().any(|kind| kind == Kind::Reach), kinds().next()) {
         (true, _) => Verdict::Found,
         (false, Some(_)) => Verdict::Undecided,
         (false, None) => Verdict::None,
@@ -78,10 +78,11 @@ pub fn compare_stored(case: &Stored) -> Result<bool, String> {
 fn front(list: &[u8], room: usize) -> usize {
     let mut length = 0;
     for entry in remburai::entries(list) {
-        if room < length + entry.len() {
+        let size = entry.bytes().len();
+        if room < length + size {
             break;
         }
-        length += entry.len();
+        length += size;
     }
     length
 }
