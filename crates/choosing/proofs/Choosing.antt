@@ -188,16 +188,16 @@ module _ (file types functions w : List ℕ) (base i env : ℕ) (r : Registers) 
           ));
     }
 
--- A missing alternative is the end.
+-- What comes next where an alternative was missing.
 
-missing-next : (p : Program) (e : Parts) → next p e Eval.missing ≡ Eval.stops Eval.noAlternative
+missing-next : (p : Program) (e : Parts) → next p e Eval.uncovered ≡ Eval.lacks
 unfolding next answer view
 missing-next p e = refl
 
-pub missing-stops :
-    (file types functions w : List ℕ) (base label : ℕ) (r : Registers) → controlIn r ≡ nothingLeft → Stepped file types functions w w base label r Next.Stops
-missing-stops file types functions w base label r is = record {
+pub missing-lacks :
+    (file types functions w : List ℕ) (base label : ℕ) (r : Registers) → controlIn r ≡ nothingLeft → Stepped file types functions w w base label r Next.Lacks
+missing-lacks file types functions w base label r is = record {
   only-top = nothing-written w base (r .records);
   steps = λ p sought cells e s file-of stands.
-      when-missing (λ s′. StepMeans file types functions w w base r p e s′ Next.Stops) (state-of stands is) (Eval.noAlternative, missing-next p e);
+      when-missing (λ s′. StepMeans file types functions w w base r p e s′ Next.Lacks) (state-of stands is) (missing-next p e);
 }

@@ -20,7 +20,7 @@ use Rattle.reach.specs.Limits.{workWords}
 use Rattle.reach.specs.Syntax.{Program}
 use Rattle.reach.specs.Parts.{Parts, prefix}
 use Rattle.reach.specs.Types.{WithinDepth}
-use Rattle.reach.specs.Eval.{Run, reached, ended, unfinished, halted, run, Spent}
+use Rattle.reach.specs.Eval.{Run, reached, ended, unfinished, missing, halted, run, Spent}
 use Rattle.reach.specs.Input.{inputOf}
 use Rattle.reach.specs.Answers.{Checked, accepted, turnedBack, check, RunAnswer, noRun, ran, outcomeOf, runInput, runChecked, runAnswer}
 use Rattle.reach.proofs.Base.{clash, picked}
@@ -58,6 +58,7 @@ unfolding outcomeOf
 steps-kept limit (reached n) spent = spent
 steps-kept limit (ended why n) spent = spent
 steps-kept limit (unfinished n) spent = omega arith
+steps-kept limit (missing n) spent = spent
 steps-kept limit (halted q n) spent = omega arith
 
 unfinished-kept : (limit n : ℕ) (x : Run) → Spent limit x → Unfinished n ≡ outcomeOf x → n ≡ limit
@@ -65,6 +66,7 @@ unfolding outcomeOf
 unfinished-kept limit n (reached m) spent is = absurd (clash (cc))
 unfinished-kept limit n (ended why m) spent is = absurd (clash (cc))
 unfinished-kept limit n (unfinished m) spent is = let same : n ≡ m = cc in same ∙ spent
+unfinished-kept limit n (missing m) spent is = absurd (clash (cc))
 unfinished-kept limit n (halted q m) spent is = absurd (clash (cc))
 
 -- `Promised file input work work′ r` is the contract: the call answered r, and the work slice that held the words `work` holds `work′`.

@@ -41,6 +41,9 @@ fn kind_of(a: u8, b: u8) -> Found
     if is_mark(a, b, b"UN") {
         return Found::Known(Kind::UN);
     }
+    if is_mark(a, b, b"MI") {
+        return Found::Known(Kind::MI);
+    }
     Found::Unknown
 }
 

@@ -51,6 +51,7 @@ fn with_entry(verdict: Verdict, kind: Kind) -> Verdict
     match kind {
         Kind::RE => return Verdict::Found,
         Kind::UN => return with_unfinished(verdict),
+        Kind::MI => return verdict,
     }
 }
 

@@ -17,7 +17,7 @@ use Rattle.reach.specs.declared.Verdict.the-variants.{Found, Undecided, None}
 use Rattle.reach.specs.Base.{pick}
 use Rattle.reach.specs.Words.{numberOf, verdictWord}
 use Rattle.reach.specs.declared.Kind.{Kind}
-use Rattle.reach.specs.declared.Kind.the-variants.{RE, UN}
+use Rattle.reach.specs.declared.Kind.the-variants.{RE, UN, MI}
 use Rattle.reach.specs.Search.{verdictBy}
 use Rattle.reach.specs.Text.{space, lineFeed, spaced, lineFrom, decimal, kindWord, partWord, lineSaying, share, totalLine, refusalLine}
 use Rattle.writing.specs.Writing.{Puts}
@@ -45,14 +45,15 @@ module _ {t u v w x : List ℕ} {at m n o r : ℕ} where
   unfolding lineSaying lineFrom spaced flatMap
   line-put k s ps a b c d = puts-then a (puts-then (puts-then b c) d)
 
--- The total line: the word, the two counts, the share, the verdict, a line feed.
-module _ {t u v w x y z : List ℕ} {at m n o p q r : ℕ} where
+-- The total line: the word, the three counts, the share, the verdict, a line feed.
+module _ {t u v w w′ x y z : List ℕ} {at m n o o′ p q r : ℕ} where
   pub total-put : (c : Counts) → Puts t at (0x74 ∷ 0x6f ∷ 0x74 ∷ 0x61 ∷ 0x6c ∷ []) u m → Puts u m (space ∷ decimal (c .reach)) v n
-      → Puts v n (space ∷ decimal (c .unfinished)) w o → Puts w o (space ∷ decimal (share (c .reach) (c .unfinished))) x p
+      → Puts v n (space ∷ decimal (c .unfinished)) w o → Puts w o (space ∷ decimal (c .missing)) w′ o′
+      → Puts w′ o′ (space ∷ decimal (share (c .reach) (c .unfinished))) x p
       → Puts x p (space ∷ verdictWord (verdictBy c)) y q → Puts y q (lineFeed ∷ []) z r → Puts t at (totalLine c) z r
   unfolding totalLine lineFrom spaced flatMap
-  total-put c word one two three four end =
-      puts-then word (puts-then (puts-then one (puts-then two (puts-then three (puts-then four (puts-none y q))))) end)
+  total-put c word one two three four five end =
+      puts-then word (puts-then (puts-then one (puts-then two (puts-then three (puts-then four (puts-then five (puts-none y q)))))) end)
 
 -- The line of a refusal: the word, the number, a line feed.
 module _ {t u v w : List ℕ} {at m n r : ℕ} where
@@ -67,6 +68,7 @@ pub kind-few : (k : Kind) → length (kindWord k) ≤ 10
 unfolding kindWord
 kind-few RE = omega arith
 kind-few UN = omega arith
+kind-few MI = omega arith
 
 pub verdict-few : (v : Verdict) → length (verdictWord v) ≤ 9
 verdict-few Found = omega arith

@@ -5,4 +5,4 @@ use Rattle.reach.specs.declared.Counts.{Counts}
 
 -- none of them exceeds so much
 abbrev pub Few : Counts → ℕ → Type 0
-Few c most = (c .reach ≤ most) × (c .unfinished ≤ most)
+Few c most = (c .reach ≤ most) × (c .unfinished ≤ most) × (c .missing ≤ most)

@@ -54,6 +54,7 @@ fn put_kind(kind: Kind, text: &mut [u8], at: usize) -> usize
     match kind {
         Kind::RE => return put_bytes(b"reach", text, at),
         Kind::UN => return put_bytes(b"unfinished", text, at),
+        Kind::MI => return put_bytes(b"missing", text, at),
     }
 }
 
@@ -102,7 +103,8 @@ fn put_total(text: &mut [u8], at: usize, counts: Counts) -> usize
     let first = put_bytes(b"total", text, at);
     let second = put_number(text, first, counts.reach);
     let third = put_number(text, second, counts.unfinished);
-    let verdict = put_number(text, third, share_of(counts.reach, counts.unfinished));
+    let fourth = put_number(text, third, counts.missing);
+    let verdict = put_number(text, fourth, share_of(counts.reach, counts.unfinished));
     let end = put_verdict(text, verdict, counts);
     put_byte(text, end, b'\n')
 }

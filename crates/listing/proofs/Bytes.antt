@@ -9,7 +9,7 @@ use lib.ListN.{length, take, drop, set, length-append}
 use lib.Seq.{sets, sets-eq}
 use Rattle.reach.specs.Parts.{prefix}
 use Rattle.reach.specs.declared.Kind.{Kind}
-use Rattle.reach.specs.declared.Kind.the-variants.{RE, UN}
+use Rattle.reach.specs.declared.Kind.the-variants.{RE, UN, MI}
 use Rattle.reach.specs.Search.{Entry}
 use Rattle.reach.specs.Lists.{wordBytes, kindBytes, entryBytes}
 
@@ -36,6 +36,7 @@ pub mark-length : (k : Kind) → length (kindBytes k) ≡ 2
 unfolding kindBytes
 mark-length RE = refl
 mark-length UN = refl
+mark-length MI = refl
 
 pub word-length : (n : ℕ) → length (wordBytes n) ≡ 2
 unfolding wordBytes

@@ -38,6 +38,7 @@ fn put_mark(list: &mut [u8], at: usize, kind: Kind)
     match kind {
         Kind::RE => put_two(list, at, b"RE"),
         Kind::UN => put_two(list, at, b"UN"),
+        Kind::MI => put_two(list, at, b"MI"),
     }
 }
 

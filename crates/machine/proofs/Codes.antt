@@ -12,7 +12,7 @@ use Rattle.reach.specs.Syntax.{Expr, variable, call, construct, case, letIn, ta
 use Rattle.reach.specs.Reader.{byte}
 use Rattle.reach.specs.RuleFile.{Head, Declarations}
 use Rattle.reach.specs.Encoding.{encode, ByteAt, countAlternatives, nesting}
-use Rattle.reach.specs.Eval.{Env, Frame, State, evaluating, missing, choose}
+use Rattle.reach.specs.Eval.{Env, Frame, State, evaluating, uncovered, choose}
 use Rattle.reach.proofs.Base.{clash}
 use Rattle.reach.proofs.Encoding.{stands-variable, stands-call, stands-construct, stands-case, stands-let, stands-target, stands-next, stands-absent, stands-present, skipped-finds, BodyAt}
 use Rattle.machine.specs.Records.{Code, CodeAll, CodeAlternatives}
@@ -158,7 +158,7 @@ module _ (file : List ℕ) (o : Declarations) where
         past-present e (at .0) (at .1) (λ next passed. chosen-at next c alts (at .2 next passed) (omega arith))
 
     -- with none left to pass over: it is missing, or its expression stands behind the byte
-    pub chosen-missing : (i c : ℕ) (s : State) → ChosenAt file o env fs i c s → c ≡ 0 → getD file i 0 ≡ 0 → s ≡ missing
+    pub chosen-missing : (i c : ℕ) (s : State) → ChosenAt file o env fs i c s → c ≡ 0 → getD file i 0 ≡ 0 → s ≡ uncovered
     chosen-missing i c s (none-chosen b) none-left zero-byte = refl
     chosen-missing i c s (this-chosen e b code) none-left zero-byte = absurd (clash (omega (arith, b .1)))
     chosen-missing i c s (past-absent b rest) none-left zero-byte = absurd (clash (omega arith))

@@ -9,7 +9,7 @@ use Rattle.reach.specs.Syntax.{Expr, Exprs, count, Alternatives}
 use Rattle.reach.specs.Parts.{Place}
 use Rattle.reach.specs.Encoding.{Stands, StandsAll, StandsAlternatives, Arity, ArityAll, ArityAlternatives, nesting, nestingAll, nestingAlternatives}
 use Rattle.reach.specs.RuleFile.{Declarations}
-use Rattle.reach.specs.Eval.{Row, partOf, Env, empty, operands, inputParts, size, Frame, waiting, State, evaluating, inspecting, missing}
+use Rattle.reach.specs.Eval.{Row, partOf, Env, empty, operands, inputParts, size, Frame, waiting, State, evaluating, inspecting, uncovered}
 
 -- word k of record r
 abbrev pub recordWord : List ℕ → ℕ → ℕ → ℕ → ℕ
@@ -76,4 +76,4 @@ module _ (file : List ℕ) (o : Declarations) (w : List ℕ) (base : ℕ) (cell 
   pub data StateAt : Control → ℕ → State → Type 0 where
     evaluating-at : {i r f : ℕ} {x : Expr} {env : Env} {fs : List Frame} → Code file o i x → EnvAt r env → FramesAt f fs → StateAt (expressionAt i r) f (evaluating x env fs)
     inspecting-at : {x f : ℕ} {q : Place} {fs : List Frame} → cell q ≡ x → FramesAt f fs → StateAt (partIn x) f (inspecting q fs)
-    missing-at : {f : ℕ} → StateAt nothingLeft f missing
+    missing-at : {f : ℕ} → StateAt nothingLeft f uncovered

@@ -11,7 +11,7 @@ use Rattle.reach.specs.Parts.{Place}
 use Rattle.reach.specs.Reader.{got}
 use Rattle.reach.specs.RuleFile.{Declarations}
 use Rattle.reach.specs.Encoding.{ByteAt, skipped}
-use Rattle.reach.specs.Eval.{Env, Closure, suspended, inputPart, Frame, State, evaluating, missing}
+use Rattle.reach.specs.Eval.{Env, Closure, suspended, inputPart, Frame, State, evaluating, uncovered}
 use Rattle.machine.specs.Records.{recordWord, Code, EnvAt}
 
 module _ (file : List ℕ) (o : Declarations) where
@@ -27,7 +27,7 @@ module _ (file : List ℕ) (o : Declarations) where
   -- The alternative of constructor c, of alternatives that begin at i: c of them are passed over. The state is the one that the case goes on to.
   module _ (env : Env) (fs : List Frame) where
     pub data ChosenAt : ℕ → ℕ → State → Type 0 where
-      none-chosen : {i : ℕ} → ByteAt file i 0 → ChosenAt i zero missing
+      none-chosen : {i : ℕ} → ByteAt file i 0 → ChosenAt i zero uncovered
       this-chosen : {i : ℕ} (e : Expr) → ByteAt file i 1 → Code file o (i + 1) e → ChosenAt i zero (evaluating e env fs)
       past-absent : {i c : ℕ} {s : State} → ByteAt file i 0 → ChosenAt (i + 1) c s → ChosenAt i (suc c) s
       past-present :

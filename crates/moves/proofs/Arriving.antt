@@ -11,7 +11,7 @@ use Rattle.reach.specs.Types.{leastDepths}
 use Rattle.reach.specs.Eval as Eval
 use Rattle.reach.specs.Eval.{State, Question}
 use Rattle.reach.specs.declared.Kind.{Kind}
-use Rattle.reach.specs.declared.Kind.the-variants.{RE, UN}
+use Rattle.reach.specs.declared.Kind.the-variants.{RE, UN, MI}
 use Rattle.reach.specs.declared.PathEnd.{PathEnd}
 use Rattle.reach.specs.declared.PathEnd.the-variants.{Unlisted, Listed}
 use Rattle.reach.specs.Search.{Entry, branches}
@@ -43,6 +43,14 @@ module _ (p : Program) (table : List ℕ) (left n : ℕ) (e : Parts) (s : State)
   demanded next = by-left left
     where
       by-left : (l : ℕ) → Model.arrive p table l n e s cs es ≡ Model.behind cs (es ++ (record { kind = RE; steps = n; input = e } ∷ []))
+      by-left zero = rw next
+      by-left (suc l) = rw next
+
+  lacked : Eval.next p e s ≡ Eval.lacks → Model.arrive p table left n e s cs es ≡ Model.behind cs (es ++ (record { kind = MI; steps = n; input = e } ∷ []))
+  unfolding Model.arrive Model.settle
+  lacked next = by-left left
+    where
+      by-left : (l : ℕ) → Model.arrive p table l n e s cs es ≡ Model.behind cs (es ++ (record { kind = MI; steps = n; input = e } ∷ []))
       by-left zero = rw next
       by-left (suc l) = rw next
 
@@ -163,6 +171,10 @@ module _
     pub arrive-demands : n ≡ Next.Demands → Makes g w₀ w′ bound (ended cells done height (Listed RE)) first
     arrive-demands is =
         behind (Listed RE) _ (λ es. demanded (g .program) _ (g .limit - done) done e s cs es (means Next.Demands is)) (entry-in RE)
+
+    pub arrive-lacks : n ≡ Next.Lacks → Makes g w₀ w′ bound (ended cells done height (Listed MI)) first
+    arrive-lacks is =
+        behind (Listed MI) _ (λ es. lacked (g .program) _ (g .limit - done) done e s cs es (means Next.Lacks is)) (entry-in MI)
 
     pub arrive-stops : n ≡ Next.Stops → Makes g w₀ w′ bound (ended cells done height Unlisted) first
     arrive-stops is =

@@ -119,6 +119,7 @@ fn arrive<'a>(
         Halt::Demands => return over(cells, total, height, PathEnd::Listed(Kind::RE)),
         Halt::Stops => return over(cells, total, height, PathEnd::Unlisted),
         Halt::Spent => return over(cells, total, height, PathEnd::Listed(Kind::UN)),
+        Halt::Lacks => return over(cells, total, height, PathEnd::Listed(Kind::MI)),
         Halt::Waits(x) => {
             if limit <= total {
                 return over(cells, total, height, PathEnd::Listed(Kind::UN));

@@ -9,7 +9,7 @@ use lib.ListN.{length, take, drop}
 use Rattle.reach.specs.declared.Refusal.{Refusal}
 use Rattle.reach.specs.declared.Refusal.the-variants.{Truncated, UnexpectedMark, OutOfRange, UnknownNumber, UnknownCode, TypeMismatch, TrailingBytes, EmptyType, DepthTooSmall, BadInput, WorkTooShort, ListFull}
 use Rattle.reach.specs.declared.Outcome.{Outcome}
-use Rattle.reach.specs.declared.Outcome.the-variants.{Reached, Ended, Unfinished}
+use Rattle.reach.specs.declared.Outcome.the-variants.{Reached, Ended, Unfinished, Missing}
 use Rattle.reach.specs.declared.Verdict.{Verdict}
 use Rattle.reach.specs.declared.Verdict.the-variants.{Found, Undecided, None}
 use Rattle.reach.specs.Words.{numberOf, stepsOf}
@@ -59,6 +59,7 @@ unfolding outcomeNamed
 outcome-named (Reached n) = (omega arith, refl)
 outcome-named (Ended n) = (omega arith, refl)
 outcome-named (Unfinished n) = (omega arith, refl)
+outcome-named (Missing n) = (omega arith, refl)
 
 -- 0 names none
 none-named : (refusalNamed 0 ≡ none) × (verdictNamed 0 ≡ none) × (outcomeNamed 0 0 ≡ none)

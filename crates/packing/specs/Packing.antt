@@ -8,7 +8,7 @@ use mathlib.Core.List.{List}
 use lib.ListN.{length, take, drop}
 use Rattle.reach.specs.declared.Refusal.the-variants.{ListFull}
 use Rattle.reach.specs.declared.Outcome.{Outcome}
-use Rattle.reach.specs.declared.Outcome.the-variants.{Reached, Ended, Unfinished}
+use Rattle.reach.specs.declared.Outcome.the-variants.{Reached, Ended, Unfinished, Missing}
 use Rattle.reach.specs.declared.Verdict.{Verdict}
 use Rattle.reach.specs.declared.Verdict.the-variants.{Found, Undecided, None}
 use Rattle.reach.specs.Words.{numberOf, stepsOf}
@@ -28,6 +28,7 @@ abbrev pub outcomeNumber : Outcome → ℕ
 outcomeNumber (Reached n) = 1
 outcomeNumber (Ended n) = 2
 outcomeNumber (Unfinished n) = 3
+outcomeNumber (Missing n) = 4
 
 -- the check: 0 where the file is accepted
 abbrev pub checkNumber : Checked → ℕ

@@ -8,7 +8,7 @@ use lib.ListN.{length, getD}
 use Rattle.reach.specs.declared.Refusal.{Refusal}
 use Rattle.reach.specs.declared.Refusal.the-variants.{Truncated, UnexpectedMark, OutOfRange, UnknownNumber, UnknownCode, TypeMismatch, TrailingBytes, EmptyType, DepthTooSmall, BadInput, WorkTooShort, ListFull}
 use Rattle.reach.specs.declared.Outcome.{Outcome}
-use Rattle.reach.specs.declared.Outcome.the-variants.{Reached, Ended, Unfinished}
+use Rattle.reach.specs.declared.Outcome.the-variants.{Reached, Ended, Unfinished, Missing}
 use Rattle.reach.specs.declared.Verdict.{Verdict}
 use Rattle.reach.specs.declared.Verdict.the-variants.{Found, Undecided, None}
 use Rattle.reach.specs.Lists.{listBytes}
@@ -50,7 +50,7 @@ verdictNamed n = getD (none ∷ some Found ∷ some Undecided ∷ some None ∷ 
 
 -- an outcome has its steps
 unfoldable pub outcomeNamed : ℕ → ℕ → Option Outcome
-outcomeNamed n steps = getD (none ∷ some (Reached steps) ∷ some (Ended steps) ∷ some (Unfinished steps) ∷ []) n none
+outcomeNamed n steps = getD (none ∷ some (Reached steps) ∷ some (Ended steps) ∷ some (Unfinished steps) ∷ some (Missing steps) ∷ []) n none
 
 -- The check: its refusal, if there is one.
 

@@ -21,12 +21,13 @@ pub fn verdict_number(verdict: Verdict) -> u64
 // The number of how a run ended.
 pub fn outcome_number(outcome: Outcome) -> u64
     ensures { λ r. ⌜ r ≡ outcomeNumber outcome ⌝ }
-    ensures small { λ r. ⌜ r ≤ 3 ⌝ }
+    ensures small { λ r. ⌜ r ≤ 4 ⌝ }
 {
     match outcome {
         Outcome::Reached(_) => 1,
         Outcome::Ended(_) => 2,
         Outcome::Unfinished(_) => 3,
+        Outcome::Missing(_) => 4,
     }
 }
 
@@ -39,5 +40,6 @@ pub fn steps_of(outcome: Outcome) -> u64
         Outcome::Reached(n) => n as u64,
         Outcome::Ended(n) => n as u64,
         Outcome::Unfinished(n) => n as u64,
+        Outcome::Missing(n) => n as u64,
     }
 }

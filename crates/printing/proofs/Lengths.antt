@@ -138,14 +138,16 @@ lines-short (suc more) l i h = go (λ n. lines-short more l (i + n) h) (entrySiz
 
 count-few : (c : Counts) (n : ℕ) (ks : List Kind) → Few c n → Few (countFrom c ks) (n + length ks)
 unfolding countFrom
-count-few c n [] few = (omega arith, omega arith)
+count-few c n [] few = (omega (arith, few .0), omega (arith, few .1), omega (arith, few .2))
 count-few c n (k ∷ ks) few =
     let rest = count-few (oneMore k c) (n + 1) ks (few-more k c n (n + 1) few (omega arith)) in
-    (omega (arith, rest .0), omega (arith, rest .1))
+    (omega (arith, rest .0), omega (arith, rest .1), omega (arith, rest .2))
 
 counts-few : (ks : List Kind) → Few (counts ks) (length ks)
 unfolding counts
-counts-few ks = let few = count-few (record { reach = 0; unfinished = 0 }) 0 ks (omega arith, omega arith) in (omega (arith, few .0), omega (arith, few .1))
+counts-few ks =
+    let few = count-few (record { reach = 0; unfinished = 0; missing = 0 }) 0 ks (omega arith, omega arith, omega arith) in
+    (omega (arith, few .0), omega (arith, few .1), omega (arith, few .2))
 
 -- The last line.
 
@@ -173,17 +175,20 @@ unfolding totalLine
 total-short c few =
     let a = c .reach in
     let b = c .unfinished in
+    let m = c .missing in
     let v = verdictBy c in
     omega (
       arith,
-      line-length (0x74 ∷ 0x6f ∷ 0x74 ∷ 0x61 ∷ 0x6c ∷ []) (decimal a ∷ decimal b ∷ decimal (share a b) ∷ verdictWord v ∷ []),
-      spaced-more (decimal a) (decimal b ∷ decimal (share a b) ∷ verdictWord v ∷ []),
-      spaced-more (decimal b) (decimal (share a b) ∷ verdictWord v ∷ []),
+      line-length (0x74 ∷ 0x6f ∷ 0x74 ∷ 0x61 ∷ 0x6c ∷ []) (decimal a ∷ decimal b ∷ decimal m ∷ decimal (share a b) ∷ verdictWord v ∷ []),
+      spaced-more (decimal a) (decimal b ∷ decimal m ∷ decimal (share a b) ∷ verdictWord v ∷ []),
+      spaced-more (decimal b) (decimal m ∷ decimal (share a b) ∷ verdictWord v ∷ []),
+      spaced-more (decimal m) (decimal (share a b) ∷ verdictWord v ∷ []),
       spaced-more (decimal (share a b)) (verdictWord v ∷ []),
       spaced-more (verdictWord v) [],
       spaced-none,
       digits-eight a (omega (arith, few .0)),
       digits-eight b (omega (arith, few .1)),
+      digits-eight m (omega (arith, few .2)),
       digits-three (share a b) (omega (arith, share-short a b)),
       verdict-few v,
     )
@@ -205,7 +210,7 @@ text-within n full l limit h =
     let as-many = length-kinds ds in
     let taken = length-take n l in
     let few = counts-few kinds in
-    let last = last-short full (counts kinds) (omega (arith, few .0), omega (arith, few .1)) in
+    let last = last-short full (counts kinds) (omega (arith, few .0), omega (arith, few .1), omega (arith, few .2)) in
     omega (arith, length-append (flatMap lineSaying ds) (lastLine full (counts kinds)))
   where
     length-kinds : (ds : List Decoded) → length (map (λ (d : Decoded). d .kind) ds) ≡ length ds

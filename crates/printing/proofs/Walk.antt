@@ -12,7 +12,7 @@ use lib.Dec.{leb}
 use Rattle.reach.specs.Places.{wordAt}
 use Rattle.reach.specs.declared.Counts.{Counts}
 use Rattle.reach.specs.declared.Kind.{Kind}
-use Rattle.reach.specs.declared.Kind.the-variants.{RE, UN}
+use Rattle.reach.specs.declared.Kind.the-variants.{RE, UN, MI}
 use Rattle.reach.specs.Search.{oneMore, countFrom, counts}
 use Rattle.reach.specs.Limits.{listLimit}
 use Rattle.reach.specs.Lists.{knownMark, kindAt, entrySize, roomOf, Decoded, decoded, decodedFrom}
@@ -41,7 +41,7 @@ unfoldable pub textFrom : Bool → Counts → List Decoded → List ℕ
 textFrom full c ds = flatMap lineSaying ds ++ lastLine full (countFrom c (map (λ (d : Decoded). d .kind) ds))
 
 -- before the first entry
-pub text-whole : (full : Bool) (ds : List Decoded) → textOf full ds ≡ textFrom full (record { reach = 0; unfinished = 0 }) ds
+pub text-whole : (full : Bool) (ds : List Decoded) → textOf full ds ≡ textFrom full (record { reach = 0; unfinished = 0; missing = 0 }) ds
 unfolding textOf counts textFrom
 text-whole full ds = refl
 
@@ -58,8 +58,9 @@ text-more full c d ds = append-assoc (lineSaying d) _ _
 
 -- with one more entry the counts are at most one more
 pub few-more : (k : Kind) (c : Counts) (n m : ℕ) → Few c n → n < m → Few (oneMore k c) m
-few-more RE c n m few h = (omega (arith, few .0), omega (arith, few .1))
-few-more UN c n m few h = (omega (arith, few .0), omega (arith, few .1))
+few-more RE c n m few h = (omega (arith, few .0), omega (arith, few .1), omega (arith, few .2))
+few-more UN c n m few h = (omega (arith, few .0), omega (arith, few .1), omega (arith, few .2))
+few-more MI c n m few h = (omega (arith, few .0), omega (arith, few .1), omega (arith, few .2))
 
 decoded-none : (more : ℕ) (l : List ℕ) (i : ℕ) → entrySize l i ≡ none → decodedFrom more l i ≡ []
 unfolding decodedFrom

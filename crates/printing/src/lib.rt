@@ -28,12 +28,21 @@ fn one_more(counts: Counts, kind: Kind) -> Counts
             return Counts {
                 reach: counts.reach + 1,
                 unfinished: counts.unfinished,
+                missing: counts.missing,
             };
         }
         Kind::UN => {
             return Counts {
                 reach: counts.reach,
                 unfinished: counts.unfinished + 1,
+                missing: counts.missing,
+            };
+        }
+        Kind::MI => {
+            return Counts {
+                reach: counts.reach,
+                unfinished: counts.unfinished,
+                missing: counts.missing + 1,
             };
         }
     }
@@ -49,6 +58,7 @@ fn put_list(full: bool, list: &[u8], text: &mut [u8]) -> usize
     let mut counts = Counts {
         reach: 0,
         unfinished: 0,
+        missing: 0,
     };
     let mut more = list.len();
     while 0 < more {

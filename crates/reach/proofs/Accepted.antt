@@ -15,10 +15,10 @@ use Rattle.reach.specs.Base.{_∈_}
 use Rattle.reach.specs.Syntax.{Program, sourceTypes}
 use Rattle.reach.specs.Parts.{Parts, width, allOpen, Place, openAt, BoundPart, Completes, _⊑_}
 use Rattle.reach.specs.Types.{Typed, sourceSlots, ClosedInput, WithinDepth, leastDepths}
-use Rattle.reach.specs.Eval.{State, halted, start, run}
+use Rattle.reach.specs.Eval.{State, Run, reached, ended, unfinished, missing, halted, start, run}
 use Rattle.reach.specs.declared.Kind.{Kind}
-use Rattle.reach.specs.declared.Kind.the-variants.{RE, UN}
-use Rattle.reach.specs.Search.{Entry, says, ReachedOrUnfinished, StopsInside, branches, openInput, entries, verdict}
+use Rattle.reach.specs.declared.Kind.the-variants.{RE, UN, MI}
+use Rattle.reach.specs.Search.{Entry, says, Shown, ReachedOrUnfinished, StopsInside, branches, openInput, entries, verdict}
 use Rattle.reach.specs.RuleFile.{deepEnough}
 use Rattle.reach.specs.Answers.{Checked, accepted, turnedBack, check, SearchAnswer, noSearch, complete, cutShort, searchAnswer, refusalOf, verdictOf}
 use Rattle.reach.proofs.Base.{clash, nth-member}
@@ -28,10 +28,10 @@ use Rattle.reach.proofs.Slots.{source-types, source-length}
 use Rattle.reach.proofs.Depths.{Fit, Roomy, shallow-roomy, open-fit, bind-fit, fit-typed, typed-fit, typed-width, completion}
 use Rattle.reach.specs.States.{StateIn}
 use Rattle.reach.proofs.Evaluation.{start-in, waits-free}
-use Rattle.reach.proofs.Entries.{Finds, at-target, at-limit, at-limit-waiting, by-step, by-fork, entry-found, entry-holds, entry-reopens}
+use Rattle.reach.proofs.Entries.{Finds, at-target, at-missing, at-limit, at-limit-waiting, by-step, by-fork, entry-found, entry-holds, entry-reopens}
 use Rattle.reach.proofs.Cover.{covers, apart, apart-numbers}
 use Rattle.reach.proofs.Limits.{accepted-keeps}
-use Rattle.reach.proofs.Lists.{none-empty}
+use Rattle.reach.proofs.Lists.{Holds, none-exactly}
 use Rattle.reach.proofs.Answers.{search-turned-back, complete-is}
 
 module _ (file : List ℕ) (p : Program) (h : check file ≡ accepted p) where
@@ -56,6 +56,7 @@ module _ (file : List ℕ) (p : Program) (h : check file ≡ accepted p) where
       → Fit (p .types) (sourceSlots p) i → Fit (p .types) (sourceSlots p) (e .input)
   unfolding branches
   found-fit (at-target w) f = f
+  found-fit (at-missing w) f = f
   found-fit (at-limit w) f = f
   found-fit (at-limit-waiting w) f = f
   found-fit (by-step w d) f = found-fit d f
@@ -82,13 +83,15 @@ module _ (file : List ℕ) (p : Program) (h : check file ≡ accepted p) where
   unfolding run
   entries-true e m j c k = entry-holds p (leastDepths (p .types)) (entry-found p e m) start-there j (completing e m j c k)
 
-  -- every closed input within the depth that is reached or unfinished completes an entry
-  pub entries-cover : (j : Parts) → WithinDepth p j → ReachedOrUnfinished (run p j) → (e : Entry) × (e ∈ entries p) × Completes j (e .input)
+  -- every closed input within the depth that is reached, unfinished or missing completes an entry, which says so
+  pub entries-cover : (j : Parts) → WithinDepth p j → Shown (run p j)
+      → (e : Entry) × (e ∈ entries p) × Completes j (e .input) × (run p j ≡ says (e .kind) (e .steps))
   unfolding run entries
   entries-cover j w t =
       let fit = typed-fit (p .types) (sourceSlots p) j (w .0 .0) (rw (source-types p) (w .0 .1)) (w .1) in
       let found = covers p (p .steps) 0 (openInput p) (start p) j (open-below j (w .0)) (w .0 .0) fit start-there t in
-      (found .0, found .1, below-completes (found .2))
+      let completes = below-completes (found .2) in
+      (found .0, found .1, completes, entries-true (found .0) (found .1) j (w .0) completes)
 
   -- no closed input completes two
   pub entries-apart : (a b : ℕ) (x y : Entry) → getElem? (entries p) a ≡ some x → getElem? (entries p) b ≡ some y → a ≢ b
@@ -113,23 +116,36 @@ module _ (file : List ℕ) (p : Program) (h : check file ≡ accepted p) where
       let typed = fit-typed (p .types) (sourceSlots p) j fit in
       (j, ((closed, rw (← source-types p) (typed .0)), typed .1), below-completes below)
 
-  -- there is no entry exactly where every closed input within the depth stops inside the limit
-  no-entries : (entries p ≡ []) ↔ ((j : Parts) → WithinDepth p j → StopsInside (run p j))
-  no-entries = (
-    λ nothing j w t. let found = entries-cover j w t in List·Memᴰ·not-nil (subst (λ es. found .0 ∈ es) nothing (found .1)),
-    λ all. go (entries p) refl all,
-  )
+  -- no entry is reached or unfinished exactly where every closed input within the depth stops inside the limit
+  none-listed : (¬ Holds RE (entries p) × ¬ Holds UN (entries p)) ↔ ((j : Parts) → WithinDepth p j → StopsInside (run p j))
+  none-listed = (λ neither. stop neither, λ all. (λ h. listed all RE h tt, λ h. listed all UN h tt))
     where
-      shown : (k : Kind) (n : ℕ) → ReachedOrUnfinished (says k n)
-      shown RE n = tt
-      shown UN n = tt
+      shown : (r : Run) → ReachedOrUnfinished r → Shown r
+      shown (reached n) t = tt
+      shown (unfinished n) t = tt
+      shown (ended why n) t = t
+      shown (missing n) t = tt
+      shown (halted q n) t = t
 
-      go : (es : List Entry) → entries p ≡ es → ((j : Parts) → WithinDepth p j → StopsInside (run p j)) → es ≡ []
-      go [] same all = refl
-      go (e ∷ es) same all =
-          let m : e ∈ entries p = rw same (List·Memᴰ·head refl) in
+      stop : ¬ Holds RE (entries p) × ¬ Holds UN (entries p) → (j : Parts) → WithinDepth p j → StopsInside (run p j)
+      stop neither j w t =
+          let (e, m, completes, so) = entries-cover j w (shown (run p j) t) in
+          by-kind (e .kind) e refl m (subst ReachedOrUnfinished so t)
+        where
+          by-kind : (k : Kind) → (e : Entry) → e .kind ≡ k → e ∈ entries p → ReachedOrUnfinished (says k (e .steps)) → ⊥
+          by-kind RE e same m t = neither .0 (e, m, same)
+          by-kind UN e same m t = neither .1 (e, m, same)
+          by-kind MI e same m t = t
+
+      listed : ((j : Parts) → WithinDepth p j → StopsInside (run p j)) → (k : Kind) → Holds k (entries p) → ReachedOrUnfinished (says k 0) → ⊥
+      listed all k (e, m, same) t =
           let (j, within, completes) = entries-inhabited e m in
-          absurd (all j within (rw (entries-true e m j (within .0) completes) (shown (e .kind) (e .steps))))
+          all j within (rw (entries-true e m j (within .0) completes, same) (whatever k t (e .steps)))
+        where
+          whatever : (k : Kind) → ReachedOrUnfinished (says k 0) → (n : ℕ) → ReachedOrUnfinished (says k n)
+          whatever RE t n = tt
+          whatever UN t n = tt
+          whatever MI t n = t
 
 -- every closed input within the depth stops inside the step limit, if the file is accepted
 abbrev AllStop : List ℕ → Type 0
@@ -141,12 +157,12 @@ pub none-answer : (file : List ℕ) (work list : ℕ) (a : SearchAnswer) → sea
 unfolding verdictOf refusalOf
 none-answer file work list (noSearch why) h = (λ v. absurd (Option·none-ne-some None v), λ g. absurd (Option·some-ne-none why (g .0)))
 none-answer file work list (complete es) h = (
-  λ v. let nothing = none-empty es .0 (Option·some-injective (verdict es) None v) in
-      (refl, λ p c. no-entries file p c .0 (sym (complete-is file work list p c es h) ∙ nothing)),
-  λ g. ap some (none-empty es .1 (empty (check file) refl (g .1))),
+  λ v. let without = none-exactly es .0 (Option·some-injective (verdict es) None v) in
+      (refl, λ p c. none-listed file p c .0 (rw (← complete-is file work list p c es h) without)),
+  λ g. ap some (none-exactly es .1 (neither (check file) refl (g .1))),
 )
   where
-    empty : (c : Checked) → check file ≡ c → AllStop file → es ≡ []
-    empty (accepted p) c all = complete-is file work list p c es h ∙ no-entries file p c .1 (all p c)
-    empty (turnedBack why) c all = absurd (clash (cc (search-turned-back file work list why c)))
+    neither : (c : Checked) → check file ≡ c → AllStop file → ¬ Holds RE es × ¬ Holds UN es
+    neither (accepted p) c all = rw (complete-is file work list p c es h) (none-listed file p c .1 (all p c))
+    neither (turnedBack why) c all = absurd (clash (cc (search-turned-back file work list why c)))
 none-answer file work list (cutShort es) h = (λ v. absurd (Option·none-ne-some None v), λ g. absurd (Option·some-ne-none ListFull (g .0)))

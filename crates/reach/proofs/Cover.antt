@@ -13,9 +13,9 @@ use Rattle.reach.specs.Base.{_∈_}
 use Rattle.reach.specs.Syntax.{Program}
 use Rattle.reach.specs.Parts.{Parts, has, at, Closed, _⊑_}
 use Rattle.reach.specs.Types.{Fork, sourceSlots, leastDepths, shallow, forksFrom, forks, forksAt, slotAt, Slot}
-use Rattle.reach.specs.Eval.{State, Question, Next, demands, stops, goes, waits, next, eval}
-use Rattle.reach.specs.declared.Kind.the-variants.{RE, UN}
-use Rattle.reach.specs.Search.{Entry, ReachedOrUnfinished, gather, branches, inputBehind, stateBehind, search}
+use Rattle.reach.specs.Eval.{State, Question, Next, demands, lacks, stops, goes, waits, next, eval}
+use Rattle.reach.specs.declared.Kind.the-variants.{RE, UN, MI}
+use Rattle.reach.specs.Search.{Entry, Shown, gather, branches, inputBehind, stateBehind, search}
 use Rattle.reach.proofs.Base.{picked, nth-member, flatMap-member, flatMap-has}
 use Rattle.reach.proofs.Order.{⊑-trans, bind-below, constructorOf}
 use Rattle.reach.specs.States.{StateIn}
@@ -31,41 +31,45 @@ module _ (p : Program) where
   abbrev Covered : ℕ → ℕ → Parts → State → Parts → Type 0
   Covered left n i s j = (e : Entry) × (e ∈ search p table left n i s) × (e .input ⊑ j)
 
-  cover-last : (n : ℕ) (i : Parts) (s : State) (j : Parts) → i ⊑ j → StateIn i s → ReachedOrUnfinished (eval p j zero n s)
+  cover-last : (n : ℕ) (i : Parts) (s : State) (j : Parts) → i ⊑ j → StateIn i s → Shown (eval p j zero n s)
       → (N : Next) → next p i s ≡ N → Covered zero n i s j
   unfolding gather
   cover-last n i s j a h t demands w =
       (record { kind = RE; steps = n; input = i }, rw (search-last p table n i s demands w) (List·Memᴰ·head refl), a)
+  cover-last n i s j a h t lacks w =
+      (record { kind = MI; steps = n; input = i }, rw (search-last p table n i s lacks w) (List·Memᴰ·head refl), a)
   cover-last n i s j a h t (stops why) w =
-      absurd (subst ReachedOrUnfinished (eval-stops p j zero n s why (next-more p a s h (stops why) tt w)) t)
+      absurd (subst Shown (eval-stops p j zero n s why (next-more p a s h (stops why) tt w)) t)
   cover-last n i s j a h t (goes s′) w =
       (record { kind = UN; steps = n; input = i }, rw (search-last p table n i s (goes s′) w) (List·Memᴰ·head refl), a)
   cover-last n i s j a h t (waits q) w =
       (record { kind = UN; steps = n; input = i }, rw (search-last p table n i s (waits q) w) (List·Memᴰ·head refl), a)
 
   cover-step : (left n : ℕ) (i : Parts) (s : State) (j : Parts) → i ⊑ j → Closed j → Fit (p .types) (sourceSlots p) j → StateIn i s
-      → ReachedOrUnfinished (eval p j (suc left) n s)
-      → ((i′ : Parts) (s′ : State) → i′ ⊑ j → StateIn i′ s′ → ReachedOrUnfinished (eval p j left (suc n) s′) → Covered left (suc n) i′ s′ j)
+      → Shown (eval p j (suc left) n s)
+      → ((i′ : Parts) (s′ : State) → i′ ⊑ j → StateIn i′ s′ → Shown (eval p j left (suc n) s′) → Covered left (suc n) i′ s′ j)
       → (N : Next) → next p i s ≡ N → Covered (suc left) n i s j
   unfolding gather branches
   cover-step left n i s j a z f h t ih demands w =
       (record { kind = RE; steps = n; input = i }, rw (search-next p table left n i s demands w) (List·Memᴰ·head refl), a)
+  cover-step left n i s j a z f h t ih lacks w =
+      (record { kind = MI; steps = n; input = i }, rw (search-next p table left n i s lacks w) (List·Memᴰ·head refl), a)
   cover-step left n i s j a z f h t ih (stops why) w =
-      absurd (subst ReachedOrUnfinished (eval-stops p j (suc left) n s why (next-more p a s h (stops why) tt w)) t)
+      absurd (subst Shown (eval-stops p j (suc left) n s why (next-more p a s h (stops why) tt w)) t)
   cover-step left n i s j a z f h t ih (goes s′) w =
-      let on = subst ReachedOrUnfinished (eval-step p j left n s s′ (next-more p a s h (goes s′) tt w)) t in
+      let on = subst Shown (eval-step p j left n s s′ (next-more p a s h (goes s′) tt w)) t in
       let below = ih i s′ a (next-in p i s h (goes s′) w) on in
       (below .0, rw (search-next p table left n i s (goes s′) w) (below .1), below .2)
   cover-step left n i s j a z f h t ih (waits q) w =
       let k = fork-covers (p .types) (sourceSlots p) a z f (q .place) (waits-free p i s q w) in
       let fork : Fork = record { constructor = k .0; fields = k .1 } in
-      let on = subst ReachedOrUnfinished (eval-step p j left n s (stateBehind q fork) (waits-answered p i j s q (k .0) (k .1) w (k .2))) t in
+      let on = subst Shown (eval-step p j left n s (stateBehind q fork) (waits-answered p i j s q (k .0) (k .1) w (k .2))) t in
       let below = ih (inputBehind q fork i) (stateBehind q fork) (bind-below a (q .place) (k .2)) (fork-in p table i s q fork w h) on in
       let among = flatMap-has (branch p table left (suc n) i q) (branches p table i q) fork (below .0) (k .3) (below .1) in
       (below .0, rw (search-next p table left n i s (waits q) w) among, below .2)
 
   pub covers : (left n : ℕ) (i : Parts) (s : State) (j : Parts) → i ⊑ j → Closed j → Fit (p .types) (sourceSlots p) j → StateIn i s
-      → ReachedOrUnfinished (eval p j left n s) → (e : Entry) × (e ∈ search p (leastDepths (p .types)) left n i s) × (e .input ⊑ j)
+      → Shown (eval p j left n s) → (e : Entry) × (e ∈ search p (leastDepths (p .types)) left n i s) × (e .input ⊑ j)
   covers zero n i s j a z f h t = cover-last n i s j a h t (next p i s) refl
   covers (suc left) n i s j a z f h t =
       cover-step left n i s j a z f h t (λ i′ s′ a′ h′ t′. covers left (suc n) i′ s′ j a′ z f h′ t′) (next p i s) refl
@@ -119,6 +123,7 @@ module _ (p : Program) (table : List ℕ) where
   last-apart : (n : ℕ) (i : Parts) (s : State) (N : Next) → next p i s ≡ N → Apart (search p table zero n i s)
   unfolding gather
   last-apart n i s demands w = rw (search-last p table n i s demands w) (λ y m. absurd (List·Memᴰ·not-nil m), tt)
+  last-apart n i s lacks w = rw (search-last p table n i s lacks w) (λ y m. absurd (List·Memᴰ·not-nil m), tt)
   last-apart n i s (stops why) w = rw (search-last p table n i s (stops why) w) tt
   last-apart n i s (goes s′) w = rw (search-last p table n i s (goes s′) w) (λ y m. absurd (List·Memᴰ·not-nil m), tt)
   last-apart n i s (waits q) w = rw (search-last p table n i s (waits q) w) (λ y m. absurd (List·Memᴰ·not-nil m), tt)
@@ -136,6 +141,7 @@ module _ (p : Program) (table : List ℕ) where
       → (N : Next) → next p i s ≡ N → Apart (search p table (suc left) n i s)
   unfolding gather branches
   step-apart left n i s ih demands w = rw (search-next p table left n i s demands w) (λ y m. absurd (List·Memᴰ·not-nil m), tt)
+  step-apart left n i s ih lacks w = rw (search-next p table left n i s lacks w) (λ y m. absurd (List·Memᴰ·not-nil m), tt)
   step-apart left n i s ih (stops why) w = rw (search-next p table left n i s (stops why) w) tt
   step-apart left n i s ih (goes s′) w = rw (search-next p table left n i s (goes s′) w) (ih i s′)
   step-apart left n i s ih (waits q) w =

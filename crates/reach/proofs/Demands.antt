@@ -17,7 +17,7 @@ use Rattle.reach.specs.Syntax.{Types, Program}
 use Rattle.reach.specs.Parts.{Parts, Place, openAt, BoundPart, Completes, prefix}
 use Rattle.reach.specs.Types.{ClosedInput, WithinDepth, ValueOf, LeastDepth, rounds, leastDepths}
 use Rattle.reach.specs.Eval.{halted, run, Spent, NotHalted}
-use Rattle.reach.specs.Search.{Entry, says, ReachedOrUnfinished, StopsInside, entries}
+use Rattle.reach.specs.Search.{Entry, says, Shown, StopsInside, entries}
 use Rattle.reach.specs.Moves.{Walk, move, owedMoves, finished}
 use Rattle.reach.specs.Input.{inputOf}
 use Rattle.reach.specs.Lists.{listBytes, roomOf}
@@ -40,7 +40,8 @@ entry-true file work list p h e m = entries-true file p h e (listed-in file work
 -- Demand 2: "On a complete list, each closed input within the depth that reaches the target or is unfinished at the step limit completes an entry."
 pub list-covers : (file : List ℕ) (work list : ℕ) (p : Program) → check file ≡ accepted p
     → (es : List Entry) → searchAnswer file work list ≡ complete es
-    → (j : Parts) → WithinDepth p j → ReachedOrUnfinished (run p j) → (e : Entry) × (e ∈ es) × Completes j (e .input)
+    → (j : Parts) → WithinDepth p j → Shown (run p j)
+    → (e : Entry) × (e ∈ es) × Completes j (e .input) × (run p j ≡ says (e .kind) (e .steps))
 list-covers file work list p h es a j w t = rw (complete-is file work list p h es a) (entries-cover file p h j w t)
 
 -- Demand 3: "on a complete list each closed input, however deep, completes at most one entry." Entries are told apart by their numbers.

@@ -11,22 +11,24 @@ use Rattle.reach.specs.Base.{_∈_}
 use Rattle.reach.specs.Syntax.{Program, sourceTypes}
 use Rattle.reach.specs.Parts.{Parts, width, Place, free, has, at, bindAt, openAt, _⊑_}
 use Rattle.reach.specs.Types.{Fork, leastDepths}
-use Rattle.reach.specs.Eval.{State, Question, Next, demands, stops, goes, waits, next, halted, eval, start, run}
-use Rattle.reach.specs.declared.Kind.the-variants.{RE, UN}
+use Rattle.reach.specs.Eval.{State, Question, Next, demands, lacks, stops, goes, waits, next, halted, eval, start, run}
+use Rattle.reach.specs.declared.Kind.the-variants.{RE, UN, MI}
 use Rattle.reach.specs.Search.{Entry, says, gather, spent, branches, inputBehind, stateBehind, search, openInput, entries}
 use Rattle.reach.proofs.Base.{flatMap-member}
 use Rattle.reach.proofs.Order.{⊑-refl, ⊑-trans, ⊑-width, ⊑-has, ⊑-there, bind-refines, bind-has, bind-new, open-monotone, opened-below, open-free, open-bind}
 use Rattle.reach.specs.States.{StateIn}
 use Rattle.reach.proofs.Evaluation.{env-more, frames-more, next-in, next-more, answered-in, start-in, waits-free, waits-answered}
-use Rattle.reach.proofs.Evaluation.{eval-step, eval-wait, eval-demands, eval-spent, eval-spent-wait, halt-more}
+use Rattle.reach.proofs.Evaluation.{eval-step, eval-wait, eval-demands, eval-lacks, eval-spent, eval-spent-wait, halt-more}
 
 -- the entries behind constructor f of a fork
 abbrev pub branch : Program → List ℕ → ℕ → ℕ → Parts → Question → Fork → List Entry
 branch p table left n i q f = search p table left n (inputBehind q f i) (stateBehind q f)
 
--- How the search finds an entry below a state: the target is demanded there, the steps are used up there, or it lies behind a step or a fork.
+-- How the search finds an entry below a state: the target is demanded there, an alternative is missing there, the steps are used up there, or it lies
+-- behind a step or a fork.
 pub data Finds (p : Program) (table : List ℕ) : ℕ → ℕ → Parts → State → Entry → Type 0 where
   at-target : {left n : ℕ} {i : Parts} {s : State} → next p i s ≡ demands → Finds p table left n i s (record { kind = RE; steps = n; input = i })
+  at-missing : {left n : ℕ} {i : Parts} {s : State} → next p i s ≡ lacks → Finds p table left n i s (record { kind = MI; steps = n; input = i })
   at-limit : {n : ℕ} {i : Parts} {s s′ : State} → next p i s ≡ goes s′ → Finds p table zero n i s (record { kind = UN; steps = n; input = i })
   at-limit-waiting : {n : ℕ} {i : Parts} {s : State} {q : Question} → next p i s ≡ waits q
       → Finds p table zero n i s (record { kind = UN; steps = n; input = i })
@@ -52,6 +54,7 @@ module _ (p : Program) (table : List ℕ) where
       → e ∈ gather (λ s′. spent n i) (λ q. spent n i) n i N → Finds p table zero n i s e
   unfolding gather
   found-last n i s e demands w m = rw (List·Memᴰ·eq-of-singleton m) (at-target w)
+  found-last n i s e lacks w m = rw (List·Memᴰ·eq-of-singleton m) (at-missing w)
   found-last n i s e (stops why) w m = absurd (List·Memᴰ·not-nil m)
   found-last n i s e (goes s′) w m = rw (List·Memᴰ·eq-of-singleton m) (at-limit w)
   found-last n i s e (waits q) w m = rw (List·Memᴰ·eq-of-singleton m) (at-limit-waiting w)
@@ -63,6 +66,7 @@ module _ (p : Program) (table : List ℕ) where
       → Finds p table (suc left) n i s e
   unfolding gather
   found-step left n i s e ih demands w m = rw (List·Memᴰ·eq-of-singleton m) (at-target w)
+  found-step left n i s e ih lacks w m = rw (List·Memᴰ·eq-of-singleton m) (at-missing w)
   found-step left n i s e ih (stops why) w m = absurd (List·Memᴰ·not-nil m)
   found-step left n i s e ih (goes s′) w m = by-step w (ih i s′ m)
   found-step left n i s e ih (waits q) w m =
@@ -78,6 +82,7 @@ module _ (p : Program) (table : List ℕ) where
   -- an entry binds what its path had bound
   pub refines : {left n : ℕ} {i : Parts} {s : State} {e : Entry} → Finds p table left n i s e → i ⊑ e .input
   refines (at-target {i = i} w) = ⊑-refl i
+  refines (at-missing {i = i} w) = ⊑-refl i
   refines (at-limit {i = i} w) = ⊑-refl i
   refines (at-limit-waiting {i = i} w) = ⊑-refl i
   refines (by-step w d) = refines d
@@ -104,6 +109,7 @@ module _ (p : Program) (table : List ℕ) where
   pub entry-holds : {left n : ℕ} {i : Parts} {s : State} {e : Entry} → Finds p table left n i s e → StateIn i s
       → (j : Parts) → e .input ⊑ j → eval p j left n s ≡ says (e .kind) (e .steps)
   entry-holds (at-target {left = left} {n = n} {s = s} w) h j a = eval-demands p j left n s (next-more p a s h demands tt w)
+  entry-holds (at-missing {left = left} {n = n} {s = s} w) h j a = eval-lacks p j left n s (next-more p a s h lacks tt w)
   entry-holds (at-limit {n = n} {s = s} {s′ = s′} w) h j a = eval-spent p j n s s′ (next-more p a s h (goes s′) tt w)
   entry-holds (at-limit-waiting {n = n} {i = i} {s = s} {q = q} w) h j a = eval-spent-wait p i j n s q w
   entry-holds (by-step {left = left} {n = n} {i = i} {s = s} {s′ = s′} w d) h j a =
@@ -136,6 +142,7 @@ module _ (p : Program) (table : List ℕ) where
   pub entry-reopens : {left n : ℕ} {i : Parts} {s : State} {e : Entry} → Finds p table left n i s e → width i ≡ length (sourceTypes p)
       → StateIn i s → Leads i left n s → Reopens i → Reopens (e .input)
   entry-reopens (at-target w) size h l o = o
+  entry-reopens (at-missing w) size h l o = o
   entry-reopens (at-limit w) size h l o = o
   entry-reopens (at-limit-waiting w) size h l o = o
   entry-reopens (by-step {left = left} {n = n} {i = i} {s = s} {s′ = s′} w d) size h l o =

@@ -17,7 +17,7 @@ use Rattle.reach.specs.Search.{Entry, branches, openInput, entries}
 use Rattle.reach.specs.Answers.{accepted, check}
 use Rattle.reach.proofs.Limits.{Kept, accepted-keeps}
 use Rattle.reach.proofs.Depths.{forks-of}
-use Rattle.reach.proofs.Entries.{Finds, at-target, at-limit, at-limit-waiting, by-step, by-fork, entry-found}
+use Rattle.reach.proofs.Entries.{Finds, at-target, at-missing, at-limit, at-limit-waiting, by-step, by-fork, entry-found}
 
 -- the bytes of a row of open parts
 open-length : (n : ℕ) → length (prefix (allOpen n)) ≡ n
@@ -52,6 +52,7 @@ module _ (p : Program) (kept : Kept p) where
       → (e .steps ≤ left + n) × (length (prefix (e .input)) ≤ length (prefix i) + fieldLimit * left)
   unfolding branches
   found-within (at-target w) = omega arith
+  found-within (at-missing w) = omega arith
   found-within (at-limit w) = omega arith
   found-within (at-limit-waiting w) = omega arith
   found-within (by-step w d) = let below = found-within d in omega arith

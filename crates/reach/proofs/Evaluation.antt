@@ -14,8 +14,8 @@ use Rattle.reach.specs.Syntax.{Expr, variable, call, construct, case, le
 use Rattle.reach.specs.Syntax.{Exprs, Alternatives, no-more, absent, present, nthExpr, Function, Program, functionAt, sourceTypes, parametersOf}
 use Rattle.reach.specs.Parts.{Parts, width, Place, Seen, gone, free, has, at, Closed, _⊑_, There}
 use Rattle.reach.specs.Eval.{fieldsOf, partOf, Env, empty, operands, inputParts, size, Closure, suspended, inputPart, suspend, lookup, Frame, waiting}
-use Rattle.reach.specs.Eval.{State, evaluating, inspecting, missing, stuck, resume, choose, enter, Question, answered, Stop, Next, demands, stops, goes, waits}
-use Rattle.reach.specs.Eval.{view, look, answer, next, Run, reached, ended, unfinished, halted, conclude, eval, startOf, start, run, NotHalted, Spent}
+use Rattle.reach.specs.Eval.{State, evaluating, inspecting, uncovered, stuck, resume, choose, enter, Question, answered, Stop, Next, demands, lacks, stops, goes, waits}
+use Rattle.reach.specs.Eval.{view, look, answer, next, Run, reached, ended, unfinished, missing, halted, conclude, eval, startOf, start, run, NotHalted, Spent}
 use Rattle.reach.proofs.Base.{picked}
 use Rattle.reach.proofs.Order.{⊑-has, ⊑-there, part-there, field-there, free-unbound, closed-has, ⊑-refl}
 
@@ -25,6 +25,7 @@ QuestionIn e q = There (at e (q .place)) × EnvIn e (q .environment) × FramesIn
 
 abbrev pub NextIn : Parts → Next → Type 0
 NextIn e demands = Unit {0}
+NextIn e lacks = Unit {0}
 NextIn e (stops why) = Unit {0}
 NextIn e (goes s) = StateIn e s
 NextIn e (waits q) = QuestionIn e q
@@ -88,7 +89,7 @@ view-in p e (evaluating (letIn t x body) env fs) h = ((h .0, h .0), h .1)
 view-in p e (evaluating (target l x) env fs) h = picked (NextIn e) (eqb l (p .label)) (λ sought. tt) (λ other. h)
 view-in p e (inspecting q []) h = tt
 view-in p e (inspecting q (waiting alts env ∷ fs)) h = (h .0, h .1 .0, h .1 .1)
-view-in p e missing h = tt
+view-in p e uncovered h = tt
 view-in p e stuck h = tt
 
 -- the fields of a part that turned out to be bound are there
@@ -102,6 +103,7 @@ answered-in e q c k h g =
 answer-in : (e : Parts) (N : Next) → NextIn e N → NextIn e (answer e N)
 unfolding answer look
 answer-in e demands h = tt
+answer-in e lacks h = tt
 answer-in e (stops why) h = tt
 answer-in e (goes s) h = h
 answer-in e (waits q) h = seen (at e (q .place)) refl
@@ -128,6 +130,7 @@ start-in p e h = by-source (functionAt p (p .source)) h
 -- What comes next does not wait.
 abbrev pub Settled : Next → Type 0
 Settled demands = Unit {0}
+Settled lacks = Unit {0}
 Settled (stops why) = Unit {0}
 Settled (goes s) = Unit {0}
 Settled (waits q) = ⊥
@@ -135,6 +138,7 @@ Settled (waits q) = ⊥
 answer-more : {e j : Parts} → e ⊑ j → (N : Next) → NextIn e N → Settled (answer e N) → answer j N ≡ answer e N
 unfolding answer look
 answer-more a demands h t = refl
+answer-more a lacks h t = refl
 answer-more a (stops why) h t = refl
 answer-more a (goes s) h t = refl
 answer-more {e} {j} a (waits q) h t = seen (at e (q .place)) refl t
@@ -152,6 +156,7 @@ next-more p {e} {j} a s h N t g = answer-more a (view p s) (view-in p e s h) (su
 pub answer-waits : (e : Parts) (N : Next) (q : Question) → answer e N ≡ waits q → (N ≡ waits q) × (at e (q .place) ≡ free)
 unfolding answer look
 answer-waits e demands q h = absurd (subst Settled h tt)
+answer-waits e lacks q h = absurd (subst Settled h tt)
 answer-waits e (stops why) q h = absurd (subst Settled h tt)
 answer-waits e (goes s) q h = absurd (subst Settled h tt)
 answer-waits e (waits r) q h = seen (at e (r .place)) refl h
@@ -162,6 +167,7 @@ answer-waits e (waits r) q h = seen (at e (r .place)) refl h
       where
         asked : Next → Question
         asked demands = r
+        asked lacks = r
         asked (stops why) = r
         asked (goes s) = r
         asked (waits y) = y
@@ -197,6 +203,11 @@ unfolding eval conclude
 eval-demands p e zero n s h = rw h
 eval-demands p e (suc left) n s h = rw h
 
+pub eval-lacks : (p : Program) (e : Parts) (left n : ℕ) (s : State) → next p e s ≡ lacks → eval p e left n s ≡ missing n
+unfolding eval conclude
+eval-lacks p e zero n s h = rw h
+eval-lacks p e (suc left) n s h = rw h
+
 pub eval-stops : (p : Program) (e : Parts) (left n : ℕ) (s : State) (why : Stop) → next p e s ≡ stops why → eval p e left n s ≡ ended why n
 unfolding eval conclude
 eval-stops p e zero n s why h = rw h
@@ -219,6 +230,7 @@ eval-spent-wait p e j n s q h = rw (waits-look p e j s q h) (whatever (at j (q .
 -- with no step left it does not halt
 unhalted : (p : Program) (e : Parts) (n : ℕ) (s : State) (N : Next) → next p e s ≡ N → NotHalted (eval p e zero n s)
 unhalted p e n s demands w = rw (eval-demands p e zero n s w) tt
+unhalted p e n s lacks w = rw (eval-lacks p e zero n s w) tt
 unhalted p e n s (stops why) w = rw (eval-stops p e zero n s why w) tt
 unhalted p e n s (goes s′) w = rw (eval-spent p e n s s′ w) tt
 unhalted p e n s (waits q) w = rw (eval-spent-wait p e e n s q w) tt
@@ -235,6 +247,7 @@ module _ (p : Program) {e j : Parts} (a : e ⊑ j) (q : Place) (m : ℕ) (f : at
       → (N : Next) → next p e s ≡ N → HaltMore (suc left) n s
   unfolding HaltMore look
   step-more left n s h ih demands w g = not-halted tt (sym (eval-demands p e (suc left) n s w) ∙ g)
+  step-more left n s h ih lacks w g = not-halted tt (sym (eval-lacks p e (suc left) n s w) ∙ g)
   step-more left n s h ih (stops why) w g = not-halted tt (sym (eval-stops p e (suc left) n s why w) ∙ g)
   step-more left n s h ih (goes s′) w g =
       eval-step p j left n s s′ (next-more p a s h (goes s′) tt w) ∙ ih s′ (next-in p e s h (goes s′) w) (sym (eval-step p e left n s s′ w) ∙ g)
@@ -250,6 +263,7 @@ module _ (p : Program) {e j : Parts} (a : e ⊑ j) (q : Place) (m : ℕ) (f : at
 
 spent-last : (p : Program) (e : Parts) (n : ℕ) (s : State) (N : Next) → next p e s ≡ N → Spent (zero + n) (eval p e zero n s)
 spent-last p e n s demands w = rw (eval-demands p e zero n s w) (omega arith)
+spent-last p e n s lacks w = rw (eval-lacks p e zero n s w) (omega arith)
 spent-last p e n s (stops why) w = rw (eval-stops p e zero n s why w) (omega arith)
 spent-last p e n s (goes s′) w = rw (eval-spent p e n s s′ w) (omega arith)
 spent-last p e n s (waits q) w = rw (eval-spent-wait p e e n s q w) (omega arith)
@@ -257,6 +271,7 @@ spent-last p e n s (waits q) w = rw (eval-spent-wait p e e n s q w) (omega arith
 spent-step : (p : Program) (e : Parts) (left n : ℕ) (s : State) → ((s′ : State) → Spent (left + suc n) (eval p e left (suc n) s′))
     → (N : Next) → next p e s ≡ N → Spent (suc left + n) (eval p e (suc left) n s)
 spent-step p e left n s ih demands w = rw (eval-demands p e (suc left) n s w) (omega arith)
+spent-step p e left n s ih lacks w = rw (eval-lacks p e (suc left) n s w) (omega arith)
 spent-step p e left n s ih (stops why) w = rw (eval-stops p e (suc left) n s why w) (omega arith)
 spent-step p e left n s ih (goes s′) w =
     let z : suc left + n ≡ left + suc n = omega arith in
@@ -283,6 +298,7 @@ closed-settled p j z s q w =
 closed-step : (p : Program) (j : Parts) → Closed j → (left n : ℕ) (s : State) → ((s′ : State) → NotHalted (eval p j left (suc n) s′))
     → (N : Next) → next p j s ≡ N → NotHalted (eval p j (suc left) n s)
 closed-step p j z left n s ih demands w = rw (eval-demands p j (suc left) n s w) tt
+closed-step p j z left n s ih lacks w = rw (eval-lacks p j (suc left) n s w) tt
 closed-step p j z left n s ih (stops why) w = rw (eval-stops p j (suc left) n s why w) tt
 closed-step p j z left n s ih (goes s′) w = rw (eval-step p j left n s s′ w) (ih s′)
 closed-step p j z left n s ih (waits q) w = absurd (closed-settled p j z s q w)

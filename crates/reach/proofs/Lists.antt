@@ -15,7 +15,7 @@ use Rattle.reach.specs.declared.Verdict.{Verdict}
 use Rattle.reach.specs.declared.Verdict.the-variants.{Found, Undecided, None}
 use Rattle.reach.specs.Base.{pick, _∈_}
 use Rattle.reach.specs.declared.Kind.{Kind}
-use Rattle.reach.specs.declared.Kind.the-variants.{RE, UN}
+use Rattle.reach.specs.declared.Kind.the-variants.{RE, UN, MI}
 use Rattle.reach.specs.Search.{Entry, oneMore, countFrom, counts, verdictBy, kindsOf, verdict}
 use Rattle.reach.specs.Lists.{entryBytes, listBytes, Cut, keep, cut}
 use Rattle.reach.proofs.Base.{clash, picked}
@@ -100,6 +100,7 @@ Holds k es = (e : Entry) × (e ∈ es) × (e .kind ≡ k)
 abbrev pub countOf : Kind → Counts → ℕ
 countOf RE c = c .reach
 countOf UN c = c .unfinished
+countOf MI c = c .missing
 
 -- there are some of a kind exactly where some had gone before or an entry of that kind is among them
 some-from : (k : Kind) (c : Counts) (es : List Entry) → (0 < countOf k (countFrom c (kindsOf es))) ↔ ((0 < countOf k c) ⊎ Holds k es)
@@ -115,8 +116,13 @@ some-from k c (x ∷ es) = (
     one : (j i : Kind) (d : Counts) → (0 < countOf j (oneMore i d)) ↔ ((0 < countOf j d) ⊎ (i ≡ j))
     one RE RE d = (λ h. inr refl, λ h. omega arith)
     one RE UN d = (inl, ⊎-elim (λ h. h) (λ same. absurd (clash (cc))))
+    one RE MI d = (inl, ⊎-elim (λ h. h) (λ same. absurd (clash (cc))))
     one UN RE d = (inl, ⊎-elim (λ h. h) (λ same. absurd (clash (cc))))
     one UN UN d = (λ h. inr refl, λ h. omega arith)
+    one UN MI d = (inl, ⊎-elim (λ h. h) (λ same. absurd (clash (cc))))
+    one MI RE d = (inl, ⊎-elim (λ h. h) (λ same. absurd (clash (cc))))
+    one MI UN d = (inl, ⊎-elim (λ h. h) (λ same. absurd (clash (cc))))
+    one MI MI d = (λ h. inr refl, λ h. omega arith)
 
     among : Holds k (x ∷ es) → (0 < countOf k (oneMore (x .kind) c)) ⊎ Holds k es
     among h = ⊎-elim (λ same. inl ((one k (x .kind) c) .1 (inr (cc)))) (λ m. inr (h .0, m, h .2)) (List·Memᴰ·cases-cons (h .1))
@@ -124,18 +130,14 @@ some-from k c (x ∷ es) = (
 some-counted : (k : Kind) (es : List Entry) → (0 < countOf k (counts (kindsOf es))) ↔ Holds k es
 unfolding counts
 some-counted k es = (
-  λ h. ⊎-elim (λ z. absurd (nothing k z)) (λ y. y) ((some-from k (record { reach = 0; unfinished = 0 }) es) .0 h),
-  λ y. (some-from k (record { reach = 0; unfinished = 0 }) es) .1 (inr y),
+  λ h. ⊎-elim (λ z. absurd (nothing k z)) (λ y. y) ((some-from k (record { reach = 0; unfinished = 0; missing = 0 }) es) .0 h),
+  λ y. (some-from k (record { reach = 0; unfinished = 0; missing = 0 }) es) .1 (inr y),
 )
   where
-    nothing : (j : Kind) → 0 < countOf j (record { reach = 0; unfinished = 0 }) → ⊥
+    nothing : (j : Kind) → 0 < countOf j (record { reach = 0; unfinished = 0; missing = 0 }) → ⊥
     nothing RE h = omega arith
     nothing UN h = omega arith
-
-none-counted : (k : Kind) → countOf k (counts []) ≤ 0
-unfolding counts countFrom
-none-counted RE = omega arith
-none-counted UN = omega arith
+    nothing MI h = omega arith
 
 -- the verdict by the counts: the three cases exclude each other
 pub by-reach : (c : Counts) → 0 < c .reach → verdictBy c ≡ Found
@@ -165,7 +167,11 @@ gives c v e = subst (Gives c) e (go (ltb 0 (c .reach)) (ltb 0 (c .unfinished)) r
     go false true a b = (ltb-false 0 (c .reach) a, ltb-true 0 (c .unfinished) b)
     go false false a b = (ltb-false 0 (c .reach) a, ltb-false 0 (c .unfinished) b)
 
--- One more entry: it is found with an RE; with a UN it stays found, and is undecided else.
+-- One more entry: it is found with an RE; with a UN it stays found, and is undecided else; an MI changes nothing.
+pub same-with-missing : (c : Counts) → verdictBy (oneMore MI c) ≡ verdictBy c
+unfolding verdictBy
+same-with-missing c = refl
+
 pub found-with-reach : (c : Counts) → verdictBy (oneMore RE c) ≡ Found
 found-with-reach c = by-reach (oneMore RE c) (omega arith)
 
@@ -188,15 +194,21 @@ pub verdict-more : (es : List Entry) (e : Entry) → verdict (es ++ (e ∷ [])) 
 unfolding verdict counts
 verdict-more es e = ap verdictBy (count-more _ es e)
 
--- the verdict is none exactly where the list is empty
-pub none-empty : (es : List Entry) → (verdict es ≡ None) ↔ (es ≡ [])
-unfolding verdict
-none-empty [] = (λ v. refl, λ e. by-neither (counts []) (none-counted RE) (none-counted UN))
-none-empty (x ∷ es) = (λ v. absurd (some (x .kind) refl (gives _ None v)), λ e. absurd (clash (cc)))
+-- none of a kind is counted where no entry has it
+none-counted : (k : Kind) (es : List Entry) → ¬ Holds k es → countOf k (counts (kindsOf es)) ≤ 0
+none-counted k es not = go (ltb 0 (countOf k (counts (kindsOf es)))) refl
   where
-    some : (k : Kind) → x .kind ≡ k → Gives (counts (kindsOf (x ∷ es))) None → ⊥
-    some RE same neither = omega (arith, (some-counted RE (x ∷ es)) .1 (x, List·Memᴰ·head refl, same))
-    some UN same neither = omega (arith, (some-counted UN (x ∷ es)) .1 (x, List·Memᴰ·head refl, same))
+    go : (t : Bool) → ltb 0 (countOf k (counts (kindsOf es))) ≡ t → countOf k (counts (kindsOf es)) ≤ 0
+    go true e = absurd (not ((some-counted k es) .0 (ltb-true 0 _ e)))
+    go false e = ltb-false 0 _ e
+
+-- the verdict is none exactly with no RE and no UN
+pub none-exactly : (es : List Entry) → (verdict es ≡ None) ↔ (¬ Holds RE es × ¬ Holds UN es)
+unfolding verdict
+none-exactly es = (
+  λ v. let g = gives _ None v in (λ h. omega (arith, g .0, (some-counted RE es) .1 h), λ h. omega (arith, g .1, (some-counted UN es) .1 h)),
+  λ h. by-neither _ (none-counted RE es (h .0)) (none-counted UN es (h .1)),
+)
 
 -- it is found exactly with an RE
 pub found-exactly : (es : List Entry) → (verdict es ≡ Found) ↔ Holds RE es

@@ -8,7 +8,7 @@ use native.Mathlib.Omega.{arith}
 use Rattle.reach.specs.Syntax.{Program}
 use Rattle.reach.specs.Parts.{Parts}
 use Rattle.reach.specs.Types.{Fork, leastDepths}
-use Rattle.reach.specs.Eval.{State, Question, Next, demands, stops, goes, waits, next, start}
+use Rattle.reach.specs.Eval.{State, Question, Next, demands, lacks, stops, goes, waits, next, start}
 use Rattle.reach.specs.Search.{Entry, gather, inputBehind, stateBehind, search, openInput, entries}
 use Rattle.reach.specs.Moves.{Choice, Position, on, over, Walk, settle, arrive, takeFork, return, moveFrom, move, moves, opening, total, countNext, pathMoves, choicesMoves, owedMovesFrom, owedMoves, finished}
 
@@ -22,6 +22,7 @@ flatMap-none f g h (x ∷ xs) e = rw (h x (omega arith), flatMap-none f g h xs (
 count-none : (x : Next) → countNext (λ s. 0) (λ q. 0) x ≡ 0
 unfolding countNext
 count-none demands = refl
+count-none lacks = refl
 count-none (stops why) = refl
 count-none (goes s) = refl
 count-none (waits q) = refl
@@ -63,6 +64,7 @@ module _ (p : Program) (table : List ℕ) where
       → Adds cs es (settle go fork n input cs es x) (gather goEntries forkEntries n input x) (countNext goMoves forkMoves x)
   unfolding settle gather countNext owed owedFrom owedMoves owedMovesFrom
   settle-adds go fork goEntries forkEntries goMoves forkMoves n input cs es hg hf demands = (append-assoc es _ _, omega arith)
+  settle-adds go fork goEntries forkEntries goMoves forkMoves n input cs es hg hf lacks = (append-assoc es _ _, omega arith)
   settle-adds go fork goEntries forkEntries goMoves forkMoves n input cs es hg hf (stops why) = (append-assoc es _ _, omega arith)
   settle-adds go fork goEntries forkEntries goMoves forkMoves n input cs es hg hf (goes s) = hg s
   settle-adds go fork goEntries forkEntries goMoves forkMoves n input cs es hg hf (waits q) = hf q

@@ -18,7 +18,7 @@ use Rattle.reach.specs.Syntax.{variable, call, construct, case, letIn, t
 use Rattle.reach.specs.Parts.{Parts, end, opened, bound, Place, here, after, inside, part, within, Seen, gone, free, has, at, There}
 use Rattle.reach.specs.Types.{Typed, Slot, slotTypes, sourceSlots, fieldSlots, slotAt}
 use Rattle.reach.specs.Encoding.{countAlternatives}
-use Rattle.reach.specs.Eval.{Row, parameters, fieldsOf, partOf, Env, empty, operands, inputParts, size, Closure, suspended, inputPart, suspend, lookup, Frame, waiting, State, evaluating, inspecting, missing, stuck, resume, choose, enter, Question, answered, Stop, value, noAlternative, unknown, Next, demands, stops, goes, waits, view, look, answer, next, Run, reached, ended, unfinished, halted, conclude, eval, startOf, start, run}
+use Rattle.reach.specs.Eval.{Row, parameters, fieldsOf, partOf, Env, empty, operands, inputParts, size, Closure, suspended, inputPart, suspend, lookup, Frame, waiting, State, evaluating, inspecting, uncovered, stuck, resume, choose, enter, Question, answered, Stop, value, unknown, Next, demands, lacks, stops, goes, waits, view, look, answer, next, Run, reached, ended, unfinished, missing, halted, conclude, eval, startOf, start, run}
 use Rattle.reach.specs.Answers.{accepted, check}
 use Rattle.reach.proofs.Order.{constructorOf, arityOf, free-unbound}
 use Rattle.reach.proofs.Slots.{types-nth, part-slot, field-types, source-types}
@@ -135,14 +135,14 @@ module _ (p : Program) (i : Parts) where
   abbrev pub StateHas : State → Type 0
   StateHas (evaluating e env fs) = (view : List ℕ) × (t : ℕ) × EnvHas env view × HasType (p .types) (signatures p) e view t × FramesHave fs t
   StateHas (inspecting q fs) = (t : ℕ) × PartHas p i q t × FramesHave fs t
-  StateHas missing = Unit {0}
+  StateHas uncovered = Unit {0}
   StateHas stuck = ⊥
 
   -- what comes next is typed, and no end at a number that names nothing
   abbrev NextHas : Next → Type 0
   NextHas demands = Unit {0}
+  NextHas lacks = Unit {0}
   NextHas (stops value) = Unit {0}
-  NextHas (stops noAlternative) = Unit {0}
   NextHas (stops unknown) = ⊥
   NextHas (goes s) = StateHas s
   NextHas (waits q) = (t : ℕ) × PartHas p i (q .place) t × FramesHave (waiting (q .alternatives) (q .environment) ∷ q .frames) t
@@ -242,7 +242,7 @@ module _ (p : Program) (i : Parts) where
         picked false k = k
     view-has (inspecting q []) h = tt
     view-has (inspecting q (waiting alts env ∷ fs)) h = h
-    view-has missing h = tt
+    view-has uncovered h = tt
     view-has stuck h = absurd h
 
   module _ (input : Typed (p .types) (sourceTypes p) i) where
@@ -256,6 +256,7 @@ module _ (p : Program) (i : Parts) where
     answer-has : (N : Next) → NextHas N → NextHas (answer i N)
     unfolding answer look answered fieldTypes
     answer-has demands h = tt
+    answer-has lacks h = tt
     answer-has (stops why) h = h
     answer-has (goes s) h = h
     answer-has (waits q) h = seen (at i (q .place)) refl
@@ -334,17 +335,18 @@ module _ (p : Program) (i : Parts) where
       met c k w =
           let (us, e, many, row) = part-fields p i input q t c k place w in
           chooses t c us alts outer (inputParts outer (fieldsOf q) k) on e (ap (_+_ (size outer)) many)
-  has-sound input missing h = tt
+  has-sound input uncovered h = tt
   has-sound input stuck h = absurd h
 
--- 01, "ended": a constructor or a part of the input with no case waiting, or a missing alternative
+-- "ended": a constructor or a part of the input with no case waiting
 abbrev pub Met : Stop → Type 0
-Met why = (why ≡ value) ⊎ (why ≡ noAlternative)
+Met why = why ≡ value
 
 abbrev EndMet : Run → Type 0
 EndMet (reached n) = Unit {0}
 EndMet (ended why n) = Met why
 EndMet (unfinished n) = Unit {0}
+EndMet (missing n) = Unit {0}
 EndMet (halted q n) = Unit {0}
 
 module _ (file : List ℕ) (p : Program) (h : check file ≡ accepted p) (i : Parts) (input : Typed (p .types) (sourceTypes p) i) where
@@ -370,13 +372,12 @@ module _ (file : List ℕ) (p : Program) (h : check file ≡ accepted p) (i : Pa
         (t, place, case-on p i t (q .alternatives) (q .environment) vs r g covers),
   )
 
-  -- where an evaluation stops it has met a value or a missing alternative
+  -- where an evaluation stops it has met a value
   pub stops-means : {n : ℕ} {s : State} → Steps p i n s → (why : Stop) → next p i s ≡ stops why → Met why
   stops-means before why e = by-cause why (subst (NextHas p i) e (comes-typed before))
     where
       by-cause : (why : Stop) → NextHas p i (stops why) → Met why
-      by-cause value k = inl refl
-      by-cause noAlternative k = inr refl
+      by-cause value k = refl
       by-cause unknown k = absurd k
 
   concluded :
@@ -387,6 +388,7 @@ module _ (file : List ℕ) (p : Program) (h : check file ≡ accepted p) (i : Pa
     where
       by-next : (N : Next) → next p i s ≡ N → EndMet (conclude go wait n N)
       by-next demands e = tt
+      by-next lacks e = tt
       by-next (stops why) e = stops-means before why e
       by-next (goes s′) e = on s′ e
       by-next (waits q) e = halts q
@@ -396,7 +398,7 @@ module _ (file : List ℕ) (p : Program) (h : check file ≡ accepted p) (i : Pa
   eval-means zero before = concluded before _ _ (λ s′ e. tt) (λ q. tt)
   eval-means (suc left) before = concluded before _ _ (λ s′ e. eval-means left (one-more before e)) (λ q. tt)
 
-  -- a run that ended did so at a value, or at a missing alternative
+  -- a run that ended did so at a value
   pub ended-means : (why : Stop) (n : ℕ) → run p i ≡ ended why n → Met why
   unfolding run
   ended-means why n e = subst EndMet e (eval-means (p .steps) no-step)

@@ -18,7 +18,7 @@ use Rattle.reach.specs.Syntax.{Program}
 use Rattle.reach.specs.Parts.{prefix}
 use Rattle.reach.specs.Places.{wordAt}
 use Rattle.reach.specs.declared.Kind.{Kind}
-use Rattle.reach.specs.declared.Kind.the-variants.{RE, UN}
+use Rattle.reach.specs.declared.Kind.the-variants.{RE, UN, MI}
 use Rattle.reach.specs.Search.{Entry, entries}
 use Rattle.reach.specs.Lists.{wordBytes, kindBytes, entryBytes, listBytes, onFound, roomOf, written, isMark, kindOf, knownMark, kindAt, entrySize, entrySpan, entryPart, Decoded, sayingOf, decoded}
 use Rattle.reach.specs.Answers.{accepted, check, SearchAnswer, noSearch, complete, cutShort, searchAnswer, listed}
@@ -167,6 +167,7 @@ size-marked : (k : Kind) (s : ℕ) (p rest : List ℕ) → length p < 65536 → 
 unfolding kindBytes wordBytes isMark kindOf knownMark
 size-marked RE s p rest small = size-headed 0x52 0x45 (s % 256) (s / 256 % 256) p rest refl small
 size-marked UN s p rest small = size-headed 0x55 0x4e (s % 256) (s / 256 % 256) p rest refl small
+size-marked MI s p rest small = size-headed 0x4d 0x49 (s % 256) (s / 256 % 256) p rest refl small
 
 -- so an entry is found where its bytes stand, and fills them
 pub size-of-entry : (e : Entry) (before rest : List ℕ) → length (prefix (e .input)) < 65536
@@ -309,6 +310,7 @@ decoded-marked : (k : Kind) (s : ℕ) (p : List ℕ) → s < 65536 → decoded (
 unfolding decoded kindBytes isMark kindOf kindAt wordBytes wordAt
 decoded-marked RE s p small = rw (two-bytes s small)
 decoded-marked UN s p small = rw (two-bytes s small)
+decoded-marked MI s p small = rw (two-bytes s small)
 
 -- an entry whose steps fit two bytes is decoded from its bytes
 pub decoded-entry : (e : Entry) → e .steps < 65536 → decoded (entryBytes e) ≡ sayingOf e

@@ -13,7 +13,7 @@ use Rattle.reach.specs.declared.Refusal.{Refusal}
 use Rattle.reach.specs.Base.{_∈_}
 use Rattle.reach.specs.Limits.{listLimit}
 use Rattle.reach.specs.declared.Kind.{Kind}
-use Rattle.reach.specs.declared.Kind.the-variants.{RE, UN}
+use Rattle.reach.specs.declared.Kind.the-variants.{RE, UN, MI}
 use Rattle.reach.specs.Search.{Entry}
 use Rattle.reach.specs.Lists.{kindBytes, entryBytes, listBytes, entrySize, Decoded, sayingOf, decodedFrom}
 use Rattle.reach.specs.Answers.{Checked, accepted, turnedBack, check, SearchAnswer, noSearch, complete, cutShort, searchChecked, searchAnswer, listed}
@@ -50,6 +50,7 @@ kind-some : (k : Kind) (s : List ℕ) → 1 ≤ length (kindBytes k ++ s)
 unfolding kindBytes
 kind-some RE s = omega arith
 kind-some UN s = omega arith
+kind-some MI s = omega arith
 
 entry-some : (e : Entry) → 1 ≤ length (entryBytes e)
 unfolding entryBytes

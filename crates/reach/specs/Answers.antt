@@ -9,13 +9,13 @@ use lib.Dec.{leb}
 use Rattle.reach.specs.declared.Refusal.{Refusal}
 use Rattle.reach.specs.declared.Refusal.the-variants.{BadInput, WorkTooShort, ListFull}
 use Rattle.reach.specs.declared.Outcome.{Outcome}
-use Rattle.reach.specs.declared.Outcome.the-variants.{Reached, Ended, Unfinished}
+use Rattle.reach.specs.declared.Outcome.the-variants.{Reached, Ended, Unfinished, Missing}
 use Rattle.reach.specs.declared.Verdict.{Verdict}
 use Rattle.reach.specs.Base.{pick}
 use Rattle.reach.specs.Limits.{workWords}
 use Rattle.reach.specs.Syntax.{Program}
 use Rattle.reach.specs.Parts.{Parts}
-use Rattle.reach.specs.Eval.{Run, reached, ended, unfinished, halted, run}
+use Rattle.reach.specs.Eval.{Run, reached, ended, unfinished, missing, halted, run}
 use Rattle.reach.specs.Search.{Entry, entries, verdict}
 use Rattle.reach.specs.Reader.{refused, onGot}
 use Rattle.reach.specs.RuleFile.{ruleFile}
@@ -74,12 +74,13 @@ pub data RunAnswer : Type 0 where
   noRun : Refusal → RunAnswer
   ran : Outcome → RunAnswer
 
--- the end of a closed run as it is answered: every way to stop off target is `ended`. (A closed input never halts; a halt would be neither reached nor
+-- the end of a closed run as it is answered. (A closed input never halts; a halt would be neither reached nor
 -- unfinished, so that it counts here as in `StopsInside`.)
 unfoldable pub outcomeOf : Run → Outcome
 outcomeOf (reached n) = Reached n
 outcomeOf (ended why n) = Ended n
 outcomeOf (unfinished n) = Unfinished n
+outcomeOf (missing n) = Missing n
 outcomeOf (halted q n) = Ended n
 
 unfoldable pub runInput : Program → ℕ → Option Parts → RunAnswer

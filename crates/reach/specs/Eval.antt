@@ -57,7 +57,7 @@ pub data State : Type 0 where
   evaluating : Expr → Env → List Frame → State
   inspecting : Place → List Frame → State
   -- an alternative was missing
-  missing : State
+  uncovered : State
   -- a number named nothing: a checked file has no such state
   stuck : State
 
@@ -69,7 +69,7 @@ resume (some (inputPart q)) fs = inspecting q fs
 -- the alternative for constructor c, in the environment with its fields
 unfoldable pub choose : Alternatives → ℕ → Env → List Frame → State
 choose no-more c env fs = stuck
-choose (absent alts) zero env fs = missing
+choose (absent alts) zero env fs = uncovered
 choose (absent alts) (suc c) env fs = choose alts c env fs
 choose (present e alts) zero env fs = evaluating e env fs
 choose (present e alts) (suc c) env fs = choose alts c env fs
@@ -89,25 +89,27 @@ pub record Question : Type 0 where
 unfoldable pub answered : Question → ℕ → ℕ → State
 answered q c k = choose (q .alternatives) c (inputParts (q .environment) (fieldsOf (q .place)) k) (q .frames)
 
--- Why an evaluation ends off target: at a constructor or an input part with no case waiting, at a missing alternative, or at a number that names nothing.
+-- Why an evaluation ends off target: at a constructor or an input part with no case waiting, or at a number that names nothing.
 pub data Stop : Type 0 where
   value : Stop
-  noAlternative : Stop
   unknown : Stop
 
--- What comes next: the sought target is demanded; the end; one step to a state; or a case waits on an input part.
+-- What comes next: the sought target is demanded; a case has no alternative; the end; one step to a state; or a case waits on an input part.
 pub data Next : Type 0 where
   demands : Next
+  lacks : Next
   stops : Stop → Next
   goes : State → Next
   waits : Question → Next
 
--- by what comes next: something for the demanded target, for the end, for the state of the next step, and for the case that waits
-abbrev pub onNext : {A : Type 0} → A → (Stop → A) → (State → A) → (Question → A) → Next → A
-onNext demanded stopped go wait demands = demanded
-onNext demanded stopped go wait (stops why) = stopped why
-onNext demanded stopped go wait (goes s) = go s
-onNext demanded stopped go wait (waits q) = wait q
+-- by what comes next: something for the demanded target, for the missing alternative, for the end, for the state of the next step, and for the case that
+-- waits
+abbrev pub onNext : {A : Type 0} → A → A → (Stop → A) → (State → A) → (Question → A) → Next → A
+onNext demanded lacking stopped go wait demands = demanded
+onNext demanded lacking stopped go wait lacks = lacking
+onNext demanded lacking stopped go wait (stops why) = stopped why
+onNext demanded lacking stopped go wait (goes s) = go s
+onNext demanded lacking stopped go wait (waits q) = wait q
 
 -- what comes next as far as the state alone tells: it waits on whatever part of the input a case looks at
 unfoldable pub view : Program → State → Next
@@ -120,7 +122,7 @@ view p (evaluating (letIn t e body) env fs) = goes (evaluating body (operands en
 view p (evaluating (target l e) env fs) = pick (eqb l (p .label)) demands (goes (evaluating e env fs))
 view p (inspecting q []) = stops value
 view p (inspecting q (waiting alts env ∷ fs)) = waits (record { place = q; alternatives = alts; environment = env; frames = fs })
-view p missing = stops noAlternative
+view p uncovered = lacks
 view p stuck = stops unknown
 
 unfoldable pub look : Question → Seen → Next
@@ -129,7 +131,7 @@ look q free = waits q
 look q (has c k) = goes (answered q c k)
 
 unfoldable pub answer : Parts → Next → Next
-answer input n = onNext demands stops goes (λ q. look q (at input (q .place))) n
+answer input n = onNext demands lacks stops goes (λ q. look q (at input (q .place))) n
 
 -- what comes next on this input: it waits only where the part is open
 unfoldable pub next : Program → Parts → State → Next
@@ -140,11 +142,12 @@ pub data Run : Type 0 where
   reached : ℕ → Run
   ended : Stop → ℕ → Run
   unfinished : ℕ → Run
+  missing : ℕ → Run
   halted : Place → ℕ → Run
 
 -- the end after n steps, or what goes on from there
 unfoldable pub conclude : (State → Run) → (Question → Run) → ℕ → Next → Run
-conclude go wait n next = onNext (reached n) (λ why. ended why n) go wait next
+conclude go wait n next = onNext (reached n) (missing n) (λ why. ended why n) go wait next
 
 -- the evaluation on an input, with so many steps left and n done
 unfoldable pub eval : Program → Parts → ℕ → ℕ → State → Run
@@ -168,11 +171,13 @@ abbrev pub Spent : ℕ → Run → Type 0
 Spent limit (reached m) = m ≤ limit
 Spent limit (ended why m) = m ≤ limit
 Spent limit (unfinished m) = m ≡ limit
+Spent limit (missing m) = m ≤ limit
 Spent limit (halted q m) = m < limit
 
--- it did not halt: it is reached, ended or unfinished
+-- it did not halt: it is reached, ended, unfinished or missing
 abbrev pub NotHalted : Run → Type 0
 NotHalted (reached m) = Unit {0}
 NotHalted (ended why m) = Unit {0}
 NotHalted (unfinished m) = Unit {0}
+NotHalted (missing m) = Unit {0}
 NotHalted (halted q m) = ⊥

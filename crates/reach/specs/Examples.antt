@@ -9,10 +9,10 @@ use mathlib.Core.List.{List, [], _∷_, map}
 use mathlib.Core.Option.{Option, none, some, Option·map}
 use Rattle.reach.specs.declared.Refusal.the-variants.{WorkTooShort}
 use Rattle.reach.specs.declared.Kind.{Kind}
-use Rattle.reach.specs.declared.Kind.the-variants.{RE, UN}
+use Rattle.reach.specs.declared.Kind.the-variants.{RE, UN, MI}
 use Rattle.reach.specs.declared.Verdict.{Verdict}
 use Rattle.reach.specs.declared.Verdict.the-variants.{Found, Undecided, None}
-use Rattle.reach.specs.declared.Outcome.the-variants.{Reached, Ended, Unfinished}
+use Rattle.reach.specs.declared.Outcome.the-variants.{Reached, Ended, Unfinished, Missing}
 use Rattle.reach.specs.Words.{numberOf}
 use Rattle.reach.specs.Syntax
 use Rattle.reach.specs.Parts
@@ -98,12 +98,15 @@ infix 70 _⇒_
 abbrev pub _⇒_ : Asked → Answer → Row
 _⇒_ a b = record { asked = a; expected = b }
 
--- as `reachlist` prints them: `reach`, `unfinished`, and `_` for an open part
+-- as `reachlist` prints them: `reach`, `unfinished`, `missing`, and `_` for an open part
 abbrev reach : ℕ → List ℕ → Line
 reach n s = (RE, n, s)
 
 abbrev unfinished : ℕ → List ℕ → Line
 unfinished n s = (UN, n, s)
+
+abbrev missing : ℕ → List ℕ → Line
+missing n s = (MI, n, s)
 
 abbrev ○ : ℕ
 ○ = 0xff
@@ -135,9 +138,9 @@ lacking s =
 abbrev pub at-missing : List Row
 at-missing =
     search-of (lacking 1) ⇒ lists (unfinished 1 (○ ∷ []) ∷ []) Undecided
-    ∷ search-of (lacking 2) ⇒ lists [] None
+    ∷ search-of (lacking 2) ⇒ lists (missing 2 (○ ∷ []) ∷ []) None
     ∷ run-of (lacking 1) (0 ∷ []) ⇒ answers (ran (Unfinished 1))
-    ∷ run-of (lacking 2) (0 ∷ []) ⇒ answers (ran (Ended 2))
+    ∷ run-of (lacking 2) (0 ∷ []) ⇒ answers (ran (Missing 2))
     ∷ []
 
 -- P's list has 9 bytes, and its S of 20 asks for 2,304 words: with one less the search is refused, and a closed run too
@@ -152,16 +155,16 @@ rooms =
     ∷ []
 
 -- what `reachlist` prints of P, of P with S 5 and with D 2, of P with a list slice that is one too short, and of an empty file:
--- "reach 6 1 1 _" / "total 1 0 0 found"
--- "unfinished 5 1 _" / "total 0 1 100 undecided"
--- "total 0 0 0 none"
+-- "reach 6 1 1 _" / "total 1 0 0 0 found"
+-- "unfinished 5 1 _" / "total 0 1 0 100 undecided"
+-- "total 0 0 0 0 none"
 -- "refused 12"
 -- "refused 1"
 abbrev pub printed : List Row
 printed =
-    text-of (p-with 7 4 20) ⇒ bytes (0x72 ∷ 0x65 ∷ 0x61 ∷ 0x63 ∷ 0x68 ∷ 0x20 ∷ 0x36 ∷ 0x20 ∷ 0x31 ∷ 0x20 ∷ 0x31 ∷ 0x20 ∷ 0x5f ∷ 0x0a ∷ 0x74 ∷ 0x6f ∷ 0x74 ∷ 0x61 ∷ 0x6c ∷ 0x20 ∷ 0x31 ∷ 0x20 ∷ 0x30 ∷ 0x20 ∷ 0x30 ∷ 0x20 ∷ 0x66 ∷ 0x6f ∷ 0x75 ∷ 0x6e ∷ 0x64 ∷ 0x0a ∷ [])
-    ∷ text-of (p-with 7 4 5) ⇒ bytes (0x75 ∷ 0x6e ∷ 0x66 ∷ 0x69 ∷ 0x6e ∷ 0x69 ∷ 0x73 ∷ 0x68 ∷ 0x65 ∷ 0x64 ∷ 0x20 ∷ 0x35 ∷ 0x20 ∷ 0x31 ∷ 0x20 ∷ 0x5f ∷ 0x0a ∷ 0x74 ∷ 0x6f ∷ 0x74 ∷ 0x61 ∷ 0x6c ∷ 0x20 ∷ 0x30 ∷ 0x20 ∷ 0x31 ∷ 0x20 ∷ 0x31 ∷ 0x30 ∷ 0x30 ∷ 0x20 ∷ 0x75 ∷ 0x6e ∷ 0x64 ∷ 0x65 ∷ 0x63 ∷ 0x69 ∷ 0x64 ∷ 0x65 ∷ 0x64 ∷ 0x0a ∷ [])
-    ∷ text-of (p-with 7 2 20) ⇒ bytes (0x74 ∷ 0x6f ∷ 0x74 ∷ 0x61 ∷ 0x6c ∷ 0x20 ∷ 0x30 ∷ 0x20 ∷ 0x30 ∷ 0x20 ∷ 0x30 ∷ 0x20 ∷ 0x6e ∷ 0x6f ∷ 0x6e ∷ 0x65 ∷ 0x0a ∷ [])
+    text-of (p-with 7 4 20) ⇒ bytes (0x72 ∷ 0x65 ∷ 0x61 ∷ 0x63 ∷ 0x68 ∷ 0x20 ∷ 0x36 ∷ 0x20 ∷ 0x31 ∷ 0x20 ∷ 0x31 ∷ 0x20 ∷ 0x5f ∷ 0x0a ∷ 0x74 ∷ 0x6f ∷ 0x74 ∷ 0x61 ∷ 0x6c ∷ 0x20 ∷ 0x31 ∷ 0x20 ∷ 0x30 ∷ 0x20 ∷ 0x30 ∷ 0x20 ∷ 0x30 ∷ 0x20 ∷ 0x66 ∷ 0x6f ∷ 0x75 ∷ 0x6e ∷ 0x64 ∷ 0x0a ∷ [])
+    ∷ text-of (p-with 7 4 5) ⇒ bytes (0x75 ∷ 0x6e ∷ 0x66 ∷ 0x69 ∷ 0x6e ∷ 0x69 ∷ 0x73 ∷ 0x68 ∷ 0x65 ∷ 0x64 ∷ 0x20 ∷ 0x35 ∷ 0x20 ∷ 0x31 ∷ 0x20 ∷ 0x5f ∷ 0x0a ∷ 0x74 ∷ 0x6f ∷ 0x74 ∷ 0x61 ∷ 0x6c ∷ 0x20 ∷ 0x30 ∷ 0x20 ∷ 0x31 ∷ 0x20 ∷ 0x30 ∷ 0x20 ∷ 0x31 ∷ 0x30 ∷ 0x30 ∷ 0x20 ∷ 0x75 ∷ 0x6e ∷ 0x64 ∷ 0x65 ∷ 0x63 ∷ 0x69 ∷ 0x64 ∷ 0x65 ∷ 0x64 ∷ 0x0a ∷ [])
+    ∷ text-of (p-with 7 2 20) ⇒ bytes (0x74 ∷ 0x6f ∷ 0x74 ∷ 0x61 ∷ 0x6c ∷ 0x20 ∷ 0x30 ∷ 0x20 ∷ 0x30 ∷ 0x20 ∷ 0x30 ∷ 0x20 ∷ 0x30 ∷ 0x20 ∷ 0x6e ∷ 0x6f ∷ 0x6e ∷ 0x65 ∷ 0x0a ∷ [])
     ∷ text-of (p-with 7 4 20) with-list 8 ⇒ bytes (0x72 ∷ 0x65 ∷ 0x66 ∷ 0x75 ∷ 0x73 ∷ 0x65 ∷ 0x64 ∷ 0x20 ∷ 0x31 ∷ 0x32 ∷ 0x0a ∷ [])
     ∷ text-of [] ⇒ bytes (0x72 ∷ 0x65 ∷ 0x66 ∷ 0x75 ∷ 0x73 ∷ 0x65 ∷ 0x64 ∷ 0x20 ∷ 0x31 ∷ 0x0a ∷ [])
     ∷ []

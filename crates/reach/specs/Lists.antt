@@ -7,7 +7,7 @@ use mathlib.Core.Option.{Option, none, some}
 use lib.ListN.{length, getD, take, drop}
 use lib.Dec.{leb, eqb}
 use Rattle.reach.specs.declared.Kind.{Kind}
-use Rattle.reach.specs.declared.Kind.the-variants.{RE, UN}
+use Rattle.reach.specs.declared.Kind.the-variants.{RE, UN, MI}
 use Rattle.reach.specs.Base.{pick}
 use Rattle.reach.specs.Limits.{listLimit}
 use Rattle.reach.specs.Parts.{prefix}
@@ -22,6 +22,7 @@ wordBytes n = n % 256 ∷ n / 256 % 256 ∷ []
 unfoldable pub kindBytes : Kind → List ℕ
 kindBytes RE = 0x52 ∷ 0x45 ∷ []
 kindBytes UN = 0x55 ∷ 0x4e ∷ []
+kindBytes MI = 0x4d ∷ 0x49 ∷ []
 
 -- mark, steps, length in bytes of what follows, the parameters in prefix form
 unfoldable pub entryBytes : Entry → List ℕ
@@ -66,7 +67,7 @@ isMark k a b = eqb a (getD (kindBytes k) 0 0) && eqb b (getD (kindBytes k) 1 0)
 
 -- the kind whose mark two bytes are, if they are one
 unfoldable pub kindOf : ℕ → ℕ → Option Kind
-kindOf a b = pick (isMark RE a b) (some RE) (pick (isMark UN a b) (some UN) none)
+kindOf a b = pick (isMark RE a b) (some RE) (pick (isMark UN a b) (some UN) (pick (isMark MI a b) (some MI) none))
 
 -- a mark is known if it is that of a kind
 unfoldable pub knownMark : ℕ → ℕ → Bool

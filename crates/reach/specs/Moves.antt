@@ -4,12 +4,12 @@
 use Prim.Native.Nat.{ℕ, zero, suc, _+_}
 use mathlib.Core.List.{List, [], _∷_, _++_}
 use Rattle.reach.specs.Syntax.{Program}
-use Rattle.reach.specs.declared.Kind.the-variants.{RE}
-use Rattle.reach.specs.declared.PathEnd.the-variants.{Listed}
+use Rattle.reach.specs.declared.Kind.the-variants.{RE, MI}
+use Rattle.reach.specs.declared.PathEnd.the-variants.{Unlisted, Listed}
 use Rattle.reach.specs.Parts.{Parts}
 use Rattle.reach.specs.Types.{Fork, leastDepths}
 use Rattle.reach.specs.Eval.{State, Question, Next, onNext, next, start}
-use Rattle.reach.specs.Search.{Entry, listing, offTarget, spent, branches, inputBehind, stateBehind, openInput}
+use Rattle.reach.specs.Search.{Entry, listing, spent, branches, inputBehind, stateBehind, openInput}
 
 -- A path under way: what it goes on to, the steps left and done, and its partial input.
 pub record Going : Type 0 where
@@ -44,7 +44,7 @@ behind cs es = record { position = over; choices = cs; listed = es }
 -- the end of a path that is n steps long, listed at once, or what it goes on to
 unfoldable pub settle : (State → Walk) → (Question → Walk) → ℕ → Parts → List Choice → List Entry → Next → Walk
 settle go fork n input cs es next =
-    onNext (behind cs (es ++ listing (Listed RE) n input)) (λ why. behind cs (es ++ listing (offTarget why) n input)) go fork next
+    onNext (behind cs (es ++ listing (Listed RE) n input)) (behind cs (es ++ listing (Listed MI) n input)) (λ why. behind cs (es ++ listing Unlisted n input)) go fork next
 
 -- a path arrives at a state, with so many steps left and n done; one that waits becomes a choice point
 unfoldable pub arrive : Program → List ℕ → ℕ → ℕ → Parts → State → List Choice → List Entry → Walk
@@ -96,7 +96,7 @@ total f (x ∷ xs) = f x + total f xs
 
 -- no move behind the end of a path, or the moves of what it goes on to
 unfoldable pub countNext : (State → ℕ) → (Question → ℕ) → Next → ℕ
-countNext go fork next = onNext 0 (λ why. 0) go fork next
+countNext go fork next = onNext 0 0 (λ why. 0) go fork next
 
 module _ (p : Program) (table : List ℕ) where
   -- the moves that follow on the arrival at a state, with so many steps left: one for each step, and one for each constructor of a fork

@@ -5,7 +5,7 @@ use mathlib.Core.List.{List, [], _∷_, map, flatMap}
 use lib.ListN.{length}
 use lib.Dec.{ltb}
 use Rattle.reach.specs.declared.Kind.{Kind}
-use Rattle.reach.specs.declared.Kind.the-variants.{RE, UN}
+use Rattle.reach.specs.declared.Kind.the-variants.{RE, UN, MI}
 use Rattle.reach.specs.declared.PathEnd.{PathEnd}
 use Rattle.reach.specs.declared.PathEnd.the-variants.{Unlisted, Listed}
 use Rattle.reach.specs.declared.Counts.{Counts}
@@ -15,7 +15,7 @@ use Rattle.reach.specs.Base.{pick}
 use Rattle.reach.specs.Syntax.{Program, sourceTypes}
 use Rattle.reach.specs.Parts.{Parts, allOpen, bindAt}
 use Rattle.reach.specs.Types.{Fork, forksAt, slotAt, sourceSlots, leastDepths}
-use Rattle.reach.specs.Eval.{State, Question, answered, Stop, Next, onNext, next, start, Run, reached, ended, unfinished, halted}
+use Rattle.reach.specs.Eval.{State, Question, answered, Stop, Next, onNext, next, start, Run, reached, ended, unfinished, missing, halted}
 
 -- An entry: its kind, its steps, and the partial input.
 pub record Entry : Type 0 where
@@ -27,12 +27,21 @@ pub record Entry : Type 0 where
 abbrev pub says : Kind → ℕ → Run
 says RE n = reached n
 says UN n = unfinished n
+says MI n = missing n
 
 -- the ends that a list is to show
+abbrev pub Shown : Run → Type 0
+Shown (reached n) = Unit {0}
+Shown (ended why n) = ⊥
+Shown (unfinished n) = Unit {0}
+Shown (missing n) = Unit {0}
+Shown (halted q n) = ⊥
+
 abbrev pub ReachedOrUnfinished : Run → Type 0
 ReachedOrUnfinished (reached n) = Unit {0}
 ReachedOrUnfinished (ended why n) = ⊥
 ReachedOrUnfinished (unfinished n) = Unit {0}
+ReachedOrUnfinished (missing n) = ⊥
 ReachedOrUnfinished (halted q n) = ⊥
 
 -- 01: a closed input stops inside the step limit without demanding the target if it is neither reached nor unfinished
@@ -44,13 +53,9 @@ abbrev pub listing : PathEnd → ℕ → Parts → List Entry
 listing Unlisted n input = []
 listing (Listed kind) n input = record { kind = kind; steps = n; input = input } ∷ []
 
--- where it ends off target it lists nothing
-abbrev pub offTarget : Stop → PathEnd
-offTarget why = Unlisted
-
 -- the entries of a path that is n steps long, or those of what goes on from there
 unfoldable pub gather : (State → List Entry) → (Question → List Entry) → ℕ → Parts → Next → List Entry
-gather go fork n input next = onNext (listing (Listed RE) n input) (λ why. listing (offTarget why) n input) go fork next
+gather go fork n input next = onNext (listing (Listed RE) n input) (listing (Listed MI) n input) (λ why. listing Unlisted n input) go fork next
 
 -- a path that has used its steps
 abbrev pub spent : ℕ → Parts → List Entry
@@ -88,17 +93,18 @@ entries p = search p (leastDepths (p .types)) (p .steps) 0 (openInput p) (start 
 
 -- one more of a kind
 abbrev pub oneMore : Kind → Counts → Counts
-oneMore RE c = record { reach = c .reach + 1; unfinished = c .unfinished }
-oneMore UN c = record { reach = c .reach; unfinished = c .unfinished + 1 }
+oneMore RE c = record { reach = c .reach + 1; unfinished = c .unfinished; missing = c .missing }
+oneMore UN c = record { reach = c .reach; unfinished = c .unfinished + 1; missing = c .missing }
+oneMore MI c = record { reach = c .reach; unfinished = c .unfinished; missing = c .missing + 1 }
 
 -- these kinds counted, where so many of each have gone before
 unfoldable pub countFrom : Counts → List Kind → Counts
 countFrom c [] = c
 countFrom c (k ∷ ks) = countFrom (oneMore k c) ks
 
--- how many of these kinds are `RE`, and how many `UN`
+-- how many of these kinds are `RE`, how many `UN`, and how many `MI`
 unfoldable pub counts : List Kind → Counts
-counts ks = countFrom (record { reach = 0; unfinished = 0 }) ks
+counts ks = countFrom (record { reach = 0; unfinished = 0; missing = 0 }) ks
 
 -- found with an RE, else undecided with a UN, else none
 unfoldable pub verdictBy : Counts → Verdict

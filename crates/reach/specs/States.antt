@@ -10,7 +10,7 @@ use Rattle.reach.specs.Syntax.{variable, call, construct, case, letIn, t
 use Rattle.reach.specs.Parts.{Parts, Place, has, at, There}
 use Rattle.reach.specs.Types.{sourceSlots, slotAt}
 use Rattle.reach.specs.Encoding.{countAlternatives}
-use Rattle.reach.specs.Eval.{fieldsOf, partOf, Env, empty, operands, inputParts, size, Closure, lookup, Frame, waiting, State, evaluating, inspecting, missing, stuck, goes, next, start}
+use Rattle.reach.specs.Eval.{fieldsOf, partOf, Env, empty, operands, inputParts, size, Closure, lookup, Frame, waiting, State, evaluating, inspecting, uncovered, stuck, goes, next, start}
 use Rattle.reach.specs.Typing.{signatures, Covers}
 
 -- Every place that a state speaks of is there in the input.
@@ -27,7 +27,7 @@ FramesIn e (waiting alts env ∷ fs) = EnvIn e env × FramesIn e fs
 abbrev pub StateIn : Parts → State → Type 0
 StateIn e (evaluating x env fs) = EnvIn e env × FramesIn e fs
 StateIn e (inspecting q fs) = There (at e q) × FramesIn e fs
-StateIn e missing = Unit {0}
+StateIn e uncovered = Unit {0}
 StateIn e stuck = Unit {0}
 
 -- s is reached from the source's start after n steps on the input
@@ -68,5 +68,5 @@ Sound p i (evaluating (target l e) env fs) = Unit {0}
 Sound p i (inspecting q []) = (t : ℕ) × PartHas p i q t
 Sound p i (inspecting q (waiting alts outer ∷ fs)) =
     (t : ℕ) × PartHas p i q t × CaseOn p t alts outer × ((c k : ℕ) → at i q ≡ has c k → Chooses p t c alts outer (inputParts outer (fieldsOf q) k))
-Sound p i missing = Unit {0}
+Sound p i uncovered = Unit {0}
 Sound p i stuck = ⊥

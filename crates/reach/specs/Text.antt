@@ -10,7 +10,7 @@ use lib.Dec.{ltb, eqb}
 use Rattle.reach.specs.declared.Refusal.{Refusal}
 use Rattle.reach.specs.declared.Refusal.the-variants.{ListFull}
 use Rattle.reach.specs.declared.Kind.{Kind}
-use Rattle.reach.specs.declared.Kind.the-variants.{RE, UN}
+use Rattle.reach.specs.declared.Kind.the-variants.{RE, UN, MI}
 use Rattle.reach.specs.declared.Counts.{Counts}
 use Rattle.reach.specs.Base.{pick}
 use Rattle.reach.specs.Limits.{listLimit}
@@ -46,10 +46,11 @@ digitsBy (suc more) n = let higher = digitsBy more (n / 10) in pick (ltb n 10) (
 unfoldable pub decimal : ℕ → List ℕ
 decimal n = digitsBy n n
 
--- "reach" and "unfinished"
+-- "reach", "unfinished" and "missing"
 unfoldable pub kindWord : Kind → List ℕ
 kindWord RE = 0x72 ∷ 0x65 ∷ 0x61 ∷ 0x63 ∷ 0x68 ∷ []
 kindWord UN = 0x75 ∷ 0x6e ∷ 0x66 ∷ 0x69 ∷ 0x6e ∷ 0x69 ∷ 0x73 ∷ 0x68 ∷ 0x65 ∷ 0x64 ∷ []
+kindWord MI = 0x6d ∷ 0x69 ∷ 0x73 ∷ 0x73 ∷ 0x69 ∷ 0x6e ∷ 0x67 ∷ []
 
 -- a byte of the prefix form: `_` for an open part, else its decimal
 unfoldable pub partWord : ℕ → List ℕ
@@ -63,11 +64,11 @@ lineSaying d = lineFrom (kindWord (d .kind)) (decimal (d .steps) ∷ map partWor
 unfoldable pub share : ℕ → ℕ → ℕ
 share reach unfinished = pick (eqb (reach + unfinished) 0) 0 (100 * unfinished / (reach + unfinished))
 
--- "total", the reach count, the unfinished count, the unfinished share, the verdict
+-- "total", the reach count, the unfinished count, the missing count, the unfinished share, the verdict
 unfoldable pub totalLine : Counts → List ℕ
 totalLine c =
     lineFrom (0x74 ∷ 0x6f ∷ 0x74 ∷ 0x61 ∷ 0x6c ∷ [])
-    (decimal (c .reach) ∷ decimal (c .unfinished) ∷ decimal (share (c .reach) (c .unfinished)) ∷ verdictWord (verdictBy c) ∷ [])
+    (decimal (c .reach) ∷ decimal (c .unfinished) ∷ decimal (c .missing) ∷ decimal (share (c .reach) (c .unfinished)) ∷ verdictWord (verdictBy c) ∷ [])
 
 -- "refused" and the number
 unfoldable pub refusalLine : Refusal → List ℕ

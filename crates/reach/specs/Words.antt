@@ -5,7 +5,7 @@ use mathlib.Core.List.{List, [], _∷_}
 use Rattle.reach.specs.declared.Refusal.{Refusal}
 use Rattle.reach.specs.declared.Refusal.the-variants.{Truncated, UnexpectedMark, OutOfRange, UnknownNumber, UnknownCode, TypeMismatch, TrailingBytes, EmptyType, DepthTooSmall, BadInput, WorkTooShort, ListFull}
 use Rattle.reach.specs.declared.Outcome.{Outcome}
-use Rattle.reach.specs.declared.Outcome.the-variants.{Reached, Ended, Unfinished}
+use Rattle.reach.specs.declared.Outcome.the-variants.{Reached, Ended, Unfinished, Missing}
 use Rattle.reach.specs.declared.Verdict.{Verdict}
 use Rattle.reach.specs.declared.Verdict.the-variants.{Found, Undecided, None}
 
@@ -29,6 +29,7 @@ abbrev pub stepsOf : Outcome → ℕ
 stepsOf (Reached n) = n
 stepsOf (Ended n) = n
 stepsOf (Unfinished n) = n
+stepsOf (Missing n) = n
 
 -- the word for a verdict, as `reachlist` prints it: "found", "undecided", "none"
 abbrev pub verdictWord : Verdict → List ℕ

@@ -35,12 +35,14 @@ pub enum Outcome {
     Reached(u16),
     Ended(u16),
     Unfinished(u16),
+    Missing(u16),
 }
 
-// The kind of an entry, named by its mark: the path reaches the target, or its steps are used up.
+// The kind of an entry, named by its mark: the path reaches the target, its steps are used up, or a case has no alternative.
 pub enum Kind {
     RE,
     UN,
+    MI,
 }
 
 // What a path lists at its end: nothing, or an entry of this kind.
@@ -53,6 +55,7 @@ pub enum PathEnd {
 pub struct Counts {
     pub reach: u64,
     pub unfinished: u64,
+    pub missing: u64,
 }
 
 // What a complete list says of its rule file.

@@ -9,7 +9,7 @@ use lib.Dec.{eqb}
 use Rattle.reach.specs.Base.{pick}
 use Rattle.reach.specs.Syntax.{variable, call, construct, case, letIn, target, Alternatives, Program}
 use Rattle.reach.specs.Parts.{Parts, Place}
-use Rattle.reach.specs.Eval.{State, evaluating, inspecting, missing, stuck, Env, Frame, waiting, Question, Next, demands, stops, goes, waits, view, next}
+use Rattle.reach.specs.Eval.{State, evaluating, inspecting, uncovered, stuck, Env, Frame, waiting, Question, Next, demands, lacks, stops, goes, waits, view, next}
 use Rattle.reach.specs.RuleFile.{Declarations}
 use Rattle.reach.proofs.Base.{clash}
 use Rattle.reach.proofs.Evaluation.{answer-waits}
@@ -42,10 +42,11 @@ view-waits p (inspecting r (waiting alts env ∷ fs)) q h =
   where
     placeOf : Next → Place
     placeOf demands = r
+    placeOf lacks = r
     placeOf (stops why) = r
     placeOf (goes s) = r
     placeOf (waits x) = x .place
-view-waits p missing q h = absurd (clash (cc))
+view-waits p uncovered q h = absurd (clash (cc))
 view-waits p stuck q h = absurd (clash (cc))
 
 pub inspects : (p : Program) (e : Parts) (s : State) (q : Question) → next p e s ≡ waits q → Inspects s q

@@ -7,7 +7,7 @@ use mathlib.Core.List.{List, [], _∷_}
 use native.Mathlib.Omega.{arith}
 use Rattle.reach.specs.Syntax.{Expr, variable, call, construct, case, letIn, target, Exprs, Alternatives}
 use Rattle.reach.specs.Parts.{Place}
-use Rattle.reach.specs.Eval.{Env, Frame, waiting, State, evaluating, inspecting, missing}
+use Rattle.reach.specs.Eval.{Env, Frame, waiting, State, evaluating, inspecting, uncovered}
 use Rattle.reach.specs.RuleFile.{Declarations}
 use Rattle.reach.proofs.Base.{clash}
 use Rattle.machine.specs.Records.{recordWord, Code, CodeAlternatives, expressionAt, partIn, nothingLeft, EnvAt, FramesAt, none-at, waiting-at, StateAt, evaluating-at, inspecting-at, missing-at}
@@ -38,7 +38,7 @@ module _ {file : List ℕ} {o : Declarations} {w : List ℕ} {base : ℕ} {cell 
       → ((q : Place) (fs : List Frame) → cell q ≡ x → FramesAt file o w base cell f fs → G (inspecting q fs)) → G s
   when-part (inspecting-at {q = q} {fs = fs} is frames) show = show q fs is frames
 
-  pub when-missing : {f : ℕ} {s : State} → StateAt file o w base cell nothingLeft f s → G missing → G s
+  pub when-missing : {f : ℕ} {s : State} → StateAt file o w base cell nothingLeft f s → G uncovered → G s
   when-missing missing-at show = show
 
 module _ (G : Expr → Type 0) where

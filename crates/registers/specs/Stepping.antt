@@ -108,6 +108,7 @@ module _ (file types functions : List ℕ) (w w′ : List ℕ) (base : ℕ) (r :
   -- what a step says of a state that the words stood for: what comes next is the evaluation's
   abbrev pub StepMeans : (e : Parts) (s : State) → Next → Type 0
   StepMeans e s Next.Demands = Eval.next p e s ≡ Eval.demands
+  StepMeans e s Next.Lacks = Eval.next p e s ≡ Eval.lacks
   StepMeans e s Next.Stops = (why : Eval.Stop) × (Eval.next p e s ≡ Eval.stops why)
   StepMeans e s (Next.Goes r′) = (s′ : State) × (Eval.next p e s ≡ Eval.goes s′) × Follows file types functions w′ base (r .records) r′ s′
   StepMeans e s (Next.Waits x) = (q : Question) × (Eval.next p e s ≡ Eval.waits q) × (cellOf w (q .place) ≡ x)
@@ -164,7 +165,7 @@ module _ (file types functions : List ℕ) where
 
   -- what the alternative found says of the state that the case goes on to
   abbrev pub AlternativeMeans : Env → List Frame → State → Alternative → Type 0
-  AlternativeMeans new fs s Alternative.Absent = s ≡ Eval.missing
+  AlternativeMeans new fs s Alternative.Absent = s ≡ Eval.uncovered
   AlternativeMeans new fs s (Alternative.Present i) = (x : Expr) × (s ≡ Eval.evaluating x new fs) × Code file (declarationsOf file types functions) i x
 
   -- the alternative for constructor c of those that begin at i

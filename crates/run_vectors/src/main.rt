@@ -30,6 +30,10 @@ fn print_outcome(outcome: Outcome) {
             io::write_all(STDOUT_FILENO, b"unfinished ");
             io::print_decimal(STDOUT_FILENO, n as u64);
         }
+        Outcome::Missing(n) => {
+            io::write_all(STDOUT_FILENO, b"missing ");
+            io::print_decimal(STDOUT_FILENO, n as u64);
+        }
     }
     io::write_all(STDOUT_FILENO, b"\n");
 }

@@ -39,7 +39,7 @@ use Rattle.registers.proofs.Standing.{stands-after, stands-below}
 use Rattle.loaded.specs.Beginning.{GivenFile}
 use Rattle.running.specs.Running.{GivenInput, Running, Underway, notedNumber, Bindable, BoundAs, Advances, AdvancesAll, ComesTo, BoundSoFar}
 use Rattle.running.proofs.Bound.{head-now, first-now, no-fewer, fields-now}
-use Rattle.running.proofs.Reached.{below-width, reached-in, reached-sound, run-goes, run-demands, run-stops, run-spent}
+use Rattle.running.proofs.Reached.{below-width, reached-in, reached-sound, run-goes, run-demands, run-lacks, run-stops, run-spent}
 
 -- what is noted in the cells stays while the record at the top is written
 module _
@@ -216,6 +216,7 @@ module _ {file types functions input : List ℕ} {p : Program} {j : Parts} (give
       pub bound-so-far :
           {w′ : List ℕ} (n : Next) → Stepped file types functions w w′ base label r n → ((x : ℕ) → n ≡ Next.Waits x → ⊥) → BoundSoFar p j done s n w′
       bound-so-far Next.Demands stepped no-wait = bound-kept (stepped .only-top) Next.Demands (means stepped)
+      bound-so-far Next.Lacks stepped no-wait = bound-kept (stepped .only-top) Next.Lacks (means stepped)
       bound-so-far Next.Stops stepped no-wait = bound-kept (stepped .only-top) Next.Stops (means stepped)
       bound-so-far (Next.Goes r′) stepped no-wait = let (s′, on, follows) = means stepped in bound-kept (stepped .only-top) (Next.Goes r′) (s′, on)
       bound-so-far (Next.Waits x) stepped no-wait = absurd (no-wait x refl)
@@ -225,6 +226,8 @@ module _ {file types functions input : List ℕ} {p : Program} {j : Parts} (give
           → Advances file types functions input label limit w′ base done p j s cells n
       advances Next.Demands few stepped no-wait =
           λ left. run-demands file p (given .of-file .checked) j within (now .follows .below) (now .steps) left done (means stepped)
+      advances Next.Lacks few stepped no-wait =
+          λ left. run-lacks file p (given .of-file .checked) j within (now .follows .below) (now .steps) left done (means stepped)
       advances Next.Stops few stepped no-wait =
           let (why, on) = means stepped in
           (why, λ left. run-stops file p (given .of-file .checked) j within (now .follows .below) (now .steps) left done why on)

@@ -21,7 +21,7 @@ use Rattle.steps.specs.declared.Ran.{Ran}
 use Rattle.registers.specs.Stepping.{Standing, Stepped}
 use Rattle.steps.specs.Running.{StepsTo, no-step, one-more, Onward, ComesToHalt, RunsOn}
 use Rattle.skipping.specs.Ends.{Ends}
-use Rattle.running.proofs.Reached.{same-demands, same-stops, same-spent}
+use Rattle.running.proofs.Reached.{same-demands, same-lacks, same-stops, same-spent}
 use Rattle.running.proofs.Advancing.{within, went}
 use Rattle.running.specs.Looked.{LookedAt}
 use Rattle.running.specs.Running.{GivenInput, Underway, Advances, ComesTo, AdvancesAll, SomeWaiting, Enters, EndsAs, RunBegins, CameTo}
@@ -29,6 +29,7 @@ use Rattle.running.specs.Running.{GivenInput, Underway, Advances, ComesT
 -- it is the end: nothing comes next, or no step is left
 abbrev Last : Next → Type 0 → Type 0
 Last Next.Demands spent = Unit {0}
+Last Next.Lacks spent = Unit {0}
 Last Next.Stops spent = Unit {0}
 Last (Next.Goes r) spent = spent
 Last (Next.Waits x) spent = ⊥
@@ -40,6 +41,8 @@ same-end :
     → eval p e limit 0 (start p) ≡ eval p j limit 0 (start p)
 same-end {file} {p = p} {j} {limit = limit} Next.Demands over given in-time below steps on =
     same-demands file p (given .of-file .checked) j (within given) below steps limit in-time on
+same-end {file} {p = p} {j} {limit = limit} Next.Lacks over given in-time below steps on =
+    same-lacks file p (given .of-file .checked) j (within given) below steps limit in-time on
 same-end {file} {p = p} {j} {limit = limit} Next.Stops over given in-time below steps (why, on) =
     same-stops file p (given .of-file .checked) j (within given) below steps limit in-time why on
 same-end {file} {p = p} {j} {limit = limit} (Next.Goes r) over given in-time below steps (s′, on) =
@@ -99,6 +102,15 @@ module _ (file types functions input : List ℕ) (label limit : ℕ) (w₀ : Lis
         looked-at w′ cells′ Next.Demands advances tt p j s h,
       )
 
+      came-lacks :
+          AdvancesAll file types functions input label w w′ base cells r cells′ Next.Lacks
+          → EndsAs file types functions input label limit w₀ w′ base first from (Outcome.Missing done)
+      unfolding outcomeOf
+      came-lacks advances p j s h = (
+        sym (ap outcomeOf (came p j s h .2 ∙ step w′ cells′ Next.Lacks advances p j s h (limit - done))),
+        looked-at w′ cells′ Next.Lacks advances tt p j s h,
+      )
+
       came-stops :
           AdvancesAll file types functions input label w w′ base cells r cells′ Next.Stops
           → EndsAs file types functions input label limit w₀ w′ base first from (Outcome.Ended done)
@@ -156,6 +168,10 @@ module _ (file types functions input : List ℕ) (label limit : ℕ) (w₀ : Lis
       pub halt-demands : x .halt ≡ Halt.Demands → EndsAs file types functions input label limit w₀ w′ base first from (Outcome.Reached (done + x .steps))
       halt-demands is =
           came-demands (ran .between) cells (done + x .steps) (x .registers) came-there cells (went Next.Demands (halts Halt.Demands is) (λ y no. absurd (clash (cc))))
+
+      pub halt-lacks : x .halt ≡ Halt.Lacks → EndsAs file types functions input label limit w₀ w′ base first from (Outcome.Missing (done + x .steps))
+      halt-lacks is =
+          came-lacks (ran .between) cells (done + x .steps) (x .registers) came-there cells (went Next.Lacks (halts Halt.Lacks is) (λ y no. absurd (clash (cc))))
 
       pub halt-stops : x .halt ≡ Halt.Stops → EndsAs file types functions input label limit w₀ w′ base first from (Outcome.Ended (done + x .steps))
       halt-stops is =

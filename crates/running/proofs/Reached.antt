@@ -9,11 +9,11 @@ use lib.ListN.{length}
 use Rattle.reach.specs.Syntax.{Types, Program, sourceTypes}
 use Rattle.reach.specs.Parts.{Parts, width, _⊑_, ⊑-end, ⊑-open, ⊑-bind, ⊑-same}
 use Rattle.reach.specs.Types.{Typed, WithinDepth}
-use Rattle.reach.specs.Eval.{State, Stop, demands, stops, goes, next, reached, ended, unfinished, start, eval}
+use Rattle.reach.specs.Eval.{State, Stop, demands, lacks, stops, goes, next, reached, ended, unfinished, missing, start, eval}
 use Rattle.reach.specs.Answers.{accepted, check}
 use Rattle.reach.proofs.Order.{⊑-width}
 use Rattle.reach.specs.States.{StateIn, Steps, no-step, one-more, Sound}
-use Rattle.reach.proofs.Evaluation.{next-more, eval-step, eval-demands, eval-stops, eval-spent}
+use Rattle.reach.proofs.Evaluation.{next-more, eval-step, eval-demands, eval-lacks, eval-stops, eval-spent}
 use Rattle.reach.proofs.Depths.{typed-width}
 use Rattle.reach.proofs.NeverStuck.{steps-sound}
 use Rattle.reach.proofs.Reached.{steps-in, steps-more}
@@ -57,6 +57,9 @@ module _ (file : List ℕ) (p : Program) (checked : check file ≡ accepted p) (
     pub run-demands : (left m : ℕ) → next p e s ≡ demands → eval p j left m s ≡ reached m
     run-demands left m on = eval-demands p j left m s (next-more p below s (reached-in below steps) demands tt on)
 
+    pub run-lacks : (left m : ℕ) → next p e s ≡ lacks → eval p j left m s ≡ missing m
+    run-lacks left m on = eval-lacks p j left m s (next-more p below s (reached-in below steps) lacks tt on)
+
     pub run-stops : (left m : ℕ) (why : Stop) → next p e s ≡ stops why → eval p j left m s ≡ ended why m
     run-stops left m why on = eval-stops p j left m s why (next-more p below s (reached-in below steps) (stops why) tt on)
 
@@ -70,6 +73,9 @@ module _ (file : List ℕ) (p : Program) (checked : check file ≡ accepted p) (
 
       pub same-demands : next p e s ≡ demands → eval p e limit 0 (start p) ≡ eval p j limit 0 (start p)
       same-demands on = same-left (eval-demands p e (limit - n) n s on ∙ sym (run-demands (limit - n) n on))
+
+      pub same-lacks : next p e s ≡ lacks → eval p e limit 0 (start p) ≡ eval p j limit 0 (start p)
+      same-lacks on = same-left (eval-lacks p e (limit - n) n s on ∙ sym (run-lacks (limit - n) n on))
 
       pub same-stops : (why : Stop) → next p e s ≡ stops why → eval p e limit 0 (start p) ≡ eval p j limit 0 (start p)
       same-stops why on = same-left (eval-stops p e (limit - n) n s why on ∙ sym (run-stops (limit - n) n why on))

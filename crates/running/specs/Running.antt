@@ -10,7 +10,7 @@ use Rattle.reach.specs.Syntax.{Program}
 use Rattle.reach.specs.Parts.{Parts, _⊑_}
 use Rattle.reach.specs.Types.{sourceSlots}
 use Rattle.reach.specs.Eval as Eval
-use Rattle.reach.specs.Eval.{State, eval, reached, ended, unfinished}
+use Rattle.reach.specs.Eval.{State, eval, reached, ended, unfinished, missing}
 use Rattle.reach.specs.Input.{inputOf}
 use Rattle.reach.specs.Places.{bytesAt, typeAt}
 use Rattle.reach.specs.Answers.{outcomeOf}
@@ -84,6 +84,7 @@ BoundAs file types input w w′ cells x more =
 -- what comes next, in words w′ with so many cells in use: the run on the closed input ends, or goes on to other registers
 abbrev pub Advances : (file types functions input : List ℕ) (label limit : ℕ) (w′ : List ℕ) (base done : ℕ) (p : Program) (j : Parts) (s : State) → ℕ → Next → Type 0
 Advances file types functions input label limit w′ base done p j s cells Next.Demands = (left : ℕ) → eval p j left done s ≡ reached done
+Advances file types functions input label limit w′ base done p j s cells Next.Lacks = (left : ℕ) → eval p j left done s ≡ missing done
 Advances file types functions input label limit w′ base done p j s cells Next.Stops = (why : Eval.Stop) × ((left : ℕ) → eval p j left done s ≡ ended why done)
 Advances file types functions input label limit w′ base done p j s cells (Next.Goes r) =
     (s′ : State) × (eval p j zero done s ≡ unfinished done) × ((left : ℕ) → eval p j (suc left) done s ≡ eval p j left (suc done) s′)
@@ -93,6 +94,7 @@ Advances file types functions input label limit w′ base done p j s cells (Next
 -- what comes next on an input, where no case waits
 abbrev pub ComesTo : Program → Parts → State → Next → Type 0
 ComesTo p e s Next.Demands = Eval.next p e s ≡ Eval.demands
+ComesTo p e s Next.Lacks = Eval.next p e s ≡ Eval.lacks
 ComesTo p e s Next.Stops = (why : Eval.Stop) × (Eval.next p e s ≡ Eval.stops why)
 ComesTo p e s (Next.Goes r) = (s′ : State) × (Eval.next p e s ≡ Eval.goes s′)
 ComesTo p e s (Next.Waits x) = ⊥

@@ -122,6 +122,7 @@ pub fn go_on<'a>(
             Halt::Demands => return Outcome::Reached(reached as u16),
             Halt::Stops => return Outcome::Ended(reached as u16),
             Halt::Spent => return Outcome::Unfinished(reached as u16),
+            Halt::Lacks => return Outcome::Missing(reached as u16),
             Halt::Waits(x) => {
                 let entered = enter_asked(file, types, ends, input, work, base, cells, x, at);
                 let to = entered.registers;

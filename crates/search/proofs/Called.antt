@@ -18,12 +18,11 @@ use Rattle.reach.specs.Limits.{workWords}
 use Rattle.reach.specs.Syntax.{Program}
 use Rattle.reach.specs.Eval.{Spent}
 use Rattle.reach.specs.declared.Kind.{Kind}
-use Rattle.reach.specs.declared.Kind.the-variants.{RE, UN}
+use Rattle.reach.specs.declared.Kind.the-variants.{RE, UN, MI}
 use Rattle.reach.specs.Search.{Entry, says, entries, countFrom, counts, verdictBy, verdict}
 use Rattle.reach.specs.Lists.{entryBytes, listBytes, roomOf, written}
 use Rattle.reach.specs.Answers.{Checked, accepted, turnedBack, check, SearchAnswer, noSearch, complete, cutShort, searchAnswer, listed, refusalOf, verdictOf}
 use Rattle.reach.proofs.Base.{clash}
-use Rattle.reach.proofs.Lists.{none-empty}
 use Rattle.reach.proofs.Answers.{Means, search-means, search-turned-back}
 use Rattle.reach.proofs.Refusals.{turned-back-by}
 use Rattle.exploring.specs.declared.Answer.{Answer}
@@ -199,21 +198,8 @@ member-number (x ∷ es) e m =
     (λ later. let found = member-number es e later in (suc (found .0), found .1))
     (List·Memᴰ·cases-cons m)
 
--- a list in which no number has an entry is empty
-pub no-numbers : (es : List Entry) → ((k : ℕ) (e : Entry) → ¬ (getElem? es k ≡ some e)) → es ≡ []
-no-numbers [] none = refl
-no-numbers (x ∷ es) none = absurd (none 0 x refl)
-
--- with the verdict none, nothing is listed
-pub none-lists : (a : SearchAnswer) → verdictOf a ≡ some None → (answerOf a ≡ Answer.Complete 0 None) × (listed a ≡ [])
-unfolding verdictOf listed listBytes flatMap verdict verdictBy counts countFrom
-none-lists (noSearch why) is = absurd (Option·none-ne-some None is)
-none-lists (complete es) is =
-    let nothing = (none-empty es) .0 (Option·some-injective (verdict es) None is) in
-    rw nothing (refl, refl)
-none-lists (cutShort es) is = absurd (Option·none-ne-some None is)
-
 -- the steps of an end that an entry speaks of
 pub says-spent : (k : Kind) (n limit : ℕ) → Spent limit (says k n) → (n ≤ limit) × (k ≡ UN → n ≡ limit)
 says-spent RE n limit s = (s, λ is. absurd (clash (cc)))
 says-spent UN n limit s = (omega arith, λ is. s)
+says-spent MI n limit s = (s, λ is. absurd (clash (cc)))

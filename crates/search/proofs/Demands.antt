@@ -26,7 +26,7 @@ use Rattle.reach.specs.Types.{ClosedInput, WithinDepth}
 use Rattle.reach.specs.Eval.{halted, run, Spent}
 use Rattle.reach.specs.declared.Kind.{Kind}
 use Rattle.reach.specs.declared.Kind.the-variants.{RE, UN}
-use Rattle.reach.specs.Search.{Entry, says, ReachedOrUnfinished, StopsInside, entries, verdict}
+use Rattle.reach.specs.Search.{Entry, says, Shown, StopsInside, entries, verdict}
 use Rattle.reach.specs.Lists.{entryBytes, listBytes, roomOf, entryPart}
 use Rattle.reach.specs.Answers.{accepted, turnedBack, check, SearchAnswer, complete, searchAnswer, listed}
 use Rattle.reach.proofs.Base.{nth-member}
@@ -39,7 +39,7 @@ use Rattle.exploring.specs.declared.Answer.{Answer}
 use Rattle.exploring.specs.declared.Answer.the-variants as Answer
 use Rattle.search.specs.Answering.{WordsAfter, Promised, lengthIn, refusalIn, verdictIn, ReadsAs}
 use Rattle.exploring.proofs.Cutting.{size-more, written-none, written-length}
-use Rattle.search.proofs.Called.{length-is, refusal-is, verdict-is, refused-when, full-when, complete-when, complete-lists, full-lists, refused-lists, listed-room, room-inside, written-take, written-drop, member-number, no-numbers, none-lists, says-spent}
+use Rattle.search.proofs.Called.{length-is, refusal-is, verdict-is, refused-when, full-when, complete-when, complete-lists, full-lists, refused-lists, listed-room, room-inside, written-take, written-drop, member-number, says-spent}
 use Rattle.search.proofs.Reading.{part-of, reads-exactly, reads-or-empty}
 
 module _ (file work work′ before after : List ℕ) (r : Answer) (call : Promised file work work′ before after r) where
@@ -178,12 +178,12 @@ module _ (file work work′ before after : List ℕ) (r : Answer) (call : Promis
       complete-reads = subst (λ (es : List Entry). (k : ℕ) (e : Entry) → ReadsAs p (take n after) k e ↔ (getElem? es k ≡ some e)) all-shown reads-at
 
       -- Demand 2: "On a complete list, each closed input within the depth that reaches the target or is unfinished at the step limit completes an entry."
-      pub list-covers : (j : Parts) → WithinDepth p j → ReachedOrUnfinished (run p j)
-          → (k : ℕ) × (e : Entry) × ReadsAs p (take n after) k e × Completes j (e .input)
+      pub list-covers : (j : Parts) → WithinDepth p j → Shown (run p j)
+          → (k : ℕ) × (e : Entry) × ReadsAs p (take n after) k e × Completes j (e .input) × (run p j ≡ says (e .kind) (e .steps))
       list-covers j within ends =
-          let (e, m, completes) = Reach.list-covers file (length work) (length before) p checked shown whole j within ends in
+          let (e, m, completes, so) = Reach.list-covers file (length work) (length before) p checked shown whole j within ends in
           let (k, there) = member-number shown e m in
-          (k, e, (reads-at k e) .1 there, completes)
+          (k, e, (reads-at k e) .1 there, completes, so)
 
       -- Demand 3: "on a complete list each closed input, however deep, completes at most one entry." Entries are told apart by their numbers.
       pub inputs-apart : (a b : ℕ) (x y : Entry) → ReadsAs p (take n after) a x → ReadsAs p (take n after) b y → a ≢ b
@@ -217,11 +217,11 @@ module _ (file work work′ before after : List ℕ) (r : Answer) (call : Promis
         λ l. verdict-shown ∙ (Verdicts.undecided-exactly shown) .1 ((lists-exactly UN) .0 (l .0), λ h. l .1 ((lists-exactly RE) .1 h)),
       )
 
-      pub none-empty : (v ≡ None) ↔ ((k : ℕ) (e : Entry) → ¬ ReadsAs p (take n after) k e)
-      none-empty = (
-        λ is k e reads. let nothing = (Verdicts.none-empty shown) .0 (sym verdict-shown ∙ is) in
-            List·Memᴰ·not-nil (subst (λ (es : List Entry). e ∈ es) nothing (nth-member shown k e ((reads-at k e) .0 reads))),
-        λ all. verdict-shown ∙ (Verdicts.none-empty shown) .1 (no-numbers shown (λ k e there. all k e ((reads-at k e) .1 there))),
+      pub none-without : (v ≡ None) ↔ (¬ Lists RE × ¬ Lists UN)
+      none-without = (
+        λ is. let h = (Verdicts.none-exactly shown) .0 (sym verdict-shown ∙ is) in
+            (λ l. h .0 ((lists-exactly RE) .0 l), λ l. h .1 ((lists-exactly UN) .0 l)),
+        λ l. verdict-shown ∙ (Verdicts.none-exactly shown) .1 (λ h. l .0 ((lists-exactly RE) .1 h), λ h. l .1 ((lists-exactly UN) .1 h)),
       )
 
   -- Demand 3: "And the search says "none" exactly when it refused nothing and every closed input within the depth stops inside the step limit without demanding
@@ -230,10 +230,3 @@ module _ (file work work′ before after : List ℕ) (r : Answer) (call : Promis
       (verdictIn r ≡ some None)
       ↔ ((refusalIn r ≡ none) × ((p : Program) → check file ≡ accepted p → (j : Parts) → WithinDepth p j → StopsInside (run p j)))
   none-exactly = rw (call .answer-is, verdict-is answer, refusal-is answer) (Reach.none-exactly file (length work) (length before))
-
-  -- with "none" the list is empty, and the slice as before
-  pub none-unchanged : verdictIn r ≡ some None → (r ≡ Answer.Complete 0 None) × (after ≡ before)
-  none-unchanged is =
-      let says = rw (call .answer-is, verdict-is answer) at is in
-      let (empty, nothing) = none-lists answer says in
-      (call .answer-is ∙ empty, call .list-is ∙ rw nothing (written-none before))

@@ -23,6 +23,7 @@ module _ (file types functions : List ℕ) (label : ℕ) where
   -- what comes next where they led, of so many steps
   abbrev pub ComesToHalt : List ℕ → List ℕ → ℕ → Registers → ℕ → ℕ → Halt → Type 0
   ComesToHalt w w′ base r steps left Halt.Demands = Stepped file types functions w w′ base label r Next.Demands
+  ComesToHalt w w′ base r steps left Halt.Lacks = Stepped file types functions w w′ base label r Next.Lacks
   ComesToHalt w w′ base r steps left Halt.Stops = Stepped file types functions w w′ base label r Next.Stops
   ComesToHalt w w′ base r steps left Halt.Spent = (to : Registers) × Stepped file types functions w w′ base label r (Next.Goes to) × (left ≤ steps)
   ComesToHalt w w′ base r steps left (Halt.Waits x) = Stepped file types functions w w′ base label r (Next.Waits x)

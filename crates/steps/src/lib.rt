@@ -18,10 +18,11 @@ use unfolding::step_let;
 use unfolding::step_target;
 use unfolding::step_variable;
 
-// What steps one after the other come to: the sought target is demanded, the end, a step where none is left, or a case waits on the open part in a
+// What steps one after the other come to: the sought target is demanded, a case has no alternative, the end, a step where none is left, or a case waits on the open part in a
 // cell.
 pub enum Halt {
     Demands,
+    Lacks,
     Stops,
     Spent,
     Waits(usize),
@@ -77,7 +78,7 @@ fn step<'a>(
 {
     let kind = r.kind;
     match kind {
-        MISSING => Next::Stops,
+        MISSING => Next::Lacks,
         PART => step_part(file, types, ends, work, base, r.place, r),
         _ => step_expression(
             file,
@@ -127,6 +128,7 @@ pub fn run_on<'a>(
         let next = step(file, types, functions, ends, label, work, base, r);
         match next {
             Next::Demands => return halted(r, Halt::Demands, done),
+            Next::Lacks => return halted(r, Halt::Lacks, done),
             Next::Stops => return halted(r, Halt::Stops, done),
             Next::Waits(x) => return halted(r, Halt::Waits(x), done),
             Next::Goes(to) => {

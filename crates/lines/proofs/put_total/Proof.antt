@@ -18,30 +18,26 @@ put-number-requires-2 c κs =
 
 put-number-requires-3 : tie.Need-put-number-requires-3
 put-number-requires-3 c κs =
-    let a = c .before .before .before .before .before .before .before .before .before .before .before .before .before .before .before .before .args in
-    let pre = c .before .before .before .before .before .before .before .before .before .before .before .before .before .before .before .before .pre in
-    let put-bytes = c .before .before .before .before .before .before .before .before .before .before .before .before .put-bytes in
-    let put-number = c .before .before .before .before .before .before .before .before .put-number in
-    let put-number2 = c .before .before .before .before .put-number2 in
+    let pre = c .before .before .before .before .before .before .before .before .before .before .before .before .before .before .before .pre in
+    let put-bytes = c .before .before .before .before .before .before .before .before .before .before .before .put-bytes in
+    let put-number = c .before .before .before .before .before .before .before .put-number in
+    let put-number2 = c .before .before .before .put-number2 in
     omega (
       arith,
       pre,
       put-bytes .ensures .place,
       number-end _ (put-number .ensures),
       number-end _ (put-number2 .ensures),
-      c .share-of .ensures,
-      share-few (a .counts .reach) (a .counts .unfinished),
     )
 
-put-verdict-requires : tie.Need-put-verdict-requires
-put-verdict-requires c κs =
+put-number-requires-4 : tie.Need-put-number-requires-4
+put-number-requires-4 c κs =
     let a = c .before .before .before .before .before .before .before .before .before .before .before .before .before .before .before .before .before .before .before .before .args in
     let pre = c .before .before .before .before .before .before .before .before .before .before .before .before .before .before .before .before .before .before .before .before .pre in
     let put-bytes = c .before .before .before .before .before .before .before .before .before .before .before .before .before .before .before .before .put-bytes in
     let put-number = c .before .before .before .before .before .before .before .before .before .before .before .before .put-number in
     let put-number2 = c .before .before .before .before .before .before .before .before .put-number2 in
-    let share-of = c .before .before .before .before .share-of in
-    let put-number3 = c .before .before .before .put-number3 in
+    let put-number3 = c .before .before .before .before .put-number3 in
     omega (
       arith,
       pre,
@@ -49,19 +45,42 @@ put-verdict-requires c κs =
       number-end _ (put-number .ensures),
       number-end _ (put-number2 .ensures),
       number-end _ (put-number3 .ensures),
+      c .share-of .ensures,
+      share-few (a .counts .reach) (a .counts .unfinished),
+    )
+
+put-verdict-requires : tie.Need-put-verdict-requires
+put-verdict-requires c κs =
+    let a = c .before .before .before .before .before .before .before .before .before .before .before .before .before .before .before .before .before .before .before .before .before .before .before .before .args in
+    let pre = c .before .before .before .before .before .before .before .before .before .before .before .before .before .before .before .before .before .before .before .before .before .before .before .before .pre in
+    let put-bytes = c .before .before .before .before .before .before .before .before .before .before .before .before .before .before .before .before .before .before .before .before .put-bytes in
+    let put-number = c .before .before .before .before .before .before .before .before .before .before .before .before .before .before .before .before .put-number in
+    let put-number2 = c .before .before .before .before .before .before .before .before .before .before .before .before .put-number2 in
+    let put-number3 = c .before .before .before .before .before .before .before .before .put-number3 in
+    let share-of = c .before .before .before .before .share-of in
+    let put-number4 = c .before .before .before .put-number4 in
+    omega (
+      arith,
+      pre,
+      put-bytes .ensures .place,
+      number-end _ (put-number .ensures),
+      number-end _ (put-number2 .ensures),
+      number-end _ (put-number3 .ensures),
+      number-end _ (put-number4 .ensures),
       share-of .ensures,
       share-few (a .counts .reach) (a .counts .unfinished),
     )
 
 put-byte-requires : tie.Need-put-byte-requires
 put-byte-requires c κs =
-    let a = c .before .before .before .before .before .before .before .before .before .before .before .before .before .before .before .before .before .before .before .before .before .before .before .before .args in
-    let pre = c .before .before .before .before .before .before .before .before .before .before .before .before .before .before .before .before .before .before .before .before .before .before .before .before .pre in
-    let put-bytes = c .before .before .before .before .before .before .before .before .before .before .before .before .before .before .before .before .before .before .before .before .put-bytes in
-    let put-number = c .before .before .before .before .before .before .before .before .before .before .before .before .before .before .before .before .put-number in
-    let put-number2 = c .before .before .before .before .before .before .before .before .before .before .before .before .put-number2 in
+    let a = c .before .before .before .before .before .before .before .before .before .before .before .before .before .before .before .before .before .before .before .before .before .before .before .before .before .before .before .before .args in
+    let pre = c .before .before .before .before .before .before .before .before .before .before .before .before .before .before .before .before .before .before .before .before .before .before .before .before .before .before .before .before .pre in
+    let put-bytes = c .before .before .before .before .before .before .before .before .before .before .before .before .before .before .before .before .before .before .before .before .before .before .before .before .put-bytes in
+    let put-number = c .before .before .before .before .before .before .before .before .before .before .before .before .before .before .before .before .before .before .before .before .put-number in
+    let put-number2 = c .before .before .before .before .before .before .before .before .before .before .before .before .before .before .before .before .put-number2 in
+    let put-number3 = c .before .before .before .before .before .before .before .before .before .before .before .before .put-number3 in
     let share-of = c .before .before .before .before .before .before .before .before .share-of in
-    let put-number3 = c .before .before .before .before .before .before .before .put-number3 in
+    let put-number4 = c .before .before .before .before .before .before .before .put-number4 in
     let put-verdict = c .before .before .before .put-verdict in
     omega (
       arith,
@@ -70,6 +89,7 @@ put-byte-requires c κs =
       number-end _ (put-number .ensures),
       number-end _ (put-number2 .ensures),
       number-end _ (put-number3 .ensures),
+      number-end _ (put-number4 .ensures),
       share-of .ensures,
       share-few (a .counts .reach) (a .counts .unfinished),
       verdict-end (verdictBy (a .counts)) (put-verdict .ensures),
@@ -77,16 +97,17 @@ put-byte-requires c κs =
 
 returns : tie.Need-returns
 returns c =
-    let a = c .before .before .before .before .before .before .before .before .before .before .before .before .before .before .before .before .before .before .before .before .before .before .before .before .before .before .before .args in
-    let put-bytes = c .before .before .before .before .before .before .before .before .before .before .before .before .before .before .before .before .before .before .before .before .before .before .before .put-bytes in
-    let put-number = c .before .before .before .before .before .before .before .before .before .before .before .before .before .before .before .before .before .before .before .put-number in
-    let put-number2 = c .before .before .before .before .before .before .before .before .before .before .before .before .before .before .before .put-number2 in
+    let a = c .before .before .before .before .before .before .before .before .before .before .before .before .before .before .before .before .before .before .before .before .before .before .before .before .before .before .before .before .before .before .before .args in
+    let put-bytes = c .before .before .before .before .before .before .before .before .before .before .before .before .before .before .before .before .before .before .before .before .before .before .before .before .before .before .before .put-bytes in
+    let put-number = c .before .before .before .before .before .before .before .before .before .before .before .before .before .before .before .before .before .before .before .before .before .before .before .put-number in
+    let put-number2 = c .before .before .before .before .before .before .before .before .before .before .before .before .before .before .before .before .before .before .before .put-number2 in
+    let put-number3 = c .before .before .before .before .before .before .before .before .before .before .before .before .before .before .before .put-number3 in
     let share-of = c .before .before .before .before .before .before .before .before .before .before .before .share-of in
-    let put-number3 = c .before .before .before .before .before .before .before .before .before .before .put-number3 in
+    let put-number4 = c .before .before .before .before .before .before .before .before .before .before .put-number4 in
     let put-verdict = c .before .before .before .before .before .before .put-verdict in
     let put-byte = c .before .before .put-byte in
-    total-put (a .counts) (put-bytes .ensures) (put-number .ensures) (put-number2 .ensures)
-    (rw (share-of .ensures) at (put-number3 .ensures)) (put-verdict .ensures) (put-byte .ensures)
+    total-put (a .counts) (put-bytes .ensures) (put-number .ensures) (put-number2 .ensures) (put-number3 .ensures)
+    (rw (share-of .ensures) at (put-number4 .ensures)) (put-verdict .ensures) (put-byte .ensures)
 
 pub put-total-spec : {M : Type 1} → statement M
 put-total-spec =
@@ -96,8 +117,9 @@ put-total-spec =
     (λ c κs. search needs)
     put-number-requires
     put-number-requires-2
-    (λ c κs. search needs)
     put-number-requires-3
+    (λ c κs. search needs)
+    put-number-requires-4
     put-verdict-requires
     put-byte-requires
     (λ c. search needs)

@@ -13,6 +13,10 @@ returns-2 : tie.Need-returns-2
 unfolding kindBytes
 returns-2 c = c .before .before .put-two2 .ensures ∙ rw (c .before .before .before .before .before .enum-told2 .given .1)
 
+returns-3 : tie.Need-returns-3
+unfolding kindBytes
+returns-3 c = c .before .before .put-two3 .ensures ∙ rw (c .before .before .before .before .before .enum-told3 .given .1)
+
 pub put-mark-spec : {M : Type 1} → statement M
 put-mark-spec =
     tie.close
@@ -22,6 +26,10 @@ put-mark-spec =
     (λ c. search needs)
     (λ c κs. search needs)
     (λ c. search needs)
+    (λ c κs. search needs)
+    (λ c. search needs)
     returns
     (λ c. search needs)
-    returns-2)
+    returns-2
+    (λ c. search needs)
+    returns-3)

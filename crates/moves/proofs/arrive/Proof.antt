@@ -3,7 +3,7 @@ use mathlib.Core.Path.{refl}
 use Rattle.steps.specs.declared.Halt.the-variants as Halt
 use Rattle.steps.proofs.Running.{comes-so}
 use Rattle.choices.proofs.Returning.{limit-few}
-use Rattle.moves.proofs.Arriving.{led-by, led-standing, arrive-demands, arrive-stops, arrive-spent-going, arrive-spent-waiting, push-bounds, arrive-waits}
+use Rattle.moves.proofs.Arriving.{led-by, led-standing, arrive-demands, arrive-lacks, arrive-stops, arrive-spent-going, arrive-spent-waiting, push-bounds, arrive-waits}
 use native.Mathlib.Omega.{arith}
 use borrow.Author.Needs.{needs}
 use Rattle.moves.proofs.arrive.Statement.{statement}
@@ -35,11 +35,18 @@ returns-3 c = let ran = c .before .before .before .before .before .before .befor
     rw (c .over3 .ensures) (arrive-spent-going given led sought last (omega (arith, used)) refl)
 
 returns-4 : tie.Need-returns-4
-returns-4 c = let ran = c .before .before .before .before .before .before .before .before .before .run-on .ensures in
+returns-4 c = let ran = c .before .before .before .before .before .before .before .run-on .ensures in
+    let last = comes-so _ _ _ _ ran Halt.Lacks (c .before .enum-told4 .given .1) in
+    λ least p e s cs given sought under.
+    let (s₁, led) = led-by given under sought (ran .led) (omega (arith, ran .no-more, under .in-time)) in
+    rw (c .over4 .ensures) (arrive-lacks given led sought last refl)
+
+returns-5 : tie.Need-returns-5
+returns-5 c = let ran = c .before .before .before .before .before .before .before .before .before .run-on .ensures in
     let last = comes-so _ _ _ _ ran (Halt.Waits _) (c .before .before .before .halt .given .1) in
     λ least p e s cs given sought under.
     let (s₁, led) = led-by given under sought (ran .led) (omega (arith, ran .no-more, under .in-time)) in
-    rw (c .over4 .ensures) (arrive-spent-waiting given led sought last (omega (arith, c .before .if1 .taken)) refl)
+    rw (c .over5 .ensures) (arrive-spent-waiting given led sought last (omega (arith, c .before .if1 .taken)) refl)
 
 push-choice-requires : tie.Need-push-choice-requires
 push-choice-requires c κs = let ran = c .before .before .before .before .before .before .before .before .before .run-on .ensures in
@@ -52,12 +59,12 @@ add-over : tie.Need-add-over
 add-over c = let (least, p, e, s, cs, given, sought, under) = c .before .before .before .before .before .before .before .before .before .before .before .before .before .before .before .before .before .before .before .pre .0 in
     omega (arith, under .no-higher, under .in-time, limit-few given)
 
-returns-5 : tie.Need-returns-5
-returns-5 c = let ran = c .before .before .before .before .before .before .before .before .before .before .before .before .before .run-on .ensures in
+returns-6 : tie.Need-returns-6
+returns-6 c = let ran = c .before .before .before .before .before .before .before .before .before .before .before .before .before .run-on .ensures in
     let last = comes-so _ _ _ _ ran (Halt.Waits _) (c .before .before .before .before .before .before .before .halt .given .1) in
     λ least p e s cs given sought under.
     let (s₁, led) = led-by given under sought (ran .led) (omega (arith, ran .no-more, under .in-time)) in
-    rw (c .over5 .ensures) (arrive-waits given led sought last (omega (arith, c .before .before .before .before .before .if1 .left)) refl (c .before .before .before .push-choice .ensures))
+    rw (c .over6 .ensures) (arrive-waits given led sought last (omega (arith, c .before .before .before .before .before .if1 .left)) refl (c .before .before .before .push-choice .ensures))
 
 pub arrive-spec : {M : Type 1} → statement M
 arrive-spec =
@@ -82,8 +89,12 @@ arrive-spec =
     (λ c κs. search needs)
     (λ c. search needs)
     returns-4
+    (λ c. search needs)
+    (λ c κs. search needs)
+    (λ c. search needs)
+    returns-5
     push-choice-requires
     add-over
     (λ c κs. search needs)
     (λ c. search needs)
-    returns-5)
+    returns-6)

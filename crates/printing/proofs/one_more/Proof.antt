@@ -10,6 +10,9 @@ returns c = rw (c .before .enum-told .given .1)
 returns-2 : tie.Need-returns-2
 returns-2 c = rw (c .before .enum-told2 .given .1)
 
+returns-3 : tie.Need-returns-3
+returns-3 c = rw (c .before .enum-told3 .given .1)
+
 pub one-more-spec : {M : Type 1} → statement M
 one-more-spec =
     tie.close
@@ -19,4 +22,7 @@ one-more-spec =
     returns
     (λ c. search needs)
     (λ c. search needs)
-    returns-2)
+    returns-2
+    (λ c. search needs)
+    (λ c. search needs)
+    returns-3)

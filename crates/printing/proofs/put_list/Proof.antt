@@ -26,13 +26,13 @@ loop-holds : tie.Need-loop-holds Inv-loop μ-loop
 loop-holds c =
     let a = c .before .before .args in
     let whole = text-whole (a .full) (decodedFrom (length (a .list .now)) (a .list .now) 0) in
-    (omega arith, (omega arith, omega arith), omega arith, rw (← whole) (left-whole _ _ _))
+    (omega arith, (omega arith, omega arith, omega arith), omega arith, rw (← whole) (left-whole _ _ _))
 
 size-at-requires : tie.Need-size-at-requires Inv-loop μ-loop
 size-at-requires c κs = omega arith
 
 put-last-requires : tie.Need-put-last-requires Inv-loop μ-loop
-put-last-requires c κs = (omega arith, (omega arith, omega arith))
+put-last-requires c κs = (omega arith, (omega arith, omega arith, omega arith))
 
 same-length : tie.Need-same-length Inv-loop μ-loop
 same-length c =
@@ -101,7 +101,7 @@ kind-at-requires c κs =
     )
 
 one-more-requires : tie.Need-one-more-requires Inv-loop μ-loop
-one-more-requires c κs = (omega arith, omega arith)
+one-more-requires c κs = (omega arith, omega arith, omega arith)
 
 sub-more : tie.Need-sub-more Inv-loop μ-loop
 sub-more c = omega arith
@@ -127,7 +127,7 @@ loop-again c =
     )
 
 put-last-requires-2 : tie.Need-put-last-requires-2 Inv-loop μ-loop
-put-last-requires-2 c κs = (omega arith, (omega arith, omega arith))
+put-last-requires-2 c κs = (omega arith, (omega arith, omega arith, omega arith))
 
 same-length-2 : tie.Need-same-length-2 Inv-loop μ-loop
 same-length-2 c =

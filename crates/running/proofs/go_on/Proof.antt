@@ -5,7 +5,7 @@ use native.Mathlib.Omega.{arith}
 use lib.ListN.{length}
 use borrow.Author.Needs.{needs}
 use Rattle.running.specs.Running.{CameTo}
-use Rattle.running.proofs.Looping.{came-first, came-onward, halt-demands, halt-stops, halt-spent, halt-waits, halt-enters, halt-last}
+use Rattle.running.proofs.Looping.{came-first, came-onward, halt-demands, halt-stops, halt-spent, halt-lacks, halt-waits, halt-enters, halt-last}
 use Rattle.running.proofs.go_on.Statement.{statement}
 use Rattle.running.proofs.go_on.Tie as tie
 
@@ -57,17 +57,26 @@ returns-3 c =
     let l = c .before .before .before .before .before .before .before .before .loop in
     halt-spent (a .file .now) (a .types .now) (a .functions .now) (a .input .now) (a .label) (a .limit) (a .work .now) (a .base) (a .first) (a .from) (l .work) (l .cells) (l .done) (l .r) (l .inv .2) (l .inv .1) _ _ (c .before .before .before .before .before .before .run-on .ensures) (c .enum-told3 .given .1)
 
+cast-t28 : tie.Need-cast-t28 Inv-loop μ-loop
+cast-t28 c = omega (arith, c .before .before .before .before .before .before .run-on .ensures .no-more, c .before .before .before .before .before .before .before .before .loop .inv .1, c .before .before .before .before .before .before .before .before .before .before .before .before .before .before .before .pre .0 .0)
+
+returns-4 : tie.Need-returns-4 Inv-loop μ-loop
+returns-4 c =
+    let a = c .before .before .before .before .before .before .before .before .before .before .before .before .before .before .before .args in
+    let l = c .before .before .before .before .before .before .before .before .loop in
+    halt-lacks (a .file .now) (a .types .now) (a .functions .now) (a .input .now) (a .label) (a .limit) (a .work .now) (a .base) (a .first) (a .from) (l .work) (l .cells) (l .done) (l .r) (l .inv .2) (l .inv .1) _ _ (c .before .before .before .before .before .before .run-on .ensures) (c .enum-told4 .given .1)
+
 enter-asked-requires : tie.Need-enter-asked-requires Inv-loop μ-loop
 enter-asked-requires c κs =
     let a = c .before .before .before .before .before .before .before .before .before .before .before .before .before .before .before .before .before .args in
     let l = c .before .before .before .before .before .before .before .before .before .before .loop in
     halt-waits (a .file .now) (a .types .now) (a .functions .now) (a .input .now) (a .label) (a .limit) (a .work .now) (a .base) (a .first) (a .from) (l .work) (l .cells) (l .done) (l .r) (l .inv .2) (l .inv .1) _ _ (c .before .before .before .before .before .before .before .before .run-on .ensures) (c .before .before .halt .given .1) (c .before .before .before .before .before .before .before .before .before .before .before .before .before .before .before .before .before .pre .0 .1)
 
-cast-t31 : tie.Need-cast-t31 Inv-loop μ-loop
-cast-t31 c = omega (arith, c .before .before .before .before .before .before .before .before .before .before .before .before .before .run-on .ensures .no-more, c .before .before .before .before .before .before .before .before .before .before .before .before .before .before .before .loop .inv .1, c .before .before .before .before .before .before .before .before .before .before .before .before .before .before .before .before .before .before .before .before .before .before .pre .0 .0)
+cast-t32 : tie.Need-cast-t32 Inv-loop μ-loop
+cast-t32 c = omega (arith, c .before .before .before .before .before .before .before .before .before .before .before .before .before .run-on .ensures .no-more, c .before .before .before .before .before .before .before .before .before .before .before .before .before .before .before .loop .inv .1, c .before .before .before .before .before .before .before .before .before .before .before .before .before .before .before .before .before .before .before .before .before .before .pre .0 .0)
 
-returns-4 : tie.Need-returns-4 Inv-loop μ-loop
-returns-4 c =
+returns-5 : tie.Need-returns-5 Inv-loop μ-loop
+returns-5 c =
     let a = c .before .before .before .before .before .before .before .before .before .before .before .before .before .before .before .before .before .before .before .before .before .before .args in
     let l = c .before .before .before .before .before .before .before .before .before .before .before .before .before .before .before .loop in
     halt-last (a .file .now) (a .types .now) (a .functions .now) (a .input .now) (a .label) (a .limit) (a .work .now) (a .base) (a .first) (a .from) (l .work) (l .cells) (l .done) (l .r) (l .inv .2) (l .inv .1) _ _ (c .before .before .before .before .before .before .before .before .before .before .before .before .before .run-on .ensures) (c .before .before .before .before .before .before .before .halt .given .1) (a .ends .now) (c .before .before .before .before .before .before .before .before .before .before .before .before .before .before .before .before .before .before .before .before .before .before .pre .1) (c .before .before .before .before .enter-asked .ensures) (omega arith)
@@ -107,10 +116,14 @@ go-on-spec =
     (λ c. search needs)
     returns-3
     (λ c. search needs)
-    enter-asked-requires
-    cast-t31
+    cast-t28
     (λ c. search needs)
     returns-4
+    (λ c. search needs)
+    enter-asked-requires
+    cast-t32
+    (λ c. search needs)
+    returns-5
     add-done
     loop-less
     loop-again)

@@ -30,17 +30,22 @@ returns c = let a = c .before .before .before .before .before .before .before .b
 
 returns-2 : tie.Need-returns-2 Inv-loop μ-loop
 returns-2 c = let a = c .before .before .before .before .before .before .before .before .before .before .before .before .before .args in
-    rw (c .halted2 .ensures) (ran (a .file .now) (a .types .now) (a .functions .now) (a .label) Halt.Stops (c .before .before .before .before .before .before .before .loop .inv .2) (c .before .before .before .before .before .before .before .loop .inv .1)
-    (halted-so (a .file .now) (a .types .now) (a .functions .now) (a .label) Next.Stops (c .before .before .before .before .before .step .ensures) (c .before .enum-told2 .given .1)))
+    rw (c .halted2 .ensures) (ran (a .file .now) (a .types .now) (a .functions .now) (a .label) Halt.Lacks (c .before .before .before .before .before .before .before .loop .inv .2) (c .before .before .before .before .before .before .before .loop .inv .1)
+    (halted-so (a .file .now) (a .types .now) (a .functions .now) (a .label) Next.Lacks (c .before .before .before .before .before .step .ensures) (c .before .enum-told2 .given .1)))
 
 returns-3 : tie.Need-returns-3 Inv-loop μ-loop
-returns-3 c = let a = c .before .before .before .before .before .before .before .before .before .before .before .before .before .before .args in
-    rw (c .halted3 .ensures) (ran (a .file .now) (a .types .now) (a .functions .now) (a .label) (Halt.Waits _) (c .before .before .before .before .before .before .before .before .loop .inv .2) (c .before .before .before .before .before .before .before .before .loop .inv .1)
-    (halted-so (a .file .now) (a .types .now) (a .functions .now) (a .label) (Next.Waits _) (c .before .before .before .before .before .before .step .ensures) (c .before .before .next .given .1)))
+returns-3 c = let a = c .before .before .before .before .before .before .before .before .before .before .before .before .before .args in
+    rw (c .halted3 .ensures) (ran (a .file .now) (a .types .now) (a .functions .now) (a .label) Halt.Stops (c .before .before .before .before .before .before .before .loop .inv .2) (c .before .before .before .before .before .before .before .loop .inv .1)
+    (halted-so (a .file .now) (a .types .now) (a .functions .now) (a .label) Next.Stops (c .before .before .before .before .before .step .ensures) (c .before .enum-told3 .given .1)))
 
 returns-4 : tie.Need-returns-4 Inv-loop μ-loop
-returns-4 c = let a = c .before .before .before .before .before .before .before .before .before .before .before .before .before .before .before .args in
-    rw (c .halted4 .ensures) (ran (a .file .now) (a .types .now) (a .functions .now) (a .label) Halt.Spent (c .before .before .before .before .before .before .before .before .before .loop .inv .2) (c .before .before .before .before .before .before .before .before .before .loop .inv .1)
+returns-4 c = let a = c .before .before .before .before .before .before .before .before .before .before .before .before .before .before .args in
+    rw (c .halted4 .ensures) (ran (a .file .now) (a .types .now) (a .functions .now) (a .label) (Halt.Waits _) (c .before .before .before .before .before .before .before .before .loop .inv .2) (c .before .before .before .before .before .before .before .before .loop .inv .1)
+    (halted-so (a .file .now) (a .types .now) (a .functions .now) (a .label) (Next.Waits _) (c .before .before .before .before .before .before .step .ensures) (c .before .before .next .given .1)))
+
+returns-5 : tie.Need-returns-5 Inv-loop μ-loop
+returns-5 c = let a = c .before .before .before .before .before .before .before .before .before .before .before .before .before .before .before .args in
+    rw (c .halted5 .ensures) (ran (a .file .now) (a .types .now) (a .functions .now) (a .label) Halt.Spent (c .before .before .before .before .before .before .before .before .before .loop .inv .2) (c .before .before .before .before .before .before .before .before .before .loop .inv .1)
     (_, halted-so (a .file .now) (a .types .now) (a .functions .now) (a .label) (Next.Goes _) (c .before .before .before .before .before .before .before .step .ensures) (c .before .before .before .next2 .given .1), omega arith))
 
 loop-less : tie.Need-loop-less Inv-loop μ-loop
@@ -76,6 +81,10 @@ run-on-spec =
     (λ c κs. search needs)
     (λ c. search needs)
     returns-4
+    (λ c. search needs)
+    (λ c κs. search needs)
+    (λ c. search needs)
+    returns-5
     (λ c. search needs)
     loop-less
     loop-again)

@@ -1,6 +1,6 @@
--- `steps::step` meets its contract: the kind tells which step is due, and a missing alternative is the end.
+-- `steps::step` meets its contract: the kind tells which step is due, and a missing alternative was found.
 use Rattle.registers.proofs.Which.{control-missing, control-part, control-expression}
-use Rattle.choosing.proofs.Choosing.{missing-stops}
+use Rattle.choosing.proofs.Choosing.{missing-lacks}
 use borrow.Author.Needs.{needs}
 use Rattle.steps.proofs.step.Statement.{statement}
 use Rattle.steps.proofs.step.Tie as tie
@@ -19,7 +19,7 @@ step-expression-requires c κs = let start = c .before .before .before .before .
 returns : tie.Need-returns
 returns c = let a = c .before .before .before .before .before .before .args in
     let r = a .r in
-    missing-stops (a .file .now) (a .types .now) (a .functions .now) (a .work .now) (a .base) (a .label) r (control-missing (r .kind) (r .place) (r .env) (c .match .keys1))
+    missing-lacks (a .file .now) (a .types .now) (a .functions .now) (a .work .now) (a .base) (a .label) r (control-missing (r .kind) (r .place) (r .env) (c .match .keys1))
 
 returns-2 : tie.Need-returns-2
 returns-2 c = let a = c .before .before .before .before .before .before .before .before .before .before .args in
