@@ -14,18 +14,20 @@ use borrow.Author.Tests.{le-leb, lt-leb, leb-true, leb-false}
 use Rattle.reach.specs.declared.Refusal.{Refusal}
 use Rattle.reach.specs.declared.Refusal.the-variants.{BadInput, WorkTooShort}
 use Rattle.reach.specs.declared.Outcome.{Outcome}
-use Rattle.reach.specs.declared.Outcome.the-variants.{Reached, Ended, Unfinished}
+use Rattle.reach.specs.declared.Outcome.the-variants.{Reached, Ended, Unfinished, Missing}
 use Rattle.reach.specs.Words.{numberOf, stepsOf}
 use Rattle.reach.specs.Limits.{workWords}
 use Rattle.reach.specs.Syntax.{Program}
 use Rattle.reach.specs.Parts.{Parts, prefix}
 use Rattle.reach.specs.Types.{WithinDepth}
 use Rattle.reach.specs.Eval.{Run, reached, ended, unfinished, missing, halted, run, Spent}
+use Rattle.reach.specs.States.{MissingAfter}
 use Rattle.reach.specs.Input.{inputOf}
 use Rattle.reach.specs.Answers.{Checked, accepted, turnedBack, check, RunAnswer, noRun, ran, outcomeOf, runInput, runChecked, runAnswer}
 use Rattle.reach.proofs.Base.{clash, picked}
 use Rattle.reach.proofs.Evaluation.{run-spent}
 use Rattle.reach.proofs.ClosedInputs.{input-exactly}
+use Rattle.reach.proofs.Demands as Reach
 use Rattle.reach.proofs.Refusals.{turned-back-by}
 use Rattle.running.specs.Looked.{LookedAt}
 use Rattle.closed.specs.declared.Answer.{Answer}
@@ -68,6 +70,14 @@ unfinished-kept limit n (ended why m) spent is = absurd (clash (cc))
 unfinished-kept limit n (unfinished m) spent is = let same : n ≡ m = cc in same ∙ spent
 unfinished-kept limit n (missing m) spent is = absurd (clash (cc))
 unfinished-kept limit n (halted q m) spent is = absurd (clash (cc))
+
+missing-kept : (n : ℕ) (x : Run) → Missing n ≡ outcomeOf x → x ≡ missing n
+unfolding outcomeOf
+missing-kept n (reached m) is = absurd (clash (cc))
+missing-kept n (ended why m) is = absurd (clash (cc))
+missing-kept n (unfinished m) is = absurd (clash (cc))
+missing-kept n (missing m) is = let same : n ≡ m = cc in ap missing (sym same)
+missing-kept n (halted q m) is = absurd (clash (cc))
 
 -- `Promised file input work work′ r` is the contract: the call answered r, and the work slice that held the words `work` holds `work′`.
 module _ (file input work work′ : List ℕ) (r : Answer) (call : Promised file input work work′ r) where
@@ -138,6 +148,18 @@ module _ (file input work work′ : List ℕ) (r : Answer) (call : Promised file
     steps-spent o is =
         let (j, reads, enough, ends) = ran-exactly o .0 is in
         rw ends (steps-kept (p .steps) (run p j) (run-spent p j))
+
+    -- 02, Slip 1: "the closed run says missing too, no longer ended": exactly where, inside the step limit, the last of so many steps finds that a case has no
+    -- alternative for its constructor.
+    pub missing-exactly : (n : ℕ)
+        → (r ≡ Answer.Ran (Missing n)) ↔ ((j : Parts) × IsInput p input j × (workWords (p .steps) ≤ length work) × MissingAfter p j n)
+    unfolding outcomeOf
+    missing-exactly n = (
+      λ is. let (j, reads, enough, ends) = ran-exactly (Missing n) .0 is in
+          (j, reads, enough, (Reach.missing-exactly p j n) .0 (missing-kept n (run p j) ends)),
+      λ h. let (j, reads, enough, finds) = h in
+          ran-exactly (Missing n) .1 (j, reads, enough, sym (ap outcomeOf ((Reach.missing-exactly p j n) .1 finds))),
+    )
 
     pub unfinished-all : (n : ℕ) → r ≡ Answer.Ran (Unfinished n) → n ≡ p .steps
     unfinished-all n is =

@@ -19,7 +19,7 @@ use Rattle.reach.specs.Lists.{entryBytes, listBytes, keep, cut, roomOf, written
 use Rattle.reach.specs.Answers.{accepted, turnedBack, check, noSearch, complete, cutShort, cutAnswer, searchChecked, searchAnswer}
 use Rattle.reach.proofs.Lists.{verdict-more}
 use Rattle.reach.proofs.Answers.{search-turned-back, short-work}
-use Rattle.exploring.specs.Exploring.{WithEntry}
+use Rattle.verdicts.specs.Verdicts.{WithEntry}
 
 -- One entry more.
 

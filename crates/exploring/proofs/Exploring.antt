@@ -38,7 +38,8 @@ use Rattle.listing.specs.declared.Written.the-variants as Written
 use Rattle.listing.specs.Entry.{InputIn, Listable, entryFor, WroteFor, WroteEntry}
 use Rattle.listing.proofs.Bytes.{entry-length}
 use Rattle.exploring.specs.declared.Answer.the-variants as Answer
-use Rattle.exploring.specs.Exploring.{firstWalk, GoesOn, WithEntry, VerdictAfter, ListableAs, WroteAs, FirstEntries, Begins, SomeBegins, Explores}
+use Rattle.verdicts.specs.Verdicts.{WithEntry, VerdictAfter}
+use Rattle.exploring.specs.Exploring.{firstWalk, GoesOn, ListableAs, WroteAs, FirstEntries, Begins, SomeBegins, Explores}
 use Rattle.exploring.proofs.Cutting.{verdict-with, size-more, written-none, written-length, written-more}
 
 -- the search goes on while a path is under way, and behind the end of one while there is a choice point

@@ -6,14 +6,12 @@ use mathlib.Core.Bool.{Bool, true, false}
 use mathlib.Core.List.{List, [], _∷_, _++_}
 use lib.ListN.{length}
 use Rattle.reach.specs.declared.Verdict.{Verdict}
-use Rattle.reach.specs.declared.Kind.{Kind}
 use Rattle.reach.specs.declared.PathEnd.{PathEnd}
 use Rattle.reach.specs.declared.PathEnd.the-variants.{Unlisted, Listed}
-use Rattle.reach.specs.declared.Counts.{Counts}
 use Rattle.reach.specs.Syntax.{Program, sourceTypes}
 use Rattle.reach.specs.Types.{sourceSlots}
 use Rattle.reach.specs.Eval.{start}
-use Rattle.reach.specs.Search.{Entry, openInput, entries, oneMore, verdictBy, verdict}
+use Rattle.reach.specs.Search.{Entry, openInput, entries, verdict}
 use Rattle.reach.specs.Lists.{entryBytes, listBytes, written}
 use Rattle.machine.specs.Cells.{Cells}
 use Rattle.registers.specs.declared.Registers.{Registers}
@@ -35,15 +33,6 @@ firstWalk parameters from = record { going = true; registers = from; cells = par
 abbrev pub GoesOn : Walk → Bool → Type 0
 GoesOn x true = Active x
 GoesOn x false = (x .going ≡ false) × (x .height ≡ 0)
-
--- the verdict of what was listed before, whatever that was, becomes that of one entry more
-abbrev pub WithEntry : Verdict → Kind → Verdict → Type 0
-WithEntry v kind r = (c : Counts) → v ≡ verdictBy c → r ≡ verdictBy (oneMore kind c)
-
--- the verdict after what a path lists
-abbrev pub VerdictAfter : Verdict → PathEnd → Verdict → Type 0
-VerdictAfter v Unlisted r = r ≡ v
-VerdictAfter v (Listed kind) r = WithEntry v kind r
 
 -- What a path lists can be written.
 abbrev pub ListableAs : List ℕ → List ℕ → List ℕ → ℕ → ℕ → PathEnd → Type 0

@@ -1,20 +1,20 @@
 // The loop of a search: path after path while one is under way or a choice point is left, what each path lists written to the lent list, and the
-// verdict. Rests on crates moves and listing.
+// verdict. Rests on crates moves, listing and verdicts.
 ghost use mathlib.Core.Path.{_≡_};
 ghost use Prim.Native.Nat.{_≤_};
 ghost use lib.ListN.{length};
 ghost use Rattle.skipping.specs.Ends.{Ends};
-ghost use Rattle.exploring.specs.Exploring.{firstWalk, GoesOn, WithEntry, VerdictAfter, ListableAs, WroteAs, SomeBegins, Explores};
+ghost use Rattle.exploring.specs.Exploring.{firstWalk, GoesOn, ListableAs, WroteAs, SomeBegins, Explores};
 use depths::Depths;
 use listing::Written;
 use listing::write_entry;
 use moves::Walk;
 use moves::make_moves;
-use reach::Kind;
 use reach::PathEnd;
 use reach::Refusal;
 use reach::Verdict;
 use registers::Registers;
+use verdicts::verdict_after;
 
 // The answer: a refusal of 1 to 9 or 11; the length of a complete list with its verdict; or, with refusal 12, the length of the list
 // that was cut short.
@@ -32,38 +32,6 @@ fn is_active(walk: Walk) -> bool
         return true;
     }
     0 < walk.height
-}
-
-// The verdict after what a path lists.
-fn verdict_after(verdict: Verdict, listing: PathEnd) -> Verdict
-    ensures { λ r. ⌜ VerdictAfter verdict listing r ⌝ }
-{
-    match listing {
-        PathEnd::Unlisted => return verdict,
-        PathEnd::Listed(kind) => return with_entry(verdict, kind),
-    }
-}
-
-// The verdict when one more entry is listed.
-fn with_entry(verdict: Verdict, kind: Kind) -> Verdict
-    ensures { λ r. ⌜ WithEntry verdict kind r ⌝ }
-{
-    match kind {
-        Kind::RE => return Verdict::Found,
-        Kind::UN => return with_unfinished(verdict),
-        Kind::MI => return verdict,
-    }
-}
-
-// The verdict when an unfinished entry is listed.
-fn with_unfinished(verdict: Verdict) -> Verdict
-    ensures { λ r. ⌜ WithEntry verdict Kind.UN r ⌝ }
-{
-    match verdict {
-        Verdict::Found => return Verdict::Found,
-        Verdict::Undecided => return Verdict::Undecided,
-        Verdict::None => return Verdict::Undecided,
-    }
 }
 
 // What a path lists is written to the list from a place on, if it fits.

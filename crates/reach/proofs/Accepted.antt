@@ -31,7 +31,7 @@ use Rattle.reach.proofs.Evaluation.{start-in, waits-free}
 use Rattle.reach.proofs.Entries.{Finds, at-target, at-missing, at-limit, at-limit-waiting, by-step, by-fork, entry-found, entry-holds, entry-reopens}
 use Rattle.reach.proofs.Cover.{covers, apart, apart-numbers}
 use Rattle.reach.proofs.Limits.{accepted-keeps}
-use Rattle.reach.proofs.Lists.{Holds, none-exactly}
+use Rattle.reach.proofs.Lists.{Holds, none-without}
 use Rattle.reach.proofs.Answers.{search-turned-back, complete-is}
 
 module _ (file : List ℕ) (p : Program) (h : check file ≡ accepted p) where
@@ -157,9 +157,9 @@ pub none-answer : (file : List ℕ) (work list : ℕ) (a : SearchAnswer) → sea
 unfolding verdictOf refusalOf
 none-answer file work list (noSearch why) h = (λ v. absurd (Option·none-ne-some None v), λ g. absurd (Option·some-ne-none why (g .0)))
 none-answer file work list (complete es) h = (
-  λ v. let without = none-exactly es .0 (Option·some-injective (verdict es) None v) in
+  λ v. let without = none-without es .0 (Option·some-injective (verdict es) None v) in
       (refl, λ p c. none-listed file p c .0 (rw (← complete-is file work list p c es h) without)),
-  λ g. ap some (none-exactly es .1 (neither (check file) refl (g .1))),
+  λ g. ap some (none-without es .1 (neither (check file) refl (g .1))),
 )
   where
     neither : (c : Checked) → check file ≡ c → AllStop file → ¬ Holds RE es × ¬ Holds UN es

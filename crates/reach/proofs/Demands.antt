@@ -16,14 +16,16 @@ use Rattle.reach.specs.Limits.{typeLimit, workWords}
 use Rattle.reach.specs.Syntax.{Types, Program}
 use Rattle.reach.specs.Parts.{Parts, Place, openAt, BoundPart, Completes, prefix}
 use Rattle.reach.specs.Types.{ClosedInput, WithinDepth, ValueOf, LeastDepth, rounds, leastDepths}
-use Rattle.reach.specs.Eval.{halted, run, Spent, NotHalted}
+use Rattle.reach.specs.Eval.{missing, halted, run, Spent, NotHalted}
 use Rattle.reach.specs.Search.{Entry, says, Shown, StopsInside, entries}
+use Rattle.reach.specs.States.{MissingAfter}
 use Rattle.reach.specs.Moves.{Walk, move, owedMoves, finished}
 use Rattle.reach.specs.Input.{inputOf}
 use Rattle.reach.specs.Lists.{listBytes, roomOf}
 use Rattle.reach.specs.Answers.{accepted, check, noSearch, complete, cutShort, searchAnswer, listed, refusalOf, verdictOf}
 use Rattle.reach.proofs.LeastDepths as LeastDepths
 use Rattle.reach.proofs.Evaluation.{run-spent, run-ends}
+use Rattle.reach.proofs.Missing as Missing
 use Rattle.reach.proofs.Moves as Moves
 use Rattle.reach.proofs.EntryLength.{entry-within}
 use Rattle.reach.proofs.ClosedInputs as ClosedInputs
@@ -31,13 +33,15 @@ use Rattle.reach.proofs.Answers.{Means, search-means, listed-in, comple
 use Rattle.reach.proofs.Accepted.{entries-true, entries-cover, entries-apart, entries-reopen, entries-inhabited, none-answer}
 
 -- Demand 2: "Every listed entry is true: each closed input that completes it within the depth ends as the entry says, reached or unfinished,
--- after exactly the listed steps of the published evaluation." Here for every closed input, however deep, and for a list cut short too.
+-- after exactly the listed steps of the published evaluation." Here for every closed input, however deep, and for a list cut short too; and, by 02,
+-- Slip 1, "what holds for the listed kinds [..] holds for the new kind": or missing.
 pub entry-true : (file : List ℕ) (work list : ℕ) (p : Program) → check file ≡ accepted p
     → (e : Entry) → e ∈ listed (searchAnswer file work list)
     → (j : Parts) → ClosedInput p j → Completes j (e .input) → run p j ≡ says (e .kind) (e .steps)
 entry-true file work list p h e m = entries-true file p h e (listed-in file work list p h e m)
 
--- Demand 2: "On a complete list, each closed input within the depth that reaches the target or is unfinished at the step limit completes an entry."
+-- Demand 2: "On a complete list, each closed input within the depth that reaches the target or is unfinished at the step limit completes an entry." The same
+-- of one that runs into a missing alternative; and the entry is of its kind, with its steps.
 pub list-covers : (file : List ℕ) (work list : ℕ) (p : Program) → check file ≡ accepted p
     → (es : List Entry) → searchAnswer file work list ≡ complete es
     → (j : Parts) → WithinDepth p j → Shown (run p j)
@@ -74,9 +78,14 @@ none-exactly file work list = none-answer file work list (searchAnswer file work
 pub unfinished-spent : (p : Program) (i : Parts) → Spent (p .steps) (run p i)
 unfinished-spent p i = run-spent p i
 
--- a closed input never halts, so a closed run is reached, ended or unfinished
+-- a closed input never halts, so a closed run is reached, ended, unfinished or missing
 pub closed-run-ends : (p : Program) (j : Parts) → ClosedInput p j → NotHalted (run p j)
 closed-run-ends p j c = run-ends p j (c .0)
+
+-- 02, Slip 1: "inputs that run into a missing alternative". 01: "choosing the alternative for a constructor, or finding that there is none" is a step. A run is
+-- missing after n steps exactly where, with fewer than S done, the last of them finds that a case has no alternative for its constructor.
+pub missing-exactly : (p : Program) (i : Parts) (n : ℕ) → (run p i ≡ missing n) ↔ MissingAfter p i n
+missing-exactly p i n = Missing.missing-exactly p i n
 
 -- 01, "The list": the moves of the program produce exactly the list of the recursive definition, and a number falls at each move.
 pub moves-list : (p : Program) → ((finished p) .listed ≡ entries p) × (owedMoves p (leastDepths (p .types)) (finished p) ≡ 0)

@@ -7,6 +7,7 @@ pub mod LeastDepths
 pub mod Slots
 pub mod Depths
 pub mod Evaluation
+pub mod Missing
 pub mod Entries
 pub mod Cover
 pub mod Moves

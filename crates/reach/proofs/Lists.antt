@@ -203,9 +203,9 @@ none-counted k es not = go (ltb 0 (countOf k (counts (kindsOf es)))) refl
     go false e = ltb-false 0 _ e
 
 -- the verdict is none exactly with no RE and no UN
-pub none-exactly : (es : List Entry) → (verdict es ≡ None) ↔ (¬ Holds RE es × ¬ Holds UN es)
+pub none-without : (es : List Entry) → (verdict es ≡ None) ↔ (¬ Holds RE es × ¬ Holds UN es)
 unfolding verdict
-none-exactly es = (
+none-without es = (
   λ v. let g = gives _ None v in (λ h. omega (arith, g .0, (some-counted RE es) .1 h), λ h. omega (arith, g .1, (some-counted UN es) .1 h)),
   λ h. by-neither _ (none-counted RE es (h .0)) (none-counted UN es (h .1)),
 )

@@ -1,6 +1,6 @@
 -- The starred examples of 01 as one table. The checker computes each row from the bytes of P, with its label, D and S changed, and finds what
--- stands beside it: the lines of the list and the verdict, or the end of a closed run. A second table has what P cannot show, a missing
--- alternative, a third P in buffers that are just long enough and one too short, and a fourth what `reachlist` prints.
+-- stands beside it: the lines of the list and the verdict, or the end of a closed run. A second table has what P cannot show, missing
+-- alternatives, a third buffers that are just long enough and one too short, and a fourth what `reachlist` prints.
 -- Rests on the definitions alone.
 use Prim.Native.Nat.{ℕ, _+_, _*_}
 use mathlib.Core.Path.{_≡_, refl}
@@ -129,24 +129,40 @@ starred =
     ∷ bytes-of (p-with 7 4 20) ⇒ bytes (0x52 ∷ 0x45 ∷ 0x06 ∷ 0x00 ∷ 0x03 ∷ 0x00 ∷ 0x01 ∷ 0x01 ∷ 0xff ∷ [])
     ∷ []
 
--- P has an alternative for every constructor. In this file, with this S, the one case looks at a constructor for which it has none.
+-- P has an alternative for every constructor. This is P without the one for constructor 0 of its parameter, with this label and S.
+abbrev pub p-without : ℕ → ℕ → List ℕ
+p-without label s =
+    0x54 ∷ 0x59 ∷ 0x02 ∷ 0x00 ∷ 0x01 ∷ 0x00 ∷ 0x46 ∷ 0x4e ∷ 0x01 ∷ 0x00 ∷ 0x00 ∷ 0x14 ∷ 0x00 ∷ 0x03 ∷ 0x00 ∷ 0x00 ∷ 0x00 ∷ 0x00
+    ∷ 0x01 ∷ 0x03 ∷ 0x00 ∷ 0x00 ∷ 0x01 ∷ 0x01 ∷ 0x02 ∷ 0x00 ∷ 0x00 ∷ 0x01 ∷ 0x05 ∷ 0x07 ∷ 0x02 ∷ 0x00 ∷ 0x00 ∷ 0x47 ∷ 0x4f ∷ 0x00 ∷ label ∷ 0x04 ∷ s ∷ 0x00 ∷ []
+
+-- In this file, with this S, the one case looks at a constructor that the rule itself built, and has no alternative for it.
 abbrev pub lacking : ℕ → List ℕ
 lacking s =
     0x54 ∷ 0x59 ∷ 0x02 ∷ 0x00 ∷ 0x01 ∷ 0x00 ∷ 0x46 ∷ 0x4e ∷ 0x01 ∷ 0x00 ∷ 0x00 ∷ 0x0a ∷ 0x00 ∷ 0x03 ∷ 0x00 ∷ 0x02 ∷ 0x00 ∷ 0x00 ∷ 0x00 ∷ 0x01 ∷ 0x02 ∷ 0x00 ∷ 0x00
     ∷ 0x47 ∷ 0x4f ∷ 0x00 ∷ 0x07 ∷ 0x04 ∷ s ∷ 0x00 ∷ []
 
+-- a missing alternative is found at its step, the third or the second; before it the path is unfinished, and no verdict comes of it
 abbrev pub at-missing : List Row
 at-missing =
-    search-of (lacking 1) ⇒ lists (unfinished 1 (○ ∷ []) ∷ []) Undecided
+    search-of (p-without 7 20) ⇒ lists (missing 3 (0 ∷ []) ∷ reach 6 (1 ∷ 1 ∷ ○ ∷ []) ∷ []) Found
+    ∷ search-of (p-without 7 3) ⇒ lists (missing 3 (0 ∷ []) ∷ unfinished 3 (1 ∷ ○ ∷ []) ∷ []) Undecided
+    ∷ search-of (p-without 7 2) ⇒ lists (unfinished 2 (○ ∷ []) ∷ []) Undecided
+    ∷ search-of (p-without 8 20) ⇒ lists (missing 3 (0 ∷ []) ∷ []) None
+    ∷ run-of (p-without 7 3) (0 ∷ []) ⇒ answers (ran (Missing 3))
+    ∷ run-of (p-without 7 2) (0 ∷ []) ⇒ answers (ran (Unfinished 2))
+    ∷ bytes-of (p-without 8 20) ⇒ bytes (0x4d ∷ 0x49 ∷ 0x03 ∷ 0x00 ∷ 0x01 ∷ 0x00 ∷ 0x00 ∷ [])
+    ∷ search-of (lacking 1) ⇒ lists (unfinished 1 (○ ∷ []) ∷ []) Undecided
     ∷ search-of (lacking 2) ⇒ lists (missing 2 (○ ∷ []) ∷ []) None
     ∷ run-of (lacking 1) (0 ∷ []) ⇒ answers (ran (Unfinished 1))
     ∷ run-of (lacking 2) (0 ∷ []) ⇒ answers (ran (Missing 2))
     ∷ []
 
--- P's list has 9 bytes, and its S of 20 asks for 2,304 words: with one less the search is refused, and a closed run too
+-- P's list has 9 bytes, and its S of 20 asks for 2,304 words: with one less the search is refused, and a closed run too; a missing alternative's entry
+-- is among those that must fit
 abbrev pub rooms : List Row
 rooms =
-    search-of (p-with 7 4 20) with-list 9 ⇒ lists (reach 6 (1 ∷ 1 ∷ ○ ∷ []) ∷ []) Found
+    search-of (p-without 8 20) with-list 6 ⇒ refused 12 []
+    ∷ search-of (p-with 7 4 20) with-list 9 ⇒ lists (reach 6 (1 ∷ 1 ∷ ○ ∷ []) ∷ []) Found
     ∷ search-of (p-with 7 4 20) with-list 8 ⇒ refused 12 []
     ∷ search-of (p-with 7 4 20) with-work (64 * 20 + 1024) ⇒ lists (reach 6 (1 ∷ 1 ∷ ○ ∷ []) ∷ []) Found
     ∷ search-of (p-with 7 4 20) with-work (64 * 20 + 1023) ⇒ refused 11 []
@@ -154,10 +170,13 @@ rooms =
     ∷ run-of (p-with 7 4 20) (0 ∷ []) with-work (64 * 20 + 1023) ⇒ answers (noRun WorkTooShort)
     ∷ []
 
--- what `reachlist` prints of P, of P with S 5 and with D 2, of P with a list slice that is one too short, and of an empty file:
+-- what `reachlist` prints of P, of P with S 5 and with D 2, of P without an alternative with S 3 and with label 8, of P with a list slice that is one
+-- too short, and of an empty file:
 -- "reach 6 1 1 _" / "total 1 0 0 0 found"
 -- "unfinished 5 1 _" / "total 0 1 0 100 undecided"
 -- "total 0 0 0 0 none"
+-- "missing 3 0" / "unfinished 3 1 _" / "total 0 1 1 100 undecided"
+-- "missing 3 0" / "total 0 0 1 0 none"
 -- "refused 12"
 -- "refused 1"
 abbrev pub printed : List Row
@@ -165,6 +184,8 @@ printed =
     text-of (p-with 7 4 20) ⇒ bytes (0x72 ∷ 0x65 ∷ 0x61 ∷ 0x63 ∷ 0x68 ∷ 0x20 ∷ 0x36 ∷ 0x20 ∷ 0x31 ∷ 0x20 ∷ 0x31 ∷ 0x20 ∷ 0x5f ∷ 0x0a ∷ 0x74 ∷ 0x6f ∷ 0x74 ∷ 0x61 ∷ 0x6c ∷ 0x20 ∷ 0x31 ∷ 0x20 ∷ 0x30 ∷ 0x20 ∷ 0x30 ∷ 0x20 ∷ 0x30 ∷ 0x20 ∷ 0x66 ∷ 0x6f ∷ 0x75 ∷ 0x6e ∷ 0x64 ∷ 0x0a ∷ [])
     ∷ text-of (p-with 7 4 5) ⇒ bytes (0x75 ∷ 0x6e ∷ 0x66 ∷ 0x69 ∷ 0x6e ∷ 0x69 ∷ 0x73 ∷ 0x68 ∷ 0x65 ∷ 0x64 ∷ 0x20 ∷ 0x35 ∷ 0x20 ∷ 0x31 ∷ 0x20 ∷ 0x5f ∷ 0x0a ∷ 0x74 ∷ 0x6f ∷ 0x74 ∷ 0x61 ∷ 0x6c ∷ 0x20 ∷ 0x30 ∷ 0x20 ∷ 0x31 ∷ 0x20 ∷ 0x30 ∷ 0x20 ∷ 0x31 ∷ 0x30 ∷ 0x30 ∷ 0x20 ∷ 0x75 ∷ 0x6e ∷ 0x64 ∷ 0x65 ∷ 0x63 ∷ 0x69 ∷ 0x64 ∷ 0x65 ∷ 0x64 ∷ 0x0a ∷ [])
     ∷ text-of (p-with 7 2 20) ⇒ bytes (0x74 ∷ 0x6f ∷ 0x74 ∷ 0x61 ∷ 0x6c ∷ 0x20 ∷ 0x30 ∷ 0x20 ∷ 0x30 ∷ 0x20 ∷ 0x30 ∷ 0x20 ∷ 0x30 ∷ 0x20 ∷ 0x6e ∷ 0x6f ∷ 0x6e ∷ 0x65 ∷ 0x0a ∷ [])
+    ∷ text-of (p-without 7 3) ⇒ bytes (0x6d ∷ 0x69 ∷ 0x73 ∷ 0x73 ∷ 0x69 ∷ 0x6e ∷ 0x67 ∷ 0x20 ∷ 0x33 ∷ 0x20 ∷ 0x30 ∷ 0x0a ∷ 0x75 ∷ 0x6e ∷ 0x66 ∷ 0x69 ∷ 0x6e ∷ 0x69 ∷ 0x73 ∷ 0x68 ∷ 0x65 ∷ 0x64 ∷ 0x20 ∷ 0x33 ∷ 0x20 ∷ 0x31 ∷ 0x20 ∷ 0x5f ∷ 0x0a ∷ 0x74 ∷ 0x6f ∷ 0x74 ∷ 0x61 ∷ 0x6c ∷ 0x20 ∷ 0x30 ∷ 0x20 ∷ 0x31 ∷ 0x20 ∷ 0x31 ∷ 0x20 ∷ 0x31 ∷ 0x30 ∷ 0x30 ∷ 0x20 ∷ 0x75 ∷ 0x6e ∷ 0x64 ∷ 0x65 ∷ 0x63 ∷ 0x69 ∷ 0x64 ∷ 0x65 ∷ 0x64 ∷ 0x0a ∷ [])
+    ∷ text-of (p-without 8 20) ⇒ bytes (0x6d ∷ 0x69 ∷ 0x73 ∷ 0x73 ∷ 0x69 ∷ 0x6e ∷ 0x67 ∷ 0x20 ∷ 0x33 ∷ 0x20 ∷ 0x30 ∷ 0x0a ∷ 0x74 ∷ 0x6f ∷ 0x74 ∷ 0x61 ∷ 0x6c ∷ 0x20 ∷ 0x30 ∷ 0x20 ∷ 0x30 ∷ 0x20 ∷ 0x31 ∷ 0x20 ∷ 0x30 ∷ 0x20 ∷ 0x6e ∷ 0x6f ∷ 0x6e ∷ 0x65 ∷ 0x0a ∷ [])
     ∷ text-of (p-with 7 4 20) with-list 8 ⇒ bytes (0x72 ∷ 0x65 ∷ 0x66 ∷ 0x75 ∷ 0x73 ∷ 0x65 ∷ 0x64 ∷ 0x20 ∷ 0x31 ∷ 0x32 ∷ 0x0a ∷ [])
     ∷ text-of [] ⇒ bytes (0x72 ∷ 0x65 ∷ 0x66 ∷ 0x75 ∷ 0x73 ∷ 0x65 ∷ 0x64 ∷ 0x20 ∷ 0x31 ∷ 0x0a ∷ [])
     ∷ []

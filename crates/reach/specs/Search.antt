@@ -29,7 +29,7 @@ says RE n = reached n
 says UN n = unfinished n
 says MI n = missing n
 
--- the ends that a list is to show
+-- the ends that a list shows: reached, unfinished, or missing
 abbrev pub Shown : Run → Type 0
 Shown (reached n) = Unit {0}
 Shown (ended why n) = ⊥
@@ -37,6 +37,7 @@ Shown (unfinished n) = Unit {0}
 Shown (missing n) = Unit {0}
 Shown (halted q n) = ⊥
 
+-- the ends that are no stop inside the step limit off target
 abbrev pub ReachedOrUnfinished : Run → Type 0
 ReachedOrUnfinished (reached n) = Unit {0}
 ReachedOrUnfinished (ended why n) = ⊥

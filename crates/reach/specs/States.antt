@@ -1,12 +1,12 @@
--- The states that an evaluation comes to: which parts of the input they speak of, how many steps lead to them, and that what a step meets there
--- is there.
+-- The states that an evaluation comes to: which parts of the input they speak of, how many steps lead to them, that what a step meets there
+-- is there, and at which of them an alternative is missing.
 -- Rests on Parts, Types, Eval, Encoding and Typing.
 use Prim.Native.Nat.{ℕ, zero, suc, _+_, _<_}
 use mathlib.Core.Path.{_≡_}
 use mathlib.Core.List.{List, [], _∷_}
 use mathlib.Core.Option.{some}
 use lib.ListN.{length, getD}
-use Rattle.reach.specs.Syntax.{variable, call, construct, case, letIn, target, count, Alternatives, Function, Program, fieldTypes, functionAt}
+use Rattle.reach.specs.Syntax.{variable, call, construct, case, letIn, target, Exprs, count, Alternatives, no-more, absent, present, Function, Program, fieldTypes, functionAt}
 use Rattle.reach.specs.Parts.{Parts, Place, has, at, There}
 use Rattle.reach.specs.Types.{sourceSlots, slotAt}
 use Rattle.reach.specs.Encoding.{countAlternatives}
@@ -70,3 +70,24 @@ Sound p i (inspecting q (waiting alts outer ∷ fs)) =
     (t : ℕ) × PartHas p i q t × CaseOn p t alts outer × ((c k : ℕ) → at i q ≡ has c k → Chooses p t c alts outer (inputParts outer (fieldsOf q) k))
 Sound p i uncovered = Unit {0}
 Sound p i stuck = ⊥
+
+-- the alternatives have none for constructor c
+abbrev pub Without : Alternatives → ℕ → Type 0
+Without no-more c = ⊥
+Without (absent alts) zero = Unit {0}
+Without (absent alts) (suc c) = Without alts c
+Without (present e alts) zero = ⊥
+Without (present e alts) (suc c) = Without alts c
+
+-- 01: a case has its constructor, one that the rule built or one of the input, and the next step finds that there is no alternative for it
+pub data FindsNone (i : Parts) : State → Type 0 where
+  for-construction :
+      {t c : ℕ} {es : Exprs} {env outer : Env} {alts : Alternatives} {fs : List Frame}
+      → Without alts c → FindsNone i (evaluating (construct t c es) env (waiting alts outer ∷ fs))
+  for-part :
+      {q : Place} {c k : ℕ} {outer : Env} {alts : Alternatives} {fs : List Frame}
+      → at i q ≡ has c k → Without alts c → FindsNone i (inspecting q (waiting alts outer ∷ fs))
+
+-- with fewer than S steps done, the last of n steps finds that an alternative is missing
+abbrev pub MissingAfter : Program → Parts → ℕ → Type 0
+MissingAfter p i n = (m : ℕ) × (s : State) × (n ≡ suc m) × (m < p .steps) × Steps p i m s × FindsNone i s

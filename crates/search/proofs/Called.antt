@@ -16,7 +16,7 @@ use Rattle.reach.specs.Base.{_∈_}
 use Rattle.reach.specs.Words.{numberOf}
 use Rattle.reach.specs.Limits.{workWords}
 use Rattle.reach.specs.Syntax.{Program}
-use Rattle.reach.specs.Eval.{Spent}
+use Rattle.reach.specs.Eval.{missing, Spent}
 use Rattle.reach.specs.declared.Kind.{Kind}
 use Rattle.reach.specs.declared.Kind.the-variants.{RE, UN, MI}
 use Rattle.reach.specs.Search.{Entry, says, entries, countFrom, counts, verdictBy, verdict}
@@ -203,3 +203,9 @@ pub says-spent : (k : Kind) (n limit : ℕ) → Spent limit (says k n) → (n �
 says-spent RE n limit s = (s, λ is. absurd (clash (cc)))
 says-spent UN n limit s = (omega arith, λ is. s)
 says-spent MI n limit s = (s, λ is. absurd (clash (cc)))
+
+-- an entry that speaks of a missing alternative is an MI with these steps
+pub says-missing : (k : Kind) (n m : ℕ) → says k n ≡ missing m → (k ≡ MI) × (n ≡ m)
+says-missing RE n m e = absurd (clash (cc))
+says-missing UN n m e = absurd (clash (cc))
+says-missing MI n m e = (refl, cc)

@@ -8,7 +8,7 @@
 -- Rests on reach's Demands for the definition, and on Called, Reading and exploring's Cutting for what the call shows of it.
 use Prim.Native.Nat.{ℕ, _+_, _≤_, _<_}
 use native.Mathlib.Omega.{arith}
-use mathlib.Core.Path.{_≡_, sym, subst, _∙_}
+use mathlib.Core.Path.{_≡_, sym, ap, subst, _∙_}
 use mathlib.Core.Logic.{_⊎_, _↔_, _≢_}
 use mathlib.Core.List.{List, [], _∷_, _++_, List·Memᴰ·not-nil}
 use mathlib.Core.Option.{none, some}
@@ -23,10 +23,11 @@ use Rattle.reach.specs.Limits.{workWords}
 use Rattle.reach.specs.Syntax.{Program}
 use Rattle.reach.specs.Parts.{Parts, Place, openAt, BoundPart, Completes}
 use Rattle.reach.specs.Types.{ClosedInput, WithinDepth}
-use Rattle.reach.specs.Eval.{halted, run, Spent}
+use Rattle.reach.specs.Eval.{missing, halted, run, Spent}
 use Rattle.reach.specs.declared.Kind.{Kind}
-use Rattle.reach.specs.declared.Kind.the-variants.{RE, UN}
+use Rattle.reach.specs.declared.Kind.the-variants.{RE, UN, MI}
 use Rattle.reach.specs.Search.{Entry, says, Shown, StopsInside, entries, verdict}
+use Rattle.reach.specs.States.{MissingAfter}
 use Rattle.reach.specs.Lists.{entryBytes, listBytes, roomOf, entryPart}
 use Rattle.reach.specs.Answers.{accepted, turnedBack, check, SearchAnswer, complete, searchAnswer, listed}
 use Rattle.reach.proofs.Base.{nth-member}
@@ -39,7 +40,7 @@ use Rattle.exploring.specs.declared.Answer.{Answer}
 use Rattle.exploring.specs.declared.Answer.the-variants as Answer
 use Rattle.search.specs.Answering.{WordsAfter, Promised, lengthIn, refusalIn, verdictIn, ReadsAs}
 use Rattle.exploring.proofs.Cutting.{size-more, written-none, written-length}
-use Rattle.search.proofs.Called.{length-is, refusal-is, verdict-is, refused-when, full-when, complete-when, complete-lists, full-lists, refused-lists, listed-room, room-inside, written-take, written-drop, member-number, says-spent}
+use Rattle.search.proofs.Called.{length-is, refusal-is, verdict-is, refused-when, full-when, complete-when, complete-lists, full-lists, refused-lists, listed-room, room-inside, written-take, written-drop, member-number, says-spent, says-missing}
 use Rattle.search.proofs.Reading.{part-of, reads-exactly, reads-or-empty}
 
 module _ (file work work′ before after : List ℕ) (r : Answer) (call : Promised file work work′ before after r) where
@@ -129,7 +130,8 @@ module _ (file work work′ before after : List ℕ) (r : Answer) (call : Promis
     member k e reads = nth-member shown k e ((entry-reads k e) .0 reads)
 
     -- Demand 2: "Every listed entry is true: each closed input that completes it within the depth ends as the entry says, reached or unfinished, after exactly
-    -- the listed steps of the published evaluation." Here for every closed input, however deep, and for a list cut short too.
+    -- the listed steps of the published evaluation." Here for every closed input, however deep, and for a list cut short too; and, by 02, Slip 1, "what holds
+    -- for the listed kinds [..] holds for the new kind": or missing.
     pub entry-true : (k : ℕ) (e : Entry) → ReadsAs p (take (lengthIn r) after) k e
         → (j : Parts) → ClosedInput p j → Completes j (e .input) → run p j ≡ says (e .kind) (e .steps)
     entry-true k e reads = Reach.entry-true file (length work) (length before) p checked e (member k e reads)
@@ -177,13 +179,28 @@ module _ (file work work′ before after : List ℕ) (r : Answer) (call : Promis
       pub complete-reads : (k : ℕ) (e : Entry) → ReadsAs p (take n after) k e ↔ (getElem? (entries p) k ≡ some e)
       complete-reads = subst (λ (es : List Entry). (k : ℕ) (e : Entry) → ReadsAs p (take n after) k e ↔ (getElem? es k ≡ some e)) all-shown reads-at
 
-      -- Demand 2: "On a complete list, each closed input within the depth that reaches the target or is unfinished at the step limit completes an entry."
+      -- Demand 2: "On a complete list, each closed input within the depth that reaches the target or is unfinished at the step limit completes an entry." The
+      -- same of one that runs into a missing alternative; and the entry is of its kind, with its steps.
       pub list-covers : (j : Parts) → WithinDepth p j → Shown (run p j)
           → (k : ℕ) × (e : Entry) × ReadsAs p (take n after) k e × Completes j (e .input) × (run p j ≡ says (e .kind) (e .steps))
       list-covers j within ends =
           let (e, m, completes, so) = Reach.list-covers file (length work) (length before) p checked shown whole j within ends in
           let (k, there) = member-number shown e m in
           (k, e, (reads-at k e) .1 there, completes, so)
+
+      -- 02, Slip 1: "inputs that run into a missing alternative. Such a path now gives an entry `MI` with its steps". A closed input within the depth completes an
+      -- MI entry of so many steps exactly where, inside the step limit, the last of them finds that a case has no alternative for its constructor.
+      pub missing-exactly : (j : Parts) → WithinDepth p j → (steps : ℕ)
+          → ((k : ℕ) × (e : Entry) × ReadsAs p (take n after) k e × Completes j (e .input) × (e .kind ≡ MI) × (e .steps ≡ steps)) ↔ MissingAfter p j steps
+      missing-exactly j within steps = (
+        λ h. let (k, e, reads, completes, kind, same) = h in
+            let e-reads = subst (λ (a : Answer). ReadsAs p (take (lengthIn a) after) k e) (sym is) reads in
+            (Reach.missing-exactly p j steps) .0 (entry-true k e e-reads j (within .0) completes ∙ ap (λ (x : Kind). says x (e .steps)) kind ∙ ap missing same),
+        λ m. let ends = (Reach.missing-exactly p j steps) .1 m in
+            let (k, e, reads, completes, so) = list-covers j within (rw ends tt) in
+            let (kind, same) = says-missing (e .kind) (e .steps) steps (sym so ∙ ends) in
+            (k, e, reads, completes, kind, same),
+      )
 
       -- Demand 3: "on a complete list each closed input, however deep, completes at most one entry." Entries are told apart by their numbers.
       pub inputs-apart : (a b : ℕ) (x y : Entry) → ReadsAs p (take n after) a x → ReadsAs p (take n after) b y → a ≢ b
@@ -217,11 +234,12 @@ module _ (file work work′ before after : List ℕ) (r : Answer) (call : Promis
         λ l. verdict-shown ∙ (Verdicts.undecided-exactly shown) .1 ((lists-exactly UN) .0 (l .0), λ h. l .1 ((lists-exactly RE) .1 h)),
       )
 
+      -- a list of MI alone is none
       pub none-without : (v ≡ None) ↔ (¬ Lists RE × ¬ Lists UN)
       none-without = (
-        λ is. let h = (Verdicts.none-exactly shown) .0 (sym verdict-shown ∙ is) in
+        λ is. let h = (Verdicts.none-without shown) .0 (sym verdict-shown ∙ is) in
             (λ l. h .0 ((lists-exactly RE) .0 l), λ l. h .1 ((lists-exactly UN) .0 l)),
-        λ l. verdict-shown ∙ (Verdicts.none-exactly shown) .1 (λ h. l .0 ((lists-exactly RE) .1 h), λ h. l .1 ((lists-exactly UN) .1 h)),
+        λ l. verdict-shown ∙ (Verdicts.none-without shown) .1 (λ h. l .0 ((lists-exactly RE) .1 h), λ h. l .1 ((lists-exactly UN) .1 h)),
       )
 
   -- Demand 3: "And the search says "none" exactly when it refused nothing and every closed input within the depth stops inside the step limit without demanding

@@ -1,8 +1,8 @@
--- `exploring::verdict_after` meets its contract, by what the path lists.
+-- `verdicts::verdict_after` meets its contract, by what the path lists.
 use mathlib.Core.Path.{refl}
 use borrow.Author.Needs.{needs}
-use Rattle.exploring.proofs.verdict_after.Statement.{statement}
-use Rattle.exploring.proofs.verdict_after.Tie as tie
+use Rattle.verdicts.proofs.verdict_after.Statement.{statement}
+use Rattle.verdicts.proofs.verdict_after.Tie as tie
 
 returns : tie.Need-returns
 returns c = rw (c .enum-told .given .1) refl

@@ -1,10 +1,10 @@
--- `exploring::with_unfinished` meets its contract, by the verdict before. Rests on reach's Lists.
+-- `verdicts::with_unfinished` meets its contract, by the verdict before. Rests on reach's Lists.
 use mathlib.Core.Path.{sym, _∙_}
 use borrow.Author.Needs.{needs}
 use Rattle.reach.proofs.Base.{clash}
 use Rattle.reach.proofs.Lists.{found-with-unfinished, undecided-with-unfinished}
-use Rattle.exploring.proofs.with_unfinished.Statement.{statement}
-use Rattle.exploring.proofs.with_unfinished.Tie as tie
+use Rattle.verdicts.proofs.with_unfinished.Statement.{statement}
+use Rattle.verdicts.proofs.with_unfinished.Tie as tie
 
 returns : tie.Need-returns
 returns c counts is = sym (found-with-unfinished counts (sym is ∙ c .enum-told .given .1))

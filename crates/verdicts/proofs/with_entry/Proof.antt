@@ -1,9 +1,9 @@
--- `exploring::with_entry` meets its contract, by the kind of the entry. Rests on reach's Lists.
+-- `verdicts::with_entry` meets its contract, by the kind of the entry. Rests on reach's Lists.
 use mathlib.Core.Path.{sym, _∙_}
 use borrow.Author.Needs.{needs}
 use Rattle.reach.proofs.Lists.{found-with-reach, same-with-missing}
-use Rattle.exploring.proofs.with_entry.Statement.{statement}
-use Rattle.exploring.proofs.with_entry.Tie as tie
+use Rattle.verdicts.proofs.with_entry.Statement.{statement}
+use Rattle.verdicts.proofs.with_entry.Tie as tie
 
 returns : tie.Need-returns
 returns c counts is = rw (c .enum-told .given .1) (sym (found-with-reach counts))
