@@ -7,9 +7,9 @@ use mathlib.Core.Option.{Option, none, some}
 use native.Mathlib.Omega.{arith}
 use lib.ListN.{length, take, drop, length-take}
 use Rattle.reach.specs.Lists.{entrySize, entrySpan, entryPart, roomOf}
-use Rattle.reach.proofs.ReadBack.{size-inside, span-missing, span-here, span-next, span-inside, span-counted, part-counted}
+use Rattle.reach.proofs.ReadBack.{size-inside, span-no-entry, span-here, span-next, span-inside, span-counted, part-counted}
 use Rattle.entries.specs.declared.Size.{Size}
-use Rattle.entries.specs.declared.Size.the-variants.{Bytes, Missing}
+use Rattle.entries.specs.declared.Size.the-variants.{Bytes, NoEntry}
 use Rattle.entries.specs.declared.Span.{Span}
 use Rattle.entries.specs.declared.Span.the-variants as span
 use Rattle.entries.specs.Spans.{sizeOf, spanOf, partPlace, bytesOn}
@@ -39,13 +39,13 @@ module _ (l : List ℕ) (at : ℕ) {r : Size} (sized : sizeOf r ≡ entrySize l 
       sym (span-here l at n (stands e)) ∙ (rw z at (w .same))
 
   -- none stands there, so the whole walk finds none
-  pub walked-out : {number more : ℕ} → Walked l number at more → r ≡ Missing → none ≡ entrySpan l number 0
-  walked-out {number} {more} w e = sym (span-missing l more at (sym sized ∙ ap sizeOf e)) ∙ w .same
+  pub walked-out : {number more : ℕ} → Walked l number at more → r ≡ NoEntry → none ≡ entrySpan l number 0
+  walked-out {number} {more} w e = sym (span-no-entry l more at (sym sized ∙ ap sizeOf e)) ∙ w .same
 
 -- The part that is handed back, by the span that was found in the bytes that count.
 module _ (l : List ℕ) (k end : ℕ) {r : Span} (room : end ≡ roomOf (length l)) (searched : spanOf r ≡ entrySpan (take end l) k 0) where
   -- where none was found it is the empty part at the end
-  pub part-none : r ≡ span.Missing → take (end - end) (drop end l) ≡ entryPart l k
+  pub part-none : r ≡ span.NoEntry → take (end - end) (drop end l) ≡ entryPart l k
   part-none e =
       let z : end - end ≡ 0 = omega arith in
       let none-there = sym searched ∙ ap spanOf e in
@@ -65,7 +65,7 @@ module _ (l : List ℕ) (k end : ℕ) {r : Span} (room : end ≡ roomOf (length 
       rw (z, part-counted l k, ← room, there)
 
   -- The place of that part.
-  pub place-none : r ≡ span.Missing → end ≡ partPlace l k
+  pub place-none : r ≡ span.NoEntry → end ≡ partPlace l k
   unfolding partPlace
   place-none e =
       let none-there = sym searched ∙ ap spanOf e in

@@ -10,7 +10,7 @@ use Rattle.reach.specs.Lists.{roomOf, onFound, entrySpan}
 use Rattle.entries.specs.declared.Found.{Found}
 use Rattle.entries.specs.declared.Found.the-variants as found
 use Rattle.entries.specs.declared.Size.{Size}
-use Rattle.entries.specs.declared.Size.the-variants.{Bytes, Missing}
+use Rattle.entries.specs.declared.Size.the-variants.{Bytes, NoEntry}
 use Rattle.entries.specs.declared.Span.{Span}
 use Rattle.entries.specs.declared.Span.the-variants as span
 
@@ -20,11 +20,11 @@ foundOf found.Unknown = none
 
 abbrev pub sizeOf : Size → Option ℕ
 sizeOf (Bytes n) = some n
-sizeOf Missing = none
+sizeOf NoEntry = none
 
 abbrev pub spanOf : Span → Option (ℕ × ℕ)
 spanOf (span.At i n) = some (i, n)
-spanOf span.Missing = none
+spanOf span.NoEntry = none
 
 -- 01: the entry of a given number is handed back as the part of the list that it fills, else the empty part at the list's end. Where that part
 -- begins: at the place of entry k, or, where there is none, at the end of the bytes that count

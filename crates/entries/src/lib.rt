@@ -22,13 +22,13 @@ pub enum Found {
 // How many bytes the entry at a place fills, or none stands there.
 pub enum Size {
     Bytes(usize),
-    Missing,
+    NoEntry,
 }
 
 // Where an entry begins and how many bytes it fills, or there is none.
 pub enum Span {
     At(usize, usize),
-    Missing,
+    NoEntry,
 }
 
 // The kind whose mark two bytes are.
@@ -84,14 +84,14 @@ pub fn size_at(list: &[u8], at: usize) -> Size
     ensures { λ r. ⌜ sizeOf r ≡ entrySize (now (list .entry)) at ⌝ }
 {
     if list.len() - at < 6 {
-        return Size::Missing;
+        return Size::NoEntry;
     }
     if !known_mark(list[at], list[at + 1]) {
-        return Size::Missing;
+        return Size::NoEntry;
     }
     let n = word_at(list, at + 4);
     if list.len() - at - 6 < n {
-        return Size::Missing;
+        return Size::NoEntry;
     }
     Size::Bytes(6 + n)
 }
@@ -104,13 +104,13 @@ pub fn span_of(list: &[u8], number: usize) -> Span
     let mut more = number;
     while 0 < more {
         let Size::Bytes(n) = size_at(list, at) else {
-            return Span::Missing;
+            return Span::NoEntry;
         };
         at += n;
         more -= 1;
     }
     let Size::Bytes(n) = size_at(list, at) else {
-        return Span::Missing;
+        return Span::NoEntry;
     };
     Span::At(at, n)
 }

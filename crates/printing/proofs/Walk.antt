@@ -20,7 +20,7 @@ use Rattle.reach.specs.Text.{lineSaying, lastLine, textOf, listText}
 use Rattle.reach.proofs.Base.{picked}
 use Rattle.reach.proofs.ReadBack.{counted}
 use Rattle.entries.specs.declared.Size.{Size}
-use Rattle.entries.specs.declared.Size.the-variants.{Bytes, Missing}
+use Rattle.entries.specs.declared.Size.the-variants.{Bytes, NoEntry}
 use Rattle.entries.specs.Spans.{sizeOf}
 use Rattle.entries.proofs.Walk.{stands, stands-inside}
 use Rattle.lines.specs.Counting.{Few}
@@ -112,8 +112,8 @@ module _ (l : List ℕ) (at : ℕ) {r : Size} (sized : sizeOf r ≡ entrySize l 
         (left-next {a = lineSaying d} (rw (split, text-more full c d (decodedFrom (more - 1) l (at + n))) at left) (rw z at p))
 
     -- none stands there: the last line ends the text
-    pub last-missing : {v : List ℕ} {m : ℕ} → r ≡ Missing → Puts u to (lastLine full c) v m → Puts t 0 whole v m
-    last-missing e p = left-last (rw (decoded-none more l at (sym sized ∙ ap sizeOf e), text-end full c) at left) p
+    pub last-no-entry : {v : List ℕ} {m : ℕ} → r ≡ NoEntry → Puts u to (lastLine full c) v m → Puts t 0 whole v m
+    last-no-entry e p = left-last (rw (decoded-none more l at (sym sized ∙ ap sizeOf e), text-end full c) at left) p
 
 -- or no more are to be looked for
 pub last-over : {t u v whole : List ℕ} {to m : ℕ} (full : Bool) (l : List ℕ) (at : ℕ) (c : Counts) (more : ℕ)

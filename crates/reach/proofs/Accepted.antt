@@ -1,4 +1,4 @@
--- The entries of an accepted file, cut by no room: each is true, each input within the depth that is reached or unfinished completes one,
+-- The entries of an accepted file, cut by no room: each is true, each input within the depth that is reached, unfinished or missing completes one,
 -- no two share a closed input, every bound part makes the evaluation halt when it is opened, and every entry has a completion within the
 -- depth. Demands takes these over to the list that a search returns.
 -- Rests on Completing, Slots, Depths, Entries and Cover for a search from any state, and on Limits and Answers for files.

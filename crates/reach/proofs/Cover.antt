@@ -1,4 +1,4 @@
--- A complete list misses nothing: every closed input within the depth that is reached or unfinished completes an entry. And no closed
+-- A complete list misses nothing: every closed input within the depth that is reached, unfinished or missing completes an entry. And no closed
 -- input completes two.
 -- Rests on Entries and Depths.
 use Prim.Native.Nat.{ℕ, zero, suc, _<_}

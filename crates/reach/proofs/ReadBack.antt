@@ -46,10 +46,10 @@ size-inside l i n = picked (λ (o : Option ℕ). o ≡ some n → i + n ≤ leng
         omega (arith, leb-true (i + 6 + wordAt l (i + 4)) (length l) (((and-eq-true-iff headed whole) .0 t) .1))
 
 -- the walk from entry to entry: where no entry stands, none is found
-pub span-missing : (l : List ℕ) (k i : ℕ) → entrySize l i ≡ none → entrySpan l k i ≡ none
+pub span-no-entry : (l : List ℕ) (k i : ℕ) → entrySize l i ≡ none → entrySpan l k i ≡ none
 unfolding entrySpan
-span-missing l zero i e = rw e
-span-missing l (suc k) i e = rw e
+span-no-entry l zero i e = rw e
+span-no-entry l (suc k) i e = rw e
 
 -- entry 0 is the one that stands there
 pub span-here : (l : List ℕ) (i n : ℕ) → entrySize l i ≡ some n → entrySpan l 0 i ≡ some (i, n)
@@ -220,7 +220,7 @@ found (x ∷ es) before rest (suc k) e small h =
 none-found : (es : List Entry) (before rest : List ℕ) (k : ℕ) → Small es → length es ≤ k → entrySize rest 0 ≡ none
     → entrySpan (before ++ (listBytes es ++ rest)) k (length before) ≡ none
 unfolding listBytes flatMap
-none-found [] before rest k small h e = span-missing (before ++ rest) k (length before) (size-behind before rest ∙ e)
+none-found [] before rest k small h e = span-no-entry (before ++ rest) k (length before) (size-behind before rest ∙ e)
 none-found (x ∷ es) before rest zero small h e = absurd (omega arith)
 none-found (x ∷ es) before rest (suc k) small h e =
     let fits = small x (List·Memᴰ·head refl) in

@@ -74,8 +74,8 @@ pub data RunAnswer : Type 0 where
   noRun : Refusal → RunAnswer
   ran : Outcome → RunAnswer
 
--- the end of a closed run as it is answered. (A closed input never halts; a halt would be neither reached nor
--- unfinished, so that it counts here as in `StopsInside`.)
+-- the end of a closed run as it is answered. (A closed input never halts; a halt would be neither reached nor unfinished, so that it counts here as in
+-- `StopsInside`.)
 unfoldable pub outcomeOf : Run → Outcome
 outcomeOf (reached n) = Reached n
 outcomeOf (ended why n) = Ended n

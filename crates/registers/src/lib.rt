@@ -19,8 +19,8 @@ pub struct Registers {
     pub records: usize,
 }
 
-// What comes next: the sought target is demanded, a case has no alternative, the end, one step to other registers, or a case waits on the open part in
-// a cell.
+// What comes next: the sought target is demanded, a case has no alternative, the end, one step to other registers, or a case waits on the open part
+// in a cell.
 pub enum Next {
     Demands,
     Lacks,

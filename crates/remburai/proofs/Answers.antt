@@ -99,14 +99,14 @@ span-is l k end room = span-counted l k ∙ ap (λ (n : ℕ). entrySpan (take n 
 
 module _ (l : List ℕ) (k end : ℕ) {r : Span} (room : end ≡ roomOf (length l)) (searched : spanOf r ≡ entrySpan (take end l) k 0) where
   -- where no entry was found
-  pub missing-number : r ≡ span.Missing → end ≡ partNumber l k
+  pub no-entry-number : r ≡ span.NoEntry → end ≡ partNumber l k
   unfolding partNumber
-  missing-number e =
+  no-entry-number e =
       let none-there = span-is l k end room ∙ sym searched ∙ ap spanOf e in
       rw (none-there, ← room)
 
-  pub missing-part : r ≡ span.Missing → PartAt l k end
-  missing-part e =
+  pub no-entry-part : r ≡ span.NoEntry → PartAt l k end
+  no-entry-part e =
       let none-there = sym searched ∙ ap spanOf e in
       record {
         place = end;

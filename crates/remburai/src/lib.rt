@@ -64,6 +64,6 @@ pub extern "C" fn remburai_entry(list: &[u8], number: usize) -> u64
     let end = room(list.len());
     match span_of(&list[..end], number) {
         Span::At(at, n) => (at as u64) + 4294967296 * (n as u64),
-        Span::Missing => end as u64,
+        Span::NoEntry => end as u64,
     }
 }

@@ -18,8 +18,8 @@ use unfolding::step_let;
 use unfolding::step_target;
 use unfolding::step_variable;
 
-// What steps one after the other come to: the sought target is demanded, a case has no alternative, the end, a step where none is left, or a case waits on the open part in a
-// cell.
+// What steps one after the other come to: the sought target is demanded, a case has no alternative, the end, a step where none is left, or a case waits on
+// the open part in a cell.
 pub enum Halt {
     Demands,
     Lacks,

@@ -20,8 +20,8 @@ returns : tie.Need-returns
 returns c =
     let found = c .before .before .before in
     let room = found .before .before .room .ensures in
-    let missing = c .before .enum-told .given .1 in
-    (part-none _ _ _ room (found .span-of .ensures) missing, points-on _ (place-none _ _ _ room (found .span-of .ensures) missing))
+    let none-there = c .before .enum-told .given .1 in
+    (part-none _ _ _ room (found .span-of .ensures) none-there, points-on _ (place-none _ _ _ room (found .span-of .ensures) none-there))
 
 add-stop : tie.Need-add-stop
 add-stop c =

@@ -10,7 +10,7 @@ use Rattle.reach.specs.Text.{textOf}
 use Rattle.entries.proofs.Walk.{stands-inside}
 use Rattle.lines.specs.Counting.{Few}
 use Rattle.writing.proofs.Writing.{Left, left-whole, puts-length}
-use Rattle.printing.proofs.Walk.{textFrom, text-whole, few-more, size-some, part-least, part-most, line-next, last-missing, last-over}
+use Rattle.printing.proofs.Walk.{textFrom, text-whole, few-more, size-some, part-least, part-most, line-next, last-no-entry, last-over}
 use Rattle.printing.proofs.put_list.Tie as tie
 use Rattle.printing.proofs.put_list.Statement.{statement}
 
@@ -42,7 +42,7 @@ same-length c =
     let enum-told = c .before .before .before .before .enum-told in
     let put-last = c .before .before .put-last in
     puts-length
-    (last-missing (a .list .now) (turn .at) (size-at .ensures) (a .full) (turn .counts) (turn .more) (turn .inv .3) (enum-told .given .1) (put-last .ensures))
+    (last-no-entry (a .list .now) (turn .at) (size-at .ensures) (a .full) (turn .counts) (turn .more) (turn .inv .3) (enum-told .given .1) (put-last .ensures))
 
 returns : tie.Need-returns Inv-loop μ-loop
 returns c =
@@ -51,7 +51,7 @@ returns c =
     let size-at = c .before .before .before .before .before .before .size-at in
     let enum-told = c .before .before .before .before .enum-told in
     let put-last = c .before .before .put-last in
-    last-missing (a .list .now) (turn .at) (size-at .ensures) (a .full) (turn .counts) (turn .more) (turn .inv .3) (enum-told .given .1) (put-last .ensures)
+    last-no-entry (a .list .now) (turn .at) (size-at .ensures) (a .full) (turn .counts) (turn .more) (turn .inv .3) (enum-told .given .1) (put-last .ensures)
 
 add-stop : tie.Need-add-stop Inv-loop μ-loop
 add-stop c =

@@ -3,7 +3,7 @@ use Prim.Native.Nat.{_+_, _≤_}
 use native.Mathlib.Omega.{arith}
 use lib.ListN.{length-take}
 use borrow.Author.Needs.{needs}
-use Rattle.remburai.proofs.Answers.{end-small, missing-number, missing-part, found-inside, found-number, found-part}
+use Rattle.remburai.proofs.Answers.{end-small, no-entry-number, no-entry-part, found-inside, found-number, found-part}
 use Rattle.remburai.proofs.remburai_entry.Statement.{statement}
 use Rattle.remburai.proofs.remburai_entry.Tie as tie
 
@@ -35,7 +35,7 @@ returns-2 : tie.Need-returns-2
 returns-2 c =
     let found = c .before .before in
     let room = found .before .before .room .ensures in
-    (missing-number _ _ _ room (found .span-of .ensures) (c .enum-told .given .1), missing-part _ _ _ room (found .span-of .ensures) (c .enum-told .given .1))
+    (no-entry-number _ _ _ room (found .span-of .ensures) (c .enum-told .given .1), no-entry-part _ _ _ room (found .span-of .ensures) (c .enum-told .given .1))
 
 pub remburai-entry-spec : {M : Type 1} → statement M
 remburai-entry-spec =
