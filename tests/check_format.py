@@ -1,6 +1,6 @@
 """Checks docs/FORMAT.md: its dumps are the bytes of examples/p.rule, of an input that the blind side runs and of the list that it gives; the
-steps of that run, the limits and the answers of the calls for C are those of the blind side. The exit status is 1 where anything
-differs, and where the page lacks what is to be compared."""
+steps of that run, the limits, the marks of entries and the answers of the calls for C are those of the blind side. The exit status
+is 1 where anything differs, and where the page lacks what is to be compared."""
 
 import os
 import re
@@ -10,7 +10,7 @@ sys.dont_write_bytecode = True
 
 from blind.build import con, fn, go, let, target, ty
 from blind.compare import Different, same
-from blind.enumerate import search
+from blind.enumerate import MARKS, search
 from blind.evaluate import Outcome, run
 from blind.rulefile import RANGE, check
 from make_boundary import file_of_size
@@ -19,7 +19,7 @@ ROOT = os.path.dirname(os.path.dirname(os.path.abspath(__file__)))
 WORDS = 64 * 20 + 1024  # the step limit of P is 20
 DUMPED = re.compile(r"    ([0-9A-F]{4})  ((?:[0-9A-F]{2} )+) +\S")
 VERDICTS = {None: 0, "found": 1, "undecided": 2, "none": 3}
-OUTCOMES = {"reached": 1, "ended": 2, "unfinished": 3}
+OUTCOMES = {"reached": 1, "ended": 2, "unfinished": 3, "missing": 4}
 
 
 def stored(*path):
@@ -91,6 +91,8 @@ def check_list(page):
     text = section(page, "A list")
     same("the dump of the list of P", dump(text), data)
     same("its length", re.findall(r"The list of P has (\d+) bytes", text), [str(len(data))])
+    row = only("a row of the mark", [row for row in table(text, "Bytes") if row[0] == "0, 1"])
+    same("the marks of entries", re.findall("`([^`]*)`", row[1]), [mark.decode() for mark in MARKS.values()])
 
 
 # Limits: a rule file with so many of each.
@@ -173,9 +175,18 @@ def answer(data, call):
     return packed_run(data, rest[0]) if word == "run" else packed_entry(data, int(rest[0]))
 
 
+def check_numbers(text):
+    """The numbers of verdicts and outcomes."""
+    rows = {row[0]: row[2] for row in table(text, "Call")}
+    for call, numbers in (("`remburai_search`", VERDICTS), ("`remburai_run`", OUTCOMES)):
+        said = {word: int(number) for number, word in re.findall(r"(\d+) (\w+)", rows.get(call, "")) if number != "0"}
+        same(f"the numbers in the row of {call}", said, {word: number for word, number in numbers.items() if word})
+
+
 def check_answers(page):
-    data = stored("examples", "p.rule")
-    lines = only("the answers of the calls", blocks(section(page, "What the calls for C answer with")))
+    data, text = stored("examples", "p.rule"), section(page, "What the calls for C answer with")
+    check_numbers(text)
+    lines = only("the answers of the calls", blocks(text))
     same("the calls", sorted({line.split()[0].rstrip(",") for line in lines}), ["check", "entry", "run", "search"])
     for line in lines:
         call = re.split(r"  +", line.strip())[0]

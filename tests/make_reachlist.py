@@ -12,10 +12,11 @@ import sys
 
 import rules
 from blind.build import call, case, con, fn, go, target, two, ty, var
-from blind.enumerate import printed, reachlist
+from blind.enumerate import WORDS, printed, reachlist
+from blind.wrong import TOTALS, too_few
 from make_boundary import file_of_size
 from make_searches import answer
-from rules import HOLLOW, P, changed
+from rules import AGAIN, HOLLOW, P, REACH, changed, shortened
 from vectors import checking, store
 
 FOLDER = os.path.join(os.path.dirname(os.path.abspath(__file__)), "reachlist")
@@ -82,13 +83,44 @@ def lists():
     }
 
 
+def missing():
+    """Lists with missing alternatives: found by step S and a step later, alone, and beside others, whose share stays as it is."""
+    alone = case(0, con(0, 0), None, target(7, con(0, 0)))
+    return {
+        "p_no_end_s6": shortened(True, steps=6), "p_no_end_s5": shortened(True, steps=5), "p_no_zero": shortened(False),
+        "missing_known_s6": rules.missing_later() + go(depth=2, steps=6), "missing_known_s5": rules.missing_later() + go(depth=2, steps=5),
+        "missing_no_parameters": rules.without_parameters(alone) + go(steps=2),
+        "missing_no_parameters_s1": rules.without_parameters(alone) + go(steps=1),
+        "missing_alone": rules.in_turn(*[None] * 16) + go(),
+        "missing_share_0": rules.in_turn(REACH, None) + go(),
+        "missing_share_33": rules.in_turn(None, REACH, AGAIN, None, REACH, None) + go(),
+        "missing_share_66": rules.in_turn(AGAIN, None, None, REACH, AGAIN) + go(),
+        "missing_share_100": rules.in_turn(None, AGAIN, None) + go(),
+        "missing_in_scrutinee": rules.missing_in_scrutinee() + go(depth=3),
+        "missing_below_let": rules.missing_below_let() + go(depth=3),
+        "missing_in_call": rules.missing_in_call() + go(depth=5, steps=40),
+        "missing_or_too_deep": rules.missing_or_too_deep() + go(depth=2),
+        "missing_chain": rules.chain(6, None) + go(depth=12, steps=240),
+    }
+
+
 def lacking(texts):
-    """Kinds of last line, and shares, that no text has."""
-    last = [text.splitlines()[-1].split() for text in texts]
-    kinds = {" ".join(words) if words[0] == "refused" else words[4] for words in last}
-    shares = {words[3] for words in last if words[0] == "total"}
-    wanted = {f"refused {number}" for number in (*range(1, 10), 11, 12)} | {"found", "undecided", "none"}
-    return sorted(wanted - kinds) + [f"share {share}" for share in sorted({"0", "33", "66", "100"} - shares)]
+    """Kinds of last line that no text has: refusals, and verdicts and shares of lists with missing ones and without."""
+    last = [text.splitlines()[-1] for text in texts]
+    found = {line for line in last if line.startswith("refused")}
+    for _, _, _, missing_ones, share, verdict in (line.split() for line in last if line.startswith("total")):
+        found |= {f"{item} {'without' if missing_ones == '0' else 'with'} missing ones" for item in (f"share {share}", verdict)}
+    items = ("share 0", "share 33", "share 66", "share 100", "found", "undecided", "none")
+    wanted = {f"{item} {word} missing ones" for item in items for word in ("with", "without")}
+    return sorted((wanted | {f"refused {number}" for number in (*range(1, 10), 11, 12)}) - found)
+
+
+def total_lines(texts):
+    """Of each text with a total its lines by kind, and the total."""
+    for *entries, last in (text.splitlines(True) for text in texts):
+        if last.startswith("total"):
+            words = [line.split()[0] for line in entries]
+            yield tuple(words.count(word) for word in WORDS.values()), last
 
 
 # The program's buffers: the bytes that it takes of its input, the words of its work slice, the bytes of its list.
@@ -117,7 +149,8 @@ def sizes_shown(made, names):
 
 def faults(made, names, shown):
     """What the set lacks, and what is wrong with it."""
-    return ([f"none has {kind}" for kind in lacking([made[name + ".out"].decode() for name in names])]
+    texts = [made[name + ".out"].decode() for name in names]
+    return ([f"none has {kind}" for kind in lacking(texts)] + too_few(TOTALS, list(total_lines(texts)), 1)
             + [f"none shows that {size} is a wrong size of the {buffer} buffer" for (buffer, size), by in shown.items() if not by]
             + [f"with buffers of the right sizes {name} is printed otherwise" for name in changed_by(SIZES, made, names)])
 
@@ -149,7 +182,7 @@ def store_vectors(made, names):
 
 def main():
     only_checking = checking(sys.argv[1:])
-    files = {**examples(), **refused(), **lists()}
+    files = {**examples(), **refused(), **lists(), **missing()}
     made, names = {}, sorted(files)
     for name, rule_file in files.items():
         made[name + ".rule"] = rule_file

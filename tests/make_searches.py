@@ -10,23 +10,27 @@ whether the bytes of the slice behind the list are `kept` or `changed`, and the 
 
 With --check nothing is written, and the exit status is 1 where the stored files differ. Either way it is 1 where the set
 lacks something: a kind of answer or an edge (`LEAST`), or cases whose answer changes by an error that `blind.narrow` can
-make; and where narrowing lists anything else than the enumerator.
+make or by a wrong verdict of `blind.wrong`; where narrowing lists anything else than the enumerator; and where a small list
+breaks a demand.
 """
 
 import random
 import sys
 from collections import Counter
 from functools import lru_cache
+from itertools import accumulate, combinations, permutations
 
 import rules
-from blind.build import call, con, go, random_rule, target, two, ty
+from blind.build import call, case, con, go, random_rule, target, two, ty
 from blind.compare import same
-from blind.enumerate import OPEN, Listing, all_entries, count_inputs, fill, inputs
-from blind.evaluate import REACHED, UNFINISHED, bench, evaluate
+from blind.demands import broken
+from blind.enumerate import MARKS, OPEN, Listing, all_entries, count_inputs, fill, inputs, tally, verdict
+from blind.evaluate import MISSING, REACHED, UNFINISHED, bench, evaluate
 from blind.narrow import ERRORS, differs
 from blind.rulefile import BENCH, FULL, Program, Refused, check
+from blind.wrong import VERDICTS, too_few
 from make_boundary import file_of_size, random_damaged
-from rules import HOLLOW, P, changed
+from rules import AGAIN, HOLLOW, P, REACH, changed
 from vectors import store
 
 MOST_WORDS, MOST_BYTES = 300000, 100000  # the program's longest slices
@@ -126,6 +130,18 @@ SWEEPS = (
     (rules.both_trees(), (1, 2, 3, 4), range(0, 40, 2)),
     (rules.missing_first(), (1, 2, 3), range(0, 9)),
     (rules.missing_later(), (1, 2, 3), range(0, 8)),
+    (rules.missing_or_too_deep(), (1, 2, 3), range(0, 5)),
+    (rules.missing_in_scrutinee(), (1, 2, 3), range(0, 10)),
+    (rules.missing_built(), (1, 2, 3, 64), range(4, 12)),
+    (rules.missing_below_let(), (1, 2, 3), range(0, 11)),
+    (rules.missing_in_call(), (1, 2, 3), range(0, 26)),
+    (rules.missing_in_call(), (32,), (255, 258, 4096)),
+    (rules.missing_below_targets(), (1,), range(0, 7)),
+    (rules.chain(6, None), (1, 2, 3), (2, 3, 7, 8, 12, 13)),
+    (rules.chain(6, None), (64,), (319,)),
+    *((rules.in_turn(*ends), (1,), range(0, 5)) for ends in permutations((None, REACH, AGAIN))),
+    *((rules.in_turn(*ends), (1, 64), (0, 2, 3, 4, 20)) for ends in (
+        (None,), (None,) * 3, (None,) * 16, (None, REACH, None, AGAIN, None), (REACH, None, None, AGAIN), (AGAIN, None, REACH, None))),
     (rules.looked_at_twice(), (1, 2, 3), range(0, 15)),
     (rules.never_looked_at(), (1, 64), range(0, 7)),
     (rules.boxes(), (31, 32, 33, 64), (0, 3, 155, 156, 157, 158, 159, 240)),
@@ -138,6 +154,8 @@ SWEEPS = (
     (rules.without_parameters(call(0)), (1,), (0, 1, 4096)),
     (rules.without_parameters(con(0, 1)), (1,), (0, 1)),
     (rules.without_parameters(target(7, con(0, 1))), (1,), (0, 1)),
+    (rules.without_parameters(case(0, con(0, 0), None, target(7, con(0, 0)))), (1,), range(0, 4)),
+    (rules.without_parameters(case(0, case(0, con(0, 1), con(0, 0), None), target(7, con(0, 0)), None)), (1,), range(0, 5)),
 )
 
 
@@ -150,6 +168,9 @@ def sweeps():
     for label in (0, 1, 7, 254, 255):
         for steps in range(12):
             add("rule", rules.labels() + go(0, label, 1, steps))
+    for label in (8, 9, 10):
+        for steps in range(6):
+            add("rule", rules.missing_below_targets() + go(0, label, 1, steps))
     add("rule", file_of_size(16384)[:-3] + bytes([3]) + two(20))
 
 
@@ -163,33 +184,38 @@ def wide_lists():
 # Random rule files, by what their list shows; the number is how many of each are kept.
 WANTED = {
     "none, no fork": 15,
-    "none, forks": 65,
+    "none, forks": 45,
     "unfinished once, no fork": 20,
     "unfinished once, forks": 30,
-    "unfinished more than once": 60,
-    "reached once": 40,
-    "reached more than once": 60,
-    "reached and unfinished": 80,
+    "unfinished more than once": 50,
+    "missing once, no fork": 15,
+    "missing once, forks": 25,
+    "missing more than once": 25,
+    "reached once": 35,
+    "reached more than once": 45,
+    "reached and unfinished": 50,
+    "reached and missing": 30,
+    "unfinished and missing": 30,
+    "reached and unfinished and missing": 25,
     "five entries or more": 50,
 }
+TRIES = 10000  # random rule files among which there must be enough
 
 
 def kind(rule_file):
     """The key in WANTED."""
     listed = entries(rule_file)
-    ends = {entry.end for entry in listed}
-    forks = any(wait.steps < checked(rule_file).steps for wait in first_run(rule_file).waits)
+    ends = [end for end, number in zip(MARKS, tally(listed)) if number]
     if len(listed) >= 5:
         return "five entries or more"
-    if not listed:
-        return "none, forks" if forks else "none, no fork"
-    if ends == {UNFINISHED}:
-        if len(listed) > 1:
-            return "unfinished more than once"
-        return "unfinished once, forks" if forks else "unfinished once, no fork"
-    if ends == {REACHED}:
-        return "reached more than once" if len(listed) > 1 else "reached once"
-    return "reached and unfinished"
+    if len(ends) > 1:
+        return " and ".join(ends)
+    if len(listed) > 1:
+        return f"{ends[0]} more than once"
+    if ends == [REACHED]:
+        return "reached once"
+    forks = any(wait.steps < checked(rule_file).steps for wait in first_run(rule_file).waits)
+    return ("none" if not ends else f"{ends[0]} once") + (", forks" if forks else ", no fork")
 
 
 def first_run(rule_file):
@@ -215,12 +241,15 @@ def random_accepted(rng):
     """The random rule files, until there are enough of each kind."""
     left = dict(WANTED)
     files = []
-    while any(left.values()):
+    for _ in range(TRIES):
+        if not any(left.values()):
+            break
         rule_file = random_file(rng)
         if rule_file and rule_file not in files and left[kind(rule_file)]:
             left[kind(rule_file)] -= 1
             files.append(rule_file)
             add("random", rule_file, needed(checked(rule_file)) + rng.choice((0, 0, 1, 500)))
+    same(f"kinds of lists that {TRIES} random rule files lack", {name: number for name, number in left.items() if number}, {})
     return files
 
 
@@ -244,14 +273,26 @@ def damaged(rng, files):
         add("damaged", rule_file, words, rng.choice((0, 8, 400)))
 
 
+def edges(rule_file):
+    """The place behind each entry of the list."""
+    return list(accumulate(len(entry.record()) for entry in entries(rule_file)))
+
+
+def missing_rooms():
+    """List slices that end before a missing one, behind it, and a byte sooner."""
+    for rule, depth, steps in ((rules.in_turn(None, REACH, None, AGAIN, None), 1, 3), (rules.missing_in_call(), 3, 24),
+                               (rules.missing_in_scrutinee(), 3, 8), (rules.missing_later(), 2, 5), (rules.chain(2, None), 3, 20)):
+        rule_file = rule + go(0, 7, depth, steps)
+        for start, end, entry in zip([0] + edges(rule_file), edges(rule_file), entries(rule_file)):
+            for room in (start, end - 1, end) if entry.end == MISSING else ():
+                add("room", rule_file, None, room)
+
+
 def rooms(rng, files):
     """List slices at the edges of entries: 0, 5 and 6 bytes, after each of some entries, a byte less and a byte more."""
     several = [rule_file for rule_file in files if len(entries(rule_file)) > 2]
     for rule_file in rng.sample(several, 30):
-        ends, end = [], 0
-        for entry in entries(rule_file):
-            end += len(entry.record())
-            ends.append(end)
+        ends = edges(rule_file)
         chosen = {ends[0], ends[-2], ends[-1], rng.choice(ends)}
         for room in sorted({0, 5, 6} | {end + more for end in chosen for more in (-1, 0, 1)} | {ends[-1] + 300}):
             add("room", rule_file, None, room)
@@ -304,12 +345,53 @@ ENOUGH = 15  # lists that an error changes
 LEAST = {
     "example cases": 150, "rule cases": 500, "random cases": 300, "limit cases": 200, "damaged cases": 100,
     "room cases": 200, "bench cases": 100, "verdict found": 300, "verdict undecided": 300, "verdict none": 200,
-    "refused 11": 50, "refused 12": 150, "entries": 5000, "lists with entries of both kinds": 200,
+    "refused 11": 50, "refused 12": 150, "reached entries": 4000, "unfinished entries": 1500, "missing entries": 500,
+    "lists with reached and unfinished": 200, "lists with reached and missing": 100,
+    "lists with unfinished and missing": 100, "lists with all kinds": 50, "lists of missing ones alone": 50,
     "lists of five entries or more": 200, "depth of the deepest bound place": 60, "most bound places in an entry": 60,
     "longest entry": 300, "most steps": 4096, "longest list": 32769, "lists that fill their slice": 20,
-    "lists that lack one byte": 20, "cut lists with entries": 80, "cut lists without entries": 50,
-    "accepted with S 0": 30, "accepted with D 1": 50, "accepted without parameters": 15,
+    "lists that lack one byte": 20, "cut lists with entries": 80, "cut lists without entries": 50, "accepted with S 0": 30,
+    "accepted with D 1": 50, "accepted without parameters": 15, "longest missing entry": 300,
+    "most steps of a missing entry": 256, "lists that begin with a missing one": 100,
+    "lists with a missing one between others": 50, "lists that end with a missing one": 100,
+    "lists with a missing one at S": 30, "unfinished ones that are missing a step later": 15,
+    "cut lists that lack a missing one": 30,
 }
+
+
+def found_later(programs):
+    """The number of unfinished entries that have, in the stored list with a step more, found a missing alternative by it."""
+    number = 0
+    for rule_file, program in programs.items():
+        later = rule_file[:-2] + two(program.steps + 1)
+        if later in programs:
+            missing = {entry.parameters for entry in entries(later) if entry.end == MISSING and entry.steps == program.steps + 1}
+            number += sum(entry.end == UNFINISHED and entry.parameters in missing for entry in entries(rule_file))
+    return number
+
+
+def missing_counts(complete, cut, programs):
+    """What the set holds of missing alternatives."""
+    ends = [[entry.end for entry in given.entries] for *_, given in complete]
+    listed = [entry for rule_file in programs for entry in entries(rule_file) if entry.end == MISSING]
+    lacked = [(entries(rule_file)[len(given.entries)], room - len(given.record())) for rule_file, room, given in cut]
+    lacked = [(len(entry.record()), left) for entry, left in lacked if entry.end == MISSING]
+    return {
+        "longest missing entry": max(len(entry.record()) for entry in listed),
+        "most steps of a missing entry": max(entry.steps for entry in listed),
+        "lists of missing ones alone": sum(set(kinds) == {MISSING} for kinds in ends),
+        "lists that begin with a missing one": sum(kinds[:1] == [MISSING] and len(set(kinds)) > 1 for kinds in ends),
+        "lists with a missing one between others": sum(MISSING in kinds[1:-1] and MISSING not in (kinds[0], kinds[-1]) for kinds in ends),
+        "lists that end with a missing one": sum(kinds[-1:] == [MISSING] and len(set(kinds)) > 1 for kinds in ends),
+        "lists with a missing one at S": sum((MISSING, checked(rule_file).steps) in ((entry.end, entry.steps) for entry in given.entries)
+                                             for rule_file, _, given in complete),
+        "unfinished ones that are missing a step later": found_later(programs),
+        "lists that a missing one fills": sum(kinds[-1:] == [MISSING] and len(given.record()) == room
+                                              for kinds, (_, room, given) in zip(ends, complete)),
+        "cut lists that lack a missing one": len(lacked),
+        "cut lists that lack one byte of a missing one": sum(left == size - 1 for size, left in lacked),
+        "cut lists that lack a missing one just behind their last": sum(left == 0 for _, left in lacked),
+    }
 
 
 def counts(answers):
@@ -326,8 +408,11 @@ def counts(answers):
         **{f"{group} cases": groups[group] for group in ("example", "rule", "random", "limit", "damaged", "room", "bench")},
         **{f"verdict {word}": verdicts[word] for word in ("found", "undecided", "none")},
         **{f"refused {number}": refusals[number] for number in (*range(1, 10), BENCH, FULL)},
-        "entries": len(listed),
-        "lists with entries of both kinds": sum(len({entry.end for entry in given.entries}) == 2 for *_, given in complete),
+        **{f"{end} entries": sum(entry.end == end for _, entry in listed) for end in MARKS},
+        **{f"lists with {' and '.join(some)}": sum(set(some) == {entry.end for entry in given.entries} for *_, given in complete)
+           for some in combinations(MARKS, 2)},
+        "lists with all kinds": sum(all(tally(given.entries)) for *_, given in complete),
+        **missing_counts(complete, cut, programs),
         "lists of five entries or more": sum(len(given.entries) >= 5 for *_, given in complete),
         "depth of the deepest bound place": max(nesting(program, entry.parameters) for program, entry in listed),
         "most bound places in an entry": max(sum(byte != OPEN for byte in entry.parameters) for _, entry in listed),
@@ -344,14 +429,24 @@ def counts(answers):
     }
 
 
+def broken_demand(rule_file):
+    """What is wrong with the list of this rule file; None where nothing is, and where the closed inputs are many."""
+    program, listed = checked(rule_file), entries(rule_file)
+    return broken(program, listed, verdict(listed)) if count_inputs(program, 500) <= 500 else None
+
+
 def faults(answers, counted):
     """What the set lacks, and what is wrong with its answers."""
     files = list(dict.fromkeys(rule_file for (_, rule_file, _, _), given in zip(CASES, answers) if isinstance(given, Listing)))
     small = [rule_file for rule_file in files if len(entries(rule_file)) <= 60 and checked(rule_file).steps <= 120]
-    return ([f"too few: {name}" for name, number in counted.items() if number < LEAST.get(name, 5)]
+    return ([f"not counted: {name}" for name in LEAST if name not in counted]
+            + [f"too few: {name}" for name, number in counted.items() if number < LEAST.get(name, 5)]
             + [f"narrowing lists otherwise: {rule_file.hex()}" for rule_file in files
                if differs(checked(rule_file), entries(rule_file), None)]
-            + [f"changes {number} lists: {error}" for error, number in caught(small).items() if number < ENOUGH])
+            + [f"a demand is broken: {rule_file.hex()}: {wrong}" for rule_file in small if (wrong := broken_demand(rule_file))]
+            + [f"changes {number} lists: {error}" for error, number in caught(small).items() if number < ENOUGH]
+            + too_few(VERDICTS, [(tally(given.entries), given.verdict) for given in answers
+                                 if isinstance(given, Listing) and not given.refusal], ENOUGH))
 
 
 def make():
@@ -360,6 +455,7 @@ def make():
     examples()
     sweeps()
     wide_lists()
+    missing_rooms()
     files = random_accepted(rng)
     other_limits(rng, files)
     damaged(rng, files)

@@ -2,25 +2,34 @@
 
 Its stdin has per case a byte, 1 where refusal 12 cut the list short and else 0, and the list behind its two-byte length, low
 byte first; its stdout has the texts one behind the other. With --check nothing is written, and the exit status is 1 where the
-stored files differ.
+stored files differ. Either way it is 1 where a wrong total line of `blind.wrong` would show in too few texts.
 """
 
 import random
 import sys
+from itertools import permutations, zip_longest
 
 from blind.build import random_program, two
 from blind.compare import same
-from blind.enumerate import MARKS, Entry, Listing, TooMany, printed, search, verdict
-from blind.evaluate import REACHED, UNFINISHED
+from blind.enumerate import MARKS, Entry, Listing, TooMany, printed, search, tally, verdict
+from blind.evaluate import MISSING, REACHED, UNFINISHED
+from blind.wrong import TOTALS, too_few
 from vectors import store
 
 P = bytes.fromhex("545902000100464E01000017000300000001020000010300000101020000010507020000474F0007041400")
 
+ENOUGH = 10  # texts that a wrong total line changes
+
 CASES = []  # list, cut short, text
+TOTAL_LINES = []  # of each complete list of whole entries their numbers by kind, and the line
 
 
-def add(listing):
-    CASES.append((listing.record(), listing.refusal is not None, printed(listing)))
+def add(listing, rest=b""):
+    """The rest stands behind the last entry."""
+    text = printed(listing)
+    CASES.append((listing.record() + rest, listing.refusal is not None, text))
+    if not listing.refusal and not rest:
+        TOTAL_LINES.append((tally(listing.entries), text.splitlines(True)[-1]))
 
 
 def entries(*rows):
@@ -41,33 +50,51 @@ def examples():
 
 
 def shapes():
-    """No parameters, every byte, the ends of the digits, every share of up to eight entries."""
+    """No parameters, every byte, the ends of the digits, every share of up to eight entries, also with missing ones beside them."""
     whole()
-    whole((REACHED, 0, []))
-    whole((UNFINISHED, 0, []))
+    for end in MARKS:
+        whole((end, 0, []))
     whole((REACHED, 6, range(256)), (UNFINISHED, 7, reversed(range(256))))
+    whole((MISSING, 8, range(256)))
     whole(*((REACHED, steps, [steps % 256]) for steps in (0, 1, 9, 10, 11, 99, 100, 101, 999, 1000, 4096, 9999, 10000, 65535)))
     whole((REACHED, 1, [255] * 9000))
     for both in range(1, 9):
         for unfinished in range(both + 1):
             whole(*[(UNFINISHED, 3, [1, 255])] * unfinished + [(REACHED, 12, [0])] * (both - unfinished))
+            mixed([(MISSING, 5, [2])] * (1 + both % 3), [(UNFINISHED, 3, [255])] * unfinished, [(REACHED, 4, [])] * (both - unfinished))
     whole(*[(REACHED, 2, [])] * 1000)
     whole(*[(UNFINISHED, 2, [16])] * 99)
+    whole(*[(MISSING, 2, [16])] * 101)
+    for order in permutations([(REACHED, 256, [0, 255]), (UNFINISHED, 300, [1]), (MISSING, 257, [2, 3])]):
+        whole(*order)
+
+
+def mixed(*groups):
+    """A complete list of the entries of these groups, taken in turn."""
+    listed = entries(*(entry for row in zip_longest(*groups) for entry in row if entry))
+    add(Listing(listed, verdict(listed)))
 
 
 def broken():
     """What stands behind the last whole entry of a known kind is not printed."""
-    listed = entries((REACHED, 6, [1, 1, 255]), (UNFINISHED, 4, []))
-    good = Listing(listed, verdict(listed))
-    for rest in (b"R", b"RE\x01\x00\x00", b"RE\x01\x00\x01\x00", b"MI\x01\x00\x00\x00", b"ER\x01\x00\x00\x00", b"\x00" * 9,
-                 b"RN\x01\x00\x00\x00", b"UE\x01\x00\x00\x00" + listed[0].record()):
-        CASES.append((good.record() + rest, False, printed(good)))
+    listed = entries((REACHED, 6, [1, 1, 255]), (UNFINISHED, 4, []), (MISSING, 3, [0, 255]))
+    good, found = Listing(listed, verdict(listed)), listed[2].record()
+    for mark in (b"ER", b"RN", b"UE", b"Mi", b"mI", b"mi", b"IM", b"MU", b"MN", b"MM", b"II", b"RI", b"UI", b"ME", b"NI", b"M\0", b"\0I"):
+        add(good, mark + b"\x01\x00\x00\x00" + listed[0].record())
+    for rest in (b"R", b"M", b"RE\x01\x00\x00", b"RE\x01\x00\x01\x00", b"MI\x01\x00\x01\x00", b"MI\xff\xff\xff\xff\0", b"\x00" * 9):
+        add(good, rest)
+    for length in range(1, len(found)):
+        add(good, found[:length])
+    last = entries((MISSING, 3, [0, 255]))
+    for length in range(len(found)):
+        add(Listing((), "none"), found[:length])
+        add(Listing(last, "none"), found[:length])
 
 
 def random_lists(rng, count):
     while count:
         try:
-            answer = search(random_program(rng), 1 << 20, rng.choice((40, 400, 32768)), 500)
+            answer = search(random_program(rng, kept=rng.choice((0.9, 0.6))), 1 << 20, rng.choice((40, 400, 32768)), 500)
         except TooMany:
             continue
         if isinstance(answer, Listing) and answer.entries:
@@ -76,15 +103,19 @@ def random_lists(rng, count):
 
 
 def main():
-    same("the marks of entries", set(MARKS.values()), {b"RE", b"UN"})
+    same("the marks of entries", set(MARKS.values()), {b"RE", b"UN", b"MI"})
     examples()
     shapes()
     broken()
     random_lists(random.Random(3), 200)
     stdin = b"".join(bytes([cut_short]) + two(len(record)) + record for record, cut_short, _ in CASES)
     if not sys.argv[1:]:
-        print(len(CASES), "lists")
-    return store("printing_vectors", stdin, "".join(text for _, _, text in CASES).encode(), sys.argv[1:])
+        print(len(CASES), "lists,", ", ".join(f"{sum(counts[number] > 0 for counts, _ in TOTAL_LINES)} with {end} ones"
+                                              for number, end in enumerate(MARKS)))
+    wrong = too_few(TOTALS, TOTAL_LINES, ENOUGH)
+    for fault in wrong:
+        print(f"printing_vectors: {fault}", file=sys.stderr)
+    return 1 if wrong else store("printing_vectors", stdin, "".join(text for _, _, text in CASES).encode(), sys.argv[1:])
 
 
 if __name__ == "__main__":

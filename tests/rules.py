@@ -17,6 +17,12 @@ def changed(label=7, depth=4, steps=20):
     return P[:-7] + go(0, label, depth, steps)
 
 
+def shortened(end, depth=4, steps=20):
+    """P with one of the two alternatives of its inner case left out: that for zero, or the `end`, with the target."""
+    inner = case(0, var(1), con(0, 0), None) if end else case(0, var(1), None, target(7, con(0, 0)))
+    return NAT + fn((0,), 0, case(0, var(0), con(0, 0), inner)) + go(0, 7, depth, steps)
+
+
 def equal_numbers():
     """Two equal numbers: forks in turn over both."""
     no, yes = con(1, 0), con(1, 1)
@@ -48,10 +54,10 @@ def increasing():
             + fn((0, 2), 1, pair) + fn((0, 0), 1, less))
 
 
-def chain(width=6):
-    """A chain of links with `width` fields each, the last of them the rest: long entries."""
-    return (UNIT + ty((), (0,) * (width - 1) + (1,))
-            + fn((1,), 1, case(1, var(0), target(7, var(0)), call(0, var(width)))))
+def chain(width=6, end=target(7, var(0))):
+    """A chain of links with `width` fields each, the last of them the rest: long entries. Without an end its alternative is
+    missing."""
+    return UNIT + ty((), (0,) * (width - 1) + (1,)) + fn((1,), 1, case(1, var(0), end, call(0, var(width))))
 
 
 def chains(width=6):
@@ -76,10 +82,10 @@ def sixteens():
 
 
 def exact_list(last, one_more=False):
-    """16 * 16 * `last` entries of 16 bytes, through five parameters of which the first has six bytes; where wanted, the
-    last entry has a byte more."""
+    """16 * 16 * `last` entries of 16 bytes, through five parameters of which the first has six bytes; the last of them is a
+    missing alternative and, where wanted, has a byte more."""
     plain, third, deeper = target(7, con(4, 0)), call(4, var(1), var(2)), call(5, var(1), var(2))
-    final = case(4, var(1), con(4, 0), plain) if one_more else plain
+    final = case(4, var(1), con(4, 0), None) if one_more else None
     return (ty(*[()] * 16) + ty(*[()] * last) + UNIT + ty((2,) * 5) + ty((), (4,))
             + fn((3, 0, 0, 1, 4), 4, case(3, var(0), call(1, var(1), var(2), var(3), var(4))))
             + fn((0, 0, 1, 4), 4, case(0, var(0), *[call(2, var(1), var(2), var(3))] * 15, call(3, var(1), var(2), var(3))))
@@ -119,6 +125,51 @@ def missing_later():
     """Missing alternatives for constructors that are known when the case comes to them."""
     again = case(0, var(0), None, target(7, var(0)))
     return NAT + fn((0,), 0, case(0, var(0), again, case(0, con(0, 1, var(1)), target(7, var(0)), None)))
+
+
+# What an alternative may lead to: the target, and calls up to the step limit. None is no alternative.
+REACH, AGAIN = target(7, var(0)), call(0, var(0))
+
+
+def in_turn(*alternatives):
+    """One constructor for each of these alternatives, so that the list has their ends in this order."""
+    return ty(*[()] * len(alternatives)) + fn((0,), 0, case(0, var(0), *alternatives))
+
+
+def missing_or_too_deep():
+    """Constructors without an alternative that a fork leaves out where their fields do not fit the depth: one field has least
+    depth 1, the other 2."""
+    return (ty((), (1,), (2,)) + ty((1,), ()) + ty((1,))
+            + fn((0,), 1, case(0, var(0), target(7, con(1, 1)), None, None)))
+
+
+def missing_in_scrutinee():
+    """Alternatives missing in a scrutinee, and in the case that waits for it."""
+    inner = case(0, var(0), None, case(0, var(1), con(0, 0), con(0, 1, var(2))))
+    return NAT + fn((0,), 0, case(0, inner, target(7, var(0)), None))
+
+
+def missing_built():
+    """Alternatives missing for constructors that the rule builds itself: they are known when the case comes to them."""
+    waits = case(0, call(1, var(0)), None, case(0, var(1), target(7, var(0)), None))
+    return NAT + fn((0,), 0, waits) + fn((0,), 0, case(0, var(0), con(0, 0), con(0, 1, con(0, 1, var(1)))))
+
+
+def missing_below_let():
+    """Alternatives missing in what a let binds, once where it is looked at and once where it is not."""
+    looked = case(0, var(1), target(7, var(0)), None)
+    return NAT + fn((0,), 0, let(0, case(0, var(0), None, var(1)), let(0, case(0, con(0, 0), None, None), looked)))
+
+
+def missing_in_call():
+    """Two numbers counted down at the same time: an alternative is missing where the second, looked at first, is not longer."""
+    down = case(0, var(0), None, case(0, var(1), con(0, 0), call(1, var(2), var(3))))
+    return NAT + fn((0, 0), 0, case(0, call(1, var(1), var(0)), target(7, var(0)), None)) + fn((0, 0), 0, down)
+
+
+def missing_below_targets():
+    """An alternative that is missing below targets of labels 8 and 9, beside the target of label 7."""
+    return BOOL + fn((0,), 0, target(8, case(0, target(9, var(0)), None, target(7, var(0)))))
 
 
 def looked_at_twice():

@@ -71,10 +71,11 @@ def random_types(rng, most_types, most_constructors, most_fields):
 
 
 class RandomBody:
-    """Writes random expressions of a wanted type; the budget bounds how many of them are no leaves."""
+    """Writes random expressions of a wanted type; the budget bounds how many of them are no leaves. A case has each of its
+    alternatives with the probability `kept`."""
 
-    def __init__(self, rng, types, heads, label):
-        self.rng, self.types, self.heads, self.label = rng, types, heads, label
+    def __init__(self, rng, types, heads, label, kept):
+        self.rng, self.types, self.heads, self.label, self.kept = rng, types, heads, label, kept
         self.depths = least_depths(types)
 
     def shallowest(self, type_):
@@ -118,7 +119,7 @@ class RandomBody:
             else:
                 type_ = rng.randrange(len(self.types))
                 scrutinee = self.expression(type_, view, budget // 3, nesting + 1)
-            kept = [rng.random() < 0.9 and len(view + fields) <= 32 for fields in self.types[type_].constructors]
+            kept = [rng.random() < self.kept and len(view + fields) <= 32 for fields in self.types[type_].constructors]
             written = iter(self.operands([(wanted, view + fields) for fields, keep
                                           in zip(self.types[type_].constructors, kept) if keep], budget, nesting))
             return case(type_, scrutinee, *(next(written) if keep else None for keep in kept))
@@ -136,7 +137,7 @@ class RandomBody:
 
 
 def random_program(rng, most_types=4, most_constructors=3, most_fields=3, most_functions=4, most_parameters=3,
-                   budget=12, most_depth=6, most_steps=60):
+                   budget=12, most_depth=6, most_steps=60, kept=0.9):
     """A random rule file that is accepted; D is raised to what the source's parameters need."""
     types = random_types(rng, most_types, most_constructors, most_fields)
     count = len(types)
@@ -145,7 +146,7 @@ def random_program(rng, most_types=4, most_constructors=3, most_fields=3, most_f
     label = rng.randrange(256)
     functions = []
     for parameters, result in heads:
-        writer = RandomBody(rng, types, heads, label)
+        writer = RandomBody(rng, types, heads, label, kept)
         body = writer.expression(result, parameters, rng.randint(0, budget))
         while len(body) > 1024:
             body = writer.expression(result, parameters, 0)
@@ -185,7 +186,7 @@ class BranchingBody(RandomBody):
 
     def branch(self, wanted, view, type_, scrutinee, levels, nesting):
         """A case with most of its alternatives."""
-        kept = [self.rng.random() < 0.85 and len(view + fields) <= 32 for fields in self.types[type_].constructors]
+        kept = [self.rng.random() < self.kept and len(view + fields) <= 32 for fields in self.types[type_].constructors]
         return case(type_, scrutinee, *(self.expression(wanted, view + fields, levels - 1, nesting + 1) if keep else None
                                         for fields, keep in zip(self.types[type_].constructors, kept)))
 
@@ -212,7 +213,8 @@ class BranchingBody(RandomBody):
         return self.ending(wanted, view)
 
 
-def random_rule(rng, most_types=3, most_constructors=3, most_fields=2, most_functions=3, most_parameters=3, most_levels=4):
+def random_rule(rng, most_types=3, most_constructors=3, most_fields=2, most_functions=3, most_parameters=3, most_levels=4,
+                kept=0.85):
     """A random rule file without its GO, whose bodies branch; with it the label that it marks most often, and the
     number of its functions."""
     types = random_types(rng, most_types, most_constructors, most_fields)
@@ -220,7 +222,7 @@ def random_rule(rng, most_types=3, most_constructors=3, most_fields=2, most_func
     heads = [(tuple(rng.randrange(count) for _ in range(rng.randint(0, most_parameters))), rng.randrange(count))
              for _ in range(rng.randint(1, most_functions))]
     label = rng.randrange(256)
-    writer = BranchingBody(rng, types, heads, label)
+    writer = BranchingBody(rng, types, heads, label, kept)
     functions = []
     for parameters, result in heads:
         body = writer.expression(result, parameters, rng.randint(1, most_levels))

@@ -11,14 +11,14 @@ from itertools import product
 from math import prod
 
 from blind.compare import same
-from blind.evaluate import ENDED, REACHED, UNFINISHED, Value, bench, evaluate
+from blind.evaluate import ENDED, MISSING, REACHED, UNFINISHED, Value, bench, evaluate
 from blind.rulefile import FULL, Refused, read
 
 MOST_INPUTS = 20000
 ROOM = 16777216
 OPEN = 0xFF
-MARKS = {REACHED: b"RE", UNFINISHED: b"UN"}
-WORDS = {REACHED: "reach", UNFINISHED: "unfinished"}
+MARKS = {REACHED: b"RE", UNFINISHED: b"UN", MISSING: b"MI"}  # in the order of the counts in the total line
+WORDS = {REACHED: "reach", UNFINISHED: "unfinished", MISSING: "missing"}
 
 
 class TooMany(Exception):
@@ -149,6 +149,18 @@ def fill(entries, list_length):
     return Listing(tuple(entries), verdict(entries))
 
 
+def tally(entries):
+    """The number of entries of each kind: reached, unfinished, missing."""
+    ends = [entry.end for entry in entries]
+    return tuple(ends.count(end) for end in MARKS)
+
+
+def share(reach, unfinished):
+    """The unfinished share of both in whole per cent, rounded down."""
+    both = reach + unfinished
+    return 100 * unfinished // both if both else 0
+
+
 def printed(answer):
     """The text that the program `reachlist` prints for what a search returned."""
     if not isinstance(answer, Listing):
@@ -156,10 +168,8 @@ def printed(answer):
     text = "".join(entry.line() for entry in answer.entries)
     if answer.refusal:
         return text + f"refused {answer.refusal}\n"
-    reach = sum(entry.end == REACHED for entry in answer.entries)
-    unfinished = len(answer.entries) - reach
-    share = 100 * unfinished // (reach + unfinished) if answer.entries else 0
-    return text + f"total {reach} {unfinished} {share} {answer.verdict}\n"
+    reach, unfinished, missing = tally(answer.entries)
+    return text + f"total {reach} {unfinished} {missing} {share(reach, unfinished)} {answer.verdict}\n"
 
 
 def reachlist(rule_file, most_inputs=MOST_INPUTS):

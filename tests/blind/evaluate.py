@@ -8,7 +8,7 @@ from dataclasses import dataclass
 
 from blind.rulefile import (BENCH, INPUT, Call, Case, Construction, Let, Reader, Refused, Target, Variable, read)
 
-REACHED, ENDED, UNFINISHED = "reached", "ended", "unfinished"
+REACHED, ENDED, UNFINISHED, MISSING = "reached", "ended", "unfinished", "missing"
 
 
 @dataclass(frozen=True)
@@ -47,6 +47,33 @@ class Outcome:
     waits: tuple
 
 
+def chosen(focus, case, environment):
+    """The alternative of a case for a part or a construction, its fields in view; None where it is missing."""
+    if isinstance(focus, Part):
+        constructor = focus.value.constructor
+        fields = tuple(Part(focus.place + (number,), field) for number, field in enumerate(focus.value.fields))
+    else:
+        constructor = focus.expression.constructor
+        fields = tuple(Closure(field, focus.environment) for field in focus.expression.fields)
+    alternative = case.alternatives[constructor]
+    return None if alternative is None else Closure(alternative, environment + fields)
+
+
+def unfolded(program, expression, environment, waiting):
+    """What is looked at after a step at an expression that is no construction."""
+    if isinstance(expression, Variable):
+        return environment[expression.number]
+    if isinstance(expression, Call):
+        arguments = tuple(Closure(argument, environment) for argument in expression.arguments)
+        return Closure(program.functions[expression.function].body, arguments)
+    if isinstance(expression, Case):
+        waiting.append((expression, environment))
+        return Closure(expression.scrutinee, environment)
+    if isinstance(expression, Let):
+        return Closure(expression.body, environment + (Closure(expression.bound, environment),))
+    return Closure(expression.inner, environment)
+
+
 def evaluate(program, values):
     """Evaluates the source function's body on one closed value per parameter."""
     source = program.functions[program.source]
@@ -75,32 +102,11 @@ def evaluate(program, values):
 
         steps += 1
         if constructed:
-            if part:
-                constructor = part.value.constructor
-                fields = tuple(Part(part.place + (number,), field) for number, field in enumerate(part.value.fields))
-            else:
-                constructor = expression.constructor
-                fields = tuple(Closure(field, focus.environment) for field in expression.fields)
-            case, environment = waiting.pop()
-            alternative = case.alternatives[constructor]
-            if alternative is None:
-                return outcome(ENDED)
-            focus = Closure(alternative, environment + fields)
-            continue
-
-        environment = focus.environment
-        if isinstance(expression, Variable):
-            focus = environment[expression.number]
-        elif isinstance(expression, Call):
-            arguments = tuple(Closure(argument, environment) for argument in expression.arguments)
-            focus = Closure(program.functions[expression.function].body, arguments)
-        elif isinstance(expression, Case):
-            waiting.append((expression, environment))
-            focus = Closure(expression.scrutinee, environment)
-        elif isinstance(expression, Let):
-            focus = Closure(expression.body, environment + (Closure(expression.bound, environment),))
+            focus = chosen(focus, *waiting.pop())
+            if focus is None:
+                return outcome(MISSING)
         else:
-            focus = Closure(expression.inner, environment)
+            focus = unfolded(program, expression, focus.environment, waiting)
 
 
 def read_value(program, reader, type_, depth):

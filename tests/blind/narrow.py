@@ -8,12 +8,21 @@ from dataclasses import dataclass
 from itertools import islice
 
 from blind.enumerate import Entry, prefix_form
-from blind.evaluate import ENDED, REACHED, UNFINISHED, Closure
+from blind.evaluate import ENDED, MISSING, REACHED, UNFINISHED, Closure
 from blind.rulefile import Call, Case, Construction, Let, Target, Variable, least_depths
 
 ERRORS = (
     "a path at S is booked as ended",
     "a missing alternative is booked as ended when S steps are done",
+    "a missing alternative is booked as missing when S steps are done",
+    "a missing alternative is booked as ended",
+    "a missing alternative is booked as unfinished",
+    "a missing alternative is booked as reached",
+    "finding that an alternative is missing costs no step",
+    "a fork leaves out constructors without an alternative",
+    "a fork takes constructors without an alternative whose fields cannot fit the depth",
+    "a fork takes constructors without an alternative last",
+    "a case without any alternative does not fork",
     "a path forks when S steps are done",
     "an end is booked as unfinished when S steps are done",
     "the sought target is booked as unfinished when S steps are done",
@@ -45,11 +54,11 @@ def known(error):
 
 
 class Fork(Exception):
-    """A case waits on an open part."""
+    """A case waits on an open part, with so many steps done."""
 
-    def __init__(self, part):
+    def __init__(self, part, case, steps):
         super().__init__()
-        self.part = part
+        self.part, self.case, self.steps = part, case, steps
 
 
 @dataclass(frozen=True)
@@ -86,7 +95,7 @@ class Narrowing:
             free, focus = self.step(focus, waiting, bound)
             steps += 0 if self.made(free) else 1
             if focus is None:
-                return ENDED, steps
+                return self.booked(MISSING), steps
         return UNFINISHED, steps
 
     def end(self, focus, waiting, steps, bound):
@@ -104,24 +113,33 @@ class Narrowing:
             late = full and self.made("an end is booked as unfinished when S steps are done")
             return UNFINISHED if late else ENDED
         if part and part.place not in bound and (not full or self.made("a path forks when S steps are done")):
-            raise Fork(part)
+            raise Fork(part, waiting[-1][0], steps)
         if not full:
             return None
-        return ENDED if self.made("a path at S is booked as ended") or self.missing(focus, waiting, bound) else UNFINISHED
+        if self.made("a path at S is booked as ended"):
+            return ENDED
+        return self.booked(UNFINISHED, " when S steps are done") if self.missing(focus, waiting, bound) else UNFINISHED
+
+    def booked(self, right, when=""):
+        """How a missing alternative is booked: as is right, unless an error is made."""
+        wrong = (end for end in (ENDED, UNFINISHED, REACHED, MISSING)
+                 if self.error == f"a missing alternative is booked as {end}{when}")
+        return next(wrong, right)
 
     def missing(self, focus, waiting, bound):
-        """Whether a missing alternative is to be booked as ended although S steps are done."""
+        """Whether the waiting case has no alternative for what is looked at, where that has a constructor."""
         if isinstance(focus, Part):
             constructor = bound.get(focus.place)
         else:
             constructor = focus.expression.constructor if isinstance(focus.expression, Construction) else None
-        return (constructor is not None and waiting[-1][0].alternatives[constructor] is None
-                and self.made("a missing alternative is booked as ended when S steps are done"))
+        return constructor is not None and waiting[-1][0].alternatives[constructor] is None
 
     def step(self, focus, waiting, bound):
         """The error that makes this step free, and what is looked at after it: None where an alternative is missing."""
         if isinstance(focus, Part) or isinstance(focus.expression, Construction):
-            return "choosing an alternative costs no step", self.alternative(focus, waiting.pop(), bound)
+            chosen = self.alternative(focus, waiting.pop(), bound)
+            return ("choosing an alternative costs no step" if chosen
+                    else "finding that an alternative is missing costs no step"), chosen
         expression, environment = focus.expression, focus.environment
         if isinstance(expression, Variable):
             return "a variable costs no step", environment[expression.number]
@@ -153,12 +171,18 @@ class Narrowing:
         chosen = case.alternatives[constructor]
         return None if chosen is None else Closure(chosen, environment + fields)
 
-    def constructors(self, part):
+    def constructors(self, part, case):
         """The constructors over which a fork goes, in order."""
-        unfit = self.made("a fork takes constructors whose fields cannot fit the depth")
         strict = self.made("a fork leaves out constructors whose fields just fit the depth")
+        missing = [number for number, alternative in enumerate(case.alternatives) if alternative is None]
+        unfit = (missing if self.made("a fork takes constructors without an alternative whose fields cannot fit the depth")
+                 else range(16) if self.made("a fork takes constructors whose fields cannot fit the depth") else ())
         numbers = [number for number, fields in enumerate(self.program.types[part.type].constructors)
-                   if unfit or all(self.depths[field] + strict <= part.room - 1 for field in fields)]
+                   if number in unfit or all(self.depths[field] + strict <= part.room - 1 for field in fields)]
+        if self.made("a fork leaves out constructors without an alternative"):
+            return [number for number in numbers if number not in missing]
+        if self.made("a fork takes constructors without an alternative last"):
+            return sorted(numbers, key=missing.__contains__)
         if self.made("only the first constructor of a fork is searched"):
             return numbers[:1]
         return numbers[::-1] if self.made("a fork goes from the last constructor to the first") else numbers
@@ -168,8 +192,11 @@ class Narrowing:
         try:
             end, steps = self.run(bound)
         except Fork as fork:
+            if self.made("a case without any alternative does not fork") and not any(fork.case.alternatives):
+                yield Entry(MISSING, fork.steps + 1, prefix_form(self.program, bound))
+                return bound
             place, others, last = fork.part.place, bound, bound
-            for constructor in self.constructors(fork.part):
+            for constructor in self.constructors(fork.part, fork.case):
                 last = yield from self.entries({**others, place: constructor})
                 if self.made("places bound in one branch of a fork stay bound in the next"):
                     others = {other: number for other, number in last.items() if other[:len(place)] != place}

@@ -1,15 +1,20 @@
-"""Checks the blind side by hand-worked examples: those of the scope paper, and some that it does not show. The exit status is 1
-where it gives another answer than was worked out."""
+"""Checks the blind side: by hand-worked examples, those of the scope paper and some that it does not show; and on random rules,
+whose lists are those of narrowing and break no demand, while those that narrowing makes with an error do. The exit status is 1
+where anything is otherwise."""
 
 import os
+import random
 import sys
+from dataclasses import replace
 
 sys.path.insert(0, os.path.dirname(os.path.dirname(os.path.abspath(__file__))))
 
-from blind.build import call, case, con, fn, go, let, target, ty, var
+from blind.build import call, case, con, fn, go, let, random_rule, target, ty, var
 from blind.compare import Different, same
-from blind.enumerate import Listing, TooMany, count_inputs, reachlist, search
-from blind.evaluate import Outcome, run
+from blind.demands import broken
+from blind.enumerate import Entry, Listing, TooMany, all_entries, count_inputs, reachlist, search, tally, verdict
+from blind.evaluate import MISSING, REACHED, UNFINISHED, Outcome, run
+from blind.narrow import ERRORS, Narrowing
 from blind.rulefile import Program, check, least_depths, read
 
 P = bytes.fromhex("54 59 02 00 01 00 46 4E 01 00 00 17 00 03 00 00 00 01 02 00 00 01 "
@@ -50,21 +55,21 @@ def scope_examples():
     same("whether P is accepted", isinstance(check(P), Program), True)
     same("P with its own label, D and S", changed(), P)
     for found in P, changed(depth=3), changed(steps=6):
-        prints(found, "reach 6 1 1 _", "total 1 0 0 found")
+        prints(found, "reach 6 1 1 _", "total 1 0 0 0 found")
     for none in changed(depth=2), changed(depth=1):
-        prints(none, "total 0 0 0 none")
-    prints(changed(steps=5), "unfinished 5 1 _", "total 0 1 100 undecided")
-    prints(changed(steps=2), "unfinished 2 _", "total 0 1 100 undecided")
-    prints(changed(steps=0), "unfinished 0 _", "total 0 1 100 undecided")
-    prints(changed(label=8, steps=6), "unfinished 6 1 1 _", "total 0 1 100 undecided")
-    prints(changed(label=8, steps=7), "total 0 0 0 none")
+        prints(none, "total 0 0 0 0 none")
+    prints(changed(steps=5), "unfinished 5 1 _", "total 0 1 0 100 undecided")
+    prints(changed(steps=2), "unfinished 2 _", "total 0 1 0 100 undecided")
+    prints(changed(steps=0), "unfinished 0 _", "total 0 1 0 100 undecided")
+    prints(changed(label=8, steps=6), "unfinished 6 1 1 _", "total 0 1 0 100 undecided")
+    prints(changed(label=8, steps=7), "total 0 0 0 0 none")
     ends(P, [0], "ended", 3)
     ends(P, [1, 1, 0], "reached", 6)
     prints(b"", "refused 1")
     prints(P[6:], "refused 2")
     prints(HOLLOW, "refused 8")
     # The bench of reachlist: S above 240 is 11.
-    prints(changed(steps=240), "reach 6 1 1 _", "total 1 0 0 found")
+    prints(changed(steps=240), "reach 6 1 1 _", "total 1 0 0 0 found")
     prints(changed(steps=241), "refused 11")
 
 
@@ -92,36 +97,35 @@ def refusals_of_runs():
 def further_examples():
     """Worked by hand; they show what P does not."""
     # Without parameters the line stops after the steps.
-    prints(NAT + fn((), 0, target(7, con(0, 0))) + go(), "reach 0", "total 1 0 0 found")
+    prints(NAT + fn((), 0, target(7, con(0, 0))) + go(), "reach 0", "total 1 0 0 0 found")
     # f x = f x: twenty calls are unfolded and no variable is ever followed.
-    prints(NAT + fn((0,), 0, call(0, var(0))) + go(), "unfinished 20 _", "total 0 1 100 undecided")
+    prints(NAT + fn((0,), 0, call(0, var(0))) + go(), "unfinished 20 _", "total 0 1 0 100 undecided")
     # An open part with no case waiting ends, also when S steps are done.
-    prints(NAT + fn((0,), 0, var(0)) + go(steps=1), "total 0 0 0 none")
-    prints(NAT + fn((0,), 0, var(0)) + go(steps=0), "unfinished 0 _", "total 0 1 100 undecided")
-    # A missing alternative: found by step 3, unfinished with S 2.
-    missing = NAT + fn((0,), 0, case(0, var(0), None, target(7, var(0))))
-    prints(missing + go(depth=2, steps=3), "reach 3 1 _", "total 1 0 0 found")
-    prints(missing + go(depth=2, steps=2), "unfinished 2 _", "total 0 1 100 undecided")
-    ends(missing + go(depth=2, steps=3), [0], "ended", 3)
-    ends(missing + go(depth=2, steps=2), [0], "unfinished", 2)
+    prints(NAT + fn((0,), 0, var(0)) + go(steps=1), "total 0 0 0 0 none")
+    prints(NAT + fn((0,), 0, var(0)) + go(steps=0), "unfinished 0 _", "total 0 1 0 100 undecided")
     # A target inside a scrutinee: turning to the scrutinee is one step.
-    prints(NAT + fn((), 0, case(0, target(7, con(0, 0)), None, None)) + go(), "reach 1", "total 1 0 0 found")
+    prints(NAT + fn((), 0, case(0, target(7, con(0, 0)), None, None)) + go(), "reach 1", "total 1 0 0 0 found")
     # By name: let y = g x in case y of zero -> case y of zero -> target; each use of y costs its steps anew.
-    # let 1, case 2, y 3, call 4, g's x 5, f's x 6, choose 7; case 8, y 9, call 10, x 11, x 12, choose 13.
+    # let 1, case 2, y 3, call 4, g's x 5, f's x 6, fork; zero: choose 7; case 8, y 9, call 10, x 11, x 12, choose 13.
+    # Suc: find that there is none 7.
     twice = case(0, var(1), case(0, var(1), target(7, var(0)), None), None)
     by_name = NAT + fn((0,), 0, let(0, call(1, var(0)), twice)) + fn((0,), 0, var(0)) + go()
-    prints(by_name, "reach 13 0", "total 1 0 0 found")
+    prints(by_name, "reach 13 0", "missing 7 1 _", "total 1 0 1 0 found")
     # Order: by the first place looked at, which is the second parameter, then the first.
     both = case(0, var(1), case(0, var(0), target(7, var(0)), target(7, var(0))),
                 case(0, var(0), target(7, var(0)), target(8, var(0))))
-    prints(BOOL + fn((0, 0), 0, both) + go(), "reach 6 0 0", "reach 6 1 0", "reach 6 0 1", "total 3 0 0 found")
+    prints(BOOL + fn((0, 0), 0, both) + go(), "reach 6 0 0", "reach 6 1 0", "reach 6 0 1", "total 3 0 0 0 found")
     # One entry of three is unfinished, and the share is rounded down.
     third = case(0, var(0), target(7, var(0)), case(0, var(1), call(0, con(0, 1), con(0, 0)), target(7, var(0))))
     prints(BOOL + fn((0, 0), 0, third) + go(),
-           "reach 3 0 _", "unfinished 20 1 0", "reach 6 1 1", "total 2 1 33 found")
+           "reach 3 0 _", "unfinished 20 1 0", "reach 6 1 1", "total 2 1 0 33 found")
     # A type with one constructor is forked over all the same; the field's place lies below it.
     box = ty((1,)) + BOOL + fn((0,), 0, case(0, var(0), case(1, var(1), None, target(7, var(0))))) + go(depth=2)
-    prints(box, "reach 6 0 1", "total 1 0 0 found")
+    prints(box, "missing 6 0 0", "reach 6 0 1", "total 1 0 1 0 found")
+
+
+def limits():
+    """Worked by hand: a full list, least depths, and how many closed inputs there are."""
     # A full list: three parameters of sixteen constructors make 4,096 entries of 9 bytes, of which 3,640 fit 32,768.
     # case 1, a 2, choose 3, call 4, case 5, b through two variables 7, choose 8, call 9, case 10, c through three
     # variables 13, choose 14.
@@ -150,12 +154,16 @@ def lists(rule_file, verdict, *entries, room=1000):
 
 
 def re(steps, *parameters):
-    """The bytes of an entry of fewer than 256 steps; the same for `un`."""
+    """The bytes of an entry of fewer than 256 steps; the same for `un` and `mi`."""
     return b"RE" + bytes([steps, 0, len(parameters), 0, *parameters])
 
 
 def un(steps, *parameters):
     return b"UN" + bytes([steps, 0, len(parameters), 0, *parameters])
+
+
+def mi(steps, *parameters):
+    return b"MI" + bytes([steps, 0, len(parameters), 0, *parameters])
 
 
 def worked_lists():
@@ -185,9 +193,14 @@ def worked_lists():
     lists(pair + go(depth=3, steps=11), "found", one, two_, un(11, 1, 1, open_, 0))
     lists(pair + go(depth=3, steps=19), "found", one, two_, un(19, 1, 1, open_, 0))
     # The three entries have 8, 9 and 10 bytes.
-    for room, verdict, entries in ((27, "found", (one, two_, three)), (26, None, (one, two_)), (17, None, (one, two_)),
+    for room, verdict_, entries in ((27, "found", (one, two_, three)), (26, None, (one, two_)), (17, None, (one, two_)),
                                    (16, None, (one,)), (8, None, (one,)), (7, None, ()), (0, None, ())):
-        lists(pair + go(depth=3), verdict, *entries, room=room)
+        lists(pair + go(depth=3), verdict_, *entries, room=room)
+
+
+def worked_depths():
+    """Lists of what fits the depth, and of a let, worked by hand in the same way."""
+    zero, open_ = con(0, 0), 255
 
     # A box of a number: case 1, b 2, choose 3, case 4, n 5, choose 6, target in the alternative for suc.
     # With D 2 the number may have depth 1, so suc, whose field would have depth 0, is left out. With D 3 it is not.
@@ -199,15 +212,10 @@ def worked_lists():
     deep = ty((), (1,)) + ty((2,)) + ty(()) + fn((0,), 0, case(0, var(0), zero, target(7, zero)))
     lists(deep + go(depth=2), "none")
     lists(deep + go(depth=3), "found", re(3, 1, open_))
-
-    # f x = case x of zero -> case x of suc v -> zero; suc u -> target. The inner case has no alternative for zero.
-    # case 1, x 2, fork; zero: choose 3, case 4, x 5, find that there is none 6. Suc: choose 3, target.
-    missing = NAT + fn((0,), 0, case(0, var(0), case(0, var(0), None, zero), target(7, zero)))
-    lists(missing + go(depth=2, steps=5), "found", un(5, 0), re(3, 1, open_))
-    lists(missing + go(depth=2, steps=6), "found", re(3, 1, open_))
-    # With D 1 suc is left out, and what is left is undecided with S 5, none with S 6.
-    lists(missing + go(depth=1, steps=5), "undecided", un(5, 0))
-    lists(missing + go(depth=1, steps=6), "none")
+    # So is one without an alternative.
+    lacking = ty((), (1,)) + ty((2,)) + ty(()) + fn((0,), 0, case(0, var(0), zero, None))
+    lists(lacking + go(depth=2), "none")
+    lists(lacking + go(depth=3), "none", mi(3, 1, open_))
 
     # A let whose bound expression loops and that nothing looks at: let 1, x 2, with no case waiting.
     lazy = NAT + fn((0,), 0, let(0, call(1), var(0))) + fn((), 0, call(1))
@@ -217,9 +225,133 @@ def worked_lists():
     lists(eager + go(depth=64, steps=9), "undecided", un(9, open_))
 
 
+def missing_alternatives():
+    """Worked by hand: each alternative that is missing is found by a step of its own, inside the limit or not at all."""
+    zero, open_ = con(0, 0), 255
+
+    # f x = case x of suc u -> target: case 1, x 2, fork; zero: find that there is none 3. Suc: choose 3.
+    first = NAT + fn((0,), 0, case(0, var(0), None, target(7, var(0))))
+    prints(first + go(depth=2, steps=3), "missing 3 0", "reach 3 1 _", "total 1 0 1 0 found")
+    prints(first + go(depth=2, steps=2), "unfinished 2 _", "total 0 1 0 100 undecided")
+    ends(first + go(depth=2, steps=3), [0], "missing", 3)
+    ends(first + go(depth=2, steps=2), [0], "unfinished", 2)
+
+    # P without its target's alternative, then without that for zero beside it; both are waited for when 5 steps are done.
+    no_end = NAT + fn((0,), 0, case(0, var(0), zero, case(0, var(1), zero, None)))
+    prints(no_end + go(depth=4, steps=6), "missing 6 1 1 _", "total 0 0 1 0 none")
+    prints(no_end + go(depth=4, steps=5), "unfinished 5 1 _", "total 0 1 0 100 undecided")
+    ends(no_end + go(depth=4, steps=6), [1, 1, 0], "missing", 6)
+    ends(no_end + go(depth=4, steps=6), [1, 0], "ended", 6)
+    prints(no_end + go(depth=2, steps=6), "total 0 0 0 0 none")  # suc (suc _) does not fit
+    no_zero = NAT + fn((0,), 0, case(0, var(0), zero, case(0, var(1), None, target(7, zero))))
+    prints(no_zero + go(depth=4), "missing 6 1 0", "reach 6 1 1 _", "total 1 0 1 0 found")
+
+    # f x = case x of zero -> case x of suc v -> zero; suc u -> target. The inner case has no alternative for zero.
+    # case 1, x 2, fork; zero: choose 3, case 4, x 5, find that there is none 6. Suc: choose 3, target.
+    later = NAT + fn((0,), 0, case(0, var(0), case(0, var(0), None, zero), target(7, zero)))
+    lists(later + go(depth=2, steps=5), "found", un(5, 0), re(3, 1, open_))
+    lists(later + go(depth=2, steps=6), "found", mi(6, 0), re(3, 1, open_))
+    # With D 1 suc is left out, and what is left is undecided with S 5, none with S 6.
+    lists(later + go(depth=1, steps=5), "undecided", un(5, 0))
+    lists(later + go(depth=1, steps=6), "none", mi(6, 0))
+    # The entries have 7 and 8 bytes.
+    for room, verdict_, entries in ((15, "found", (mi(6, 0), re(3, 1, open_))), (14, None, (mi(6, 0),)), (7, None, (mi(6, 0),)), (6, None, ())):
+        lists(later + go(depth=2, steps=6), verdict_, *entries, room=room)
+
+
+def missing_beside_others():
+    """Worked by hand: missing alternatives in all orders with other ends, and at places that are not the body's own case."""
+    zero, open_, again, reach = con(0, 0), 255, call(0, var(0)), target(7, var(0))
+
+    # Six constructors: case 1, x 2, fork, then 3; one leads to f x again, up to S. The share is one of three.
+    six = ty(*[()] * 6) + fn((0,), 0, case(0, var(0), None, reach, again, None, reach, None)) + go()
+    prints(six, "missing 3 0", "reach 3 1", "unfinished 20 2", "missing 3 3", "reach 3 4", "missing 3 5", "total 2 1 3 33 found")
+    # A fork that has no alternative at all goes over every constructor.
+    prints(BOOL + fn((0,), 0, case(0, var(0), None, None)) + go(), "missing 3 0", "missing 3 1", "total 0 0 2 0 none")
+    # Without parameters: case 1, find that there is none 2.
+    alone = BOOL + fn((), 0, case(0, zero, None, target(7, zero)))
+    lists(alone + go(steps=2), "none", mi(2))
+    lists(alone + go(steps=1), "undecided", un(1))
+
+    # In a scrutinee, and of the case that waits for it: case (case x of suc u -> case u of zero -> zero; suc v -> suc v) of
+    # zero -> target. case 1, case 2, x 3, fork; zero: none 4. Suc: choose 4, case 5, u 6, fork; zero: choose 7, and choose 8,
+    # target. Suc: choose 7, and for suc v there is none 8.
+    scrutinee = case(0, var(0), None, case(0, var(1), zero, con(0, 1, var(2))))
+    lists(NAT + fn((0,), 0, case(0, scrutinee, reach, None)) + go(depth=3), "found", mi(4, 0), re(8, 1, 0), mi(8, 1, 1, open_))
+    # Below lets, of which nothing looks at the second: let 1, let 2, case 3, y 4, case 5, x 6, fork; zero: none 7. Suc: choose 7,
+    # u 8, fork; zero: choose 9, target. Suc: none 9.
+    body = let(0, case(0, zero, None, None), case(0, var(1), reach, None))
+    lists(NAT + fn((0,), 0, let(0, case(0, var(0), None, var(1)), body)) + go(depth=3), "found", mi(7, 0), re(9, 1, 0), mi(9, 1, 1, open_))
+    # In a called function: f x y = case g y of zero -> target; g z = case z of suc u -> zero. case 1, call 2, case 3, z 4, y 5,
+    # fork; zero: none 6. Suc: choose 6, and choose 7, target.
+    called = fn((0, 0), 0, case(0, call(1, var(1)), reach, None)) + fn((0,), 0, case(0, var(0), None, zero))
+    lists(NAT + called + go(depth=3), "found", mi(6, open_, 0), re(7, open_, 1, open_))
+
+
+def wrong_lists():
+    """Each demand is broken by a list made for it; the rule is P without the alternative for zero beside its target."""
+    rule = NAT + fn((0,), 0, case(0, var(0), con(0, 0), case(0, var(1), None, target(7, con(0, 0)))))
+    program, shallow = read(rule + go(depth=4)), read(rule + go(depth=2))
+    missing, reach = Entry(MISSING, 6, b"\1\0"), Entry(REACHED, 6, b"\1\1\xff")
+    halves = [Entry(REACHED, 6, b"\1\1\0"), Entry(REACHED, 6, b"\1\1\1\xff")]
+    for what, searched, entries, said in (
+            ("None", program, [missing, reach], "found"), ("None", shallow, [missing], "none"),
+            ("how an input ends", program, [replace(missing, steps=5), reach], "found"),
+            ("how an input ends", program, [replace(missing, end=UNFINISHED), reach], "found"),
+            ("entries that an input completes", program, [reach], "found"),
+            ("whether two entries differ", program, [missing, reach, halves[0]], "found"),
+            ("where the evaluation halts", program, [missing, *halves], "found"),
+            ("entries that have a completion", shallow, [missing, reach], "none"),
+            ("whether none is said", shallow, [missing], "undecided"), ("whether none is said", shallow, [missing], "found"),
+            ("whether none is said", program, [missing, reach], "none"), ("whether found is said", program, [missing, reach], "undecided")):
+        wrong = str(broken(searched, entries, said))
+        same(f"what is wrong with {entries}, {said}", wrong[:len(what)], what)
+
+
+# These give another list than the one defined, but one that breaks no demand.
+HARMLESS = {
+    "a fork goes from the last constructor to the first",
+    "a fork takes constructors without an alternative last",
+    "a case without any alternative does not fork",
+}
+
+
+def random_programs(rng, count):
+    """Random rules with few closed inputs within the depth."""
+    found = []
+    while len(found) < count:
+        rule, label, functions = random_rule(rng, kept=0.75)
+        program = check(rule + go(rng.randrange(functions), label, rng.randint(1, 3), rng.choice((rng.randint(0, 6), rng.randint(3, 25)))))
+        if isinstance(program, Program) and count_inputs(program, 60) <= 60:
+            found.append(program)
+    return found
+
+
+def random_lists():
+    """The list is that of narrowing and breaks no demand; with each error made, a list breaks one."""
+    programs = random_programs(random.Random(1), 250)
+    seen = [0, 0, 0]
+    for program in programs:
+        entries = all_entries(program)
+        same("what narrowing lists", list(Narrowing(program).entries({})), entries)
+        same("what is wrong with a list", broken(program, entries, verdict(entries)), None)
+        seen = [number + (more > 0) for number, more in zip(seen, tally(entries))]
+    same("kinds of entries that fewer than 40 lists have", [number for number in seen if number < 40], [])
+    for error in ERRORS:
+        lists_ = (list(Narrowing(program, error).entries({})) for program in programs)
+        wrong = any(broken(program, listed, verdict(listed)) for program, listed in zip(programs, lists_))
+        same(f"whether a list breaks a demand where {error}", wrong, error not in HARMLESS)
+
+
 if __name__ == "__main__":
     scope_examples()
     refusals_of_runs()
     further_examples()
+    limits()
     worked_lists()
+    worked_depths()
+    missing_alternatives()
+    missing_beside_others()
+    wrong_lists()
+    random_lists()
     print("blind side: all examples as expected")

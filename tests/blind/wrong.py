@@ -1,0 +1,50 @@
+"""Wrong verdicts and wrong total lines, for the test of the tests: each must change what is expected of some stored case.
+
+Each is worked out from the numbers of entries that are reached, unfinished and missing.
+"""
+
+from blind.enumerate import share
+
+
+def judged(reach, unfinished):
+    return "found" if reach else "undecided" if unfinished else "none"
+
+
+VERDICTS = {
+    "a missing alternative makes the verdict found": lambda reach, unfinished, missing: judged(reach + missing, unfinished),
+    "a missing alternative makes the verdict undecided": lambda reach, unfinished, missing: judged(reach, unfinished + missing),
+    "a missing alternative makes the verdict none": lambda reach, unfinished, missing: judged(reach, 0 if missing else unfinished),
+}
+
+
+def total(*items):
+    return " ".join(map(str, ("total", *items))) + "\n"
+
+
+def ended_by(share_of, verdict=lambda reach, unfinished, missing: judged(reach, unfinished)):
+    """The total line with another share or another verdict."""
+    return lambda *counts: total(*counts, share_of(*counts), verdict(*counts))
+
+
+def counted(change):
+    """The total line with other counts before the share."""
+    return lambda reach, unfinished, missing: total(*change(reach, unfinished, missing), share(reach, unfinished),
+                                                    judged(reach, unfinished))
+
+
+TOTALS = {
+    "missing ones count in the share": ended_by(lambda reach, unfinished, missing: share(reach + missing, unfinished)),
+    "missing ones count as unfinished in the share": ended_by(lambda reach, unfinished, missing: share(reach, unfinished + missing)),
+    "missing ones count as reached": counted(lambda reach, unfinished, missing: (reach + missing, unfinished, missing)),
+    "missing ones count as unfinished": counted(lambda reach, unfinished, missing: (reach, unfinished + missing, missing)),
+    "missing ones are counted before the unfinished": counted(lambda reach, unfinished, missing: (reach, missing, unfinished)),
+    "missing ones are not counted": counted(lambda reach, unfinished, missing: (reach, unfinished, 0)),
+    "the total has no count of missing ones": counted(lambda reach, unfinished, missing: (reach, unfinished)),
+    **{error: ended_by(lambda reach, unfinished, missing: share(reach, unfinished), verdict) for error, verdict in VERDICTS.items()},
+}
+
+
+def too_few(wrong, cases, least):
+    """The errors of `wrong` that change fewer than so many cases, each the numbers of its entries and what is right."""
+    changed = {error: sum(made(*numbers) != right for numbers, right in cases) for error, made in wrong.items()}
+    return [f"changes {number} cases: {error}" for error, number in changed.items() if number < least]
