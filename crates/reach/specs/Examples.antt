@@ -129,7 +129,18 @@ starred =
     ∷ bytes-of (p-with 7 4 20) ⇒ bytes (0x52 ∷ 0x45 ∷ 0x06 ∷ 0x00 ∷ 0x03 ∷ 0x00 ∷ 0x01 ∷ 0x01 ∷ 0xff ∷ [])
     ∷ []
 
--- P has an alternative for every constructor. This is P without the one for constructor 0 of its parameter, with this label and S.
+-- P has an alternative for every constructor. This is P without the one that holds the target, with this S.
+abbrev pub p-no-end : ℕ → List ℕ
+p-no-end s =
+    0x54 ∷ 0x59 ∷ 0x02 ∷ 0x00 ∷ 0x01 ∷ 0x00 ∷ 0x46 ∷ 0x4e ∷ 0x01 ∷ 0x00 ∷ 0x00 ∷ 0x12 ∷ 0x00 ∷ 0x03 ∷ 0x00 ∷ 0x00 ∷ 0x00 ∷ 0x01 ∷ 0x02 ∷ 0x00 ∷ 0x00 ∷ 0x01 ∷ 0x03 ∷ 0x00 ∷ 0x00 ∷ 0x01 ∷ 0x01 ∷ 0x02 ∷ 0x00 ∷ 0x00 ∷ 0x00 ∷ 0x47 ∷ 0x4f ∷ 0x00 ∷ 0x07 ∷ 0x04 ∷ s ∷ 0x00 ∷ []
+
+-- P without the alternative for constructor 0 below a first constructor 1
+abbrev pub p-no-zero : List ℕ
+p-no-zero =
+    0x54 ∷ 0x59 ∷ 0x02 ∷ 0x00 ∷ 0x01 ∷ 0x00 ∷ 0x46 ∷ 0x4e ∷ 0x01 ∷ 0x00 ∷ 0x00 ∷ 0x14 ∷ 0x00 ∷ 0x03 ∷ 0x00 ∷ 0x00 ∷ 0x00 ∷ 0x01 ∷ 0x02 ∷ 0x00 ∷ 0x00 ∷ 0x01 ∷ 0x03 ∷ 0x00 ∷ 0x00 ∷ 0x01 ∷ 0x00
+    ∷ 0x01 ∷ 0x05 ∷ 0x07 ∷ 0x02 ∷ 0x00 ∷ 0x00 ∷ 0x47 ∷ 0x4f ∷ 0x00 ∷ 0x07 ∷ 0x04 ∷ 0x14 ∷ 0x00 ∷ []
+
+-- P without the alternative for constructor 0 of its parameter, with this label and S
 abbrev pub p-without : ℕ → ℕ → List ℕ
 p-without label s =
     0x54 ∷ 0x59 ∷ 0x02 ∷ 0x00 ∷ 0x01 ∷ 0x00 ∷ 0x46 ∷ 0x4e ∷ 0x01 ∷ 0x00 ∷ 0x00 ∷ 0x14 ∷ 0x00 ∷ 0x03 ∷ 0x00 ∷ 0x00 ∷ 0x00 ∷ 0x00
@@ -141,10 +152,15 @@ lacking s =
     0x54 ∷ 0x59 ∷ 0x02 ∷ 0x00 ∷ 0x01 ∷ 0x00 ∷ 0x46 ∷ 0x4e ∷ 0x01 ∷ 0x00 ∷ 0x00 ∷ 0x0a ∷ 0x00 ∷ 0x03 ∷ 0x00 ∷ 0x02 ∷ 0x00 ∷ 0x00 ∷ 0x00 ∷ 0x01 ∷ 0x02 ∷ 0x00 ∷ 0x00
     ∷ 0x47 ∷ 0x4f ∷ 0x00 ∷ 0x07 ∷ 0x04 ∷ s ∷ 0x00 ∷ []
 
--- a missing alternative is found at its step, the third or the second; before it the path is unfinished, and no verdict comes of it
+-- a missing alternative is found at its step, the sixth, the third or the second; before it the path is unfinished; and no verdict comes of it
 abbrev pub at-missing : List Row
 at-missing =
-    search-of (p-without 7 20) ⇒ lists (missing 3 (0 ∷ []) ∷ reach 6 (1 ∷ 1 ∷ ○ ∷ []) ∷ []) Found
+    search-of (p-no-end 6) ⇒ lists (missing 6 (1 ∷ 1 ∷ ○ ∷ []) ∷ []) None
+    ∷ search-of (p-no-end 5) ⇒ lists (unfinished 5 (1 ∷ ○ ∷ []) ∷ []) Undecided
+    ∷ search-of p-no-zero ⇒ lists (missing 6 (1 ∷ 0 ∷ []) ∷ reach 6 (1 ∷ 1 ∷ ○ ∷ []) ∷ []) Found
+    ∷ run-of (p-no-end 6) (1 ∷ 1 ∷ 0 ∷ []) ⇒ answers (ran (Missing 6))
+    ∷ run-of (p-no-end 6) (1 ∷ 0 ∷ []) ⇒ answers (ran (Ended 6))
+    ∷ search-of (p-without 7 20) ⇒ lists (missing 3 (0 ∷ []) ∷ reach 6 (1 ∷ 1 ∷ ○ ∷ []) ∷ []) Found
     ∷ search-of (p-without 7 3) ⇒ lists (missing 3 (0 ∷ []) ∷ unfinished 3 (1 ∷ ○ ∷ []) ∷ []) Undecided
     ∷ search-of (p-without 7 2) ⇒ lists (unfinished 2 (○ ∷ []) ∷ []) Undecided
     ∷ search-of (p-without 8 20) ⇒ lists (missing 3 (0 ∷ []) ∷ []) None
