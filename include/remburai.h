@@ -29,9 +29,9 @@ extern "C" {
 
 /* The version of this file and of the library beside it. */
 #define REMBURAI_VERSION_MAJOR 0
-#define REMBURAI_VERSION_MINOR 1
+#define REMBURAI_VERSION_MINOR 2
 #define REMBURAI_VERSION_PATCH 0
-#define REMBURAI_VERSION "0.1.0"
+#define REMBURAI_VERSION "0.2.0"
 
 /* Every call answers with one number; the functions under "The parts of an answer" take it apart.
  *
@@ -63,13 +63,14 @@ extern "C" {
 #define REMBURAI_NO_VERDICT 0        /* with every refusal */
 #define REMBURAI_FOUND 1             /* an entry reaches the target */
 #define REMBURAI_UNDECIDED 2         /* no entry reaches the target, and one ran out of steps */
-#define REMBURAI_NONE 3              /* no entry: every closed input within the depth stops in time off target */
+#define REMBURAI_NONE 3              /* no entry reaches or is unfinished: every closed input within the depth stops in time off target */
 
-/* Outcomes of a run, and kinds of entries. An entry is of the kind REMBURAI_REACHED or REMBURAI_UNFINISHED. */
+/* Outcomes of a run, and kinds of entries. An entry is of the kind REMBURAI_REACHED, REMBURAI_UNFINISHED or REMBURAI_MISSING. */
 #define REMBURAI_NO_OUTCOME 0        /* with every refusal */
 #define REMBURAI_REACHED 1           /* the sought target is demanded */
-#define REMBURAI_ENDED 2             /* it stops off target */
-#define REMBURAI_UNFINISHED 3        /* S steps are done and it is none of these */
+#define REMBURAI_ENDED 2             /* it stops off target at a constructor, or at a part of the input, with no case waiting */
+#define REMBURAI_UNFINISHED 3        /* S steps are done and it is none of the others */
+#define REMBURAI_MISSING 4           /* it stops off target at a case that has no alternative for the constructor */
 
 /* The longest rule file, in bytes; the largest step limit S; the words of work slice that a step limit asks for; and how many bytes of a
  * list slice count. */
@@ -115,7 +116,8 @@ static inline size_t remburai_entry_size(uint64_t answer) { return (size_t)(answ
 
 /* A list is entries, one behind the other. An entry is
  *
- *   bytes 0 and 1   its mark: RE, each input that completes it reaches the target, or UN, each of them runs out of steps
+ *   bytes 0 and 1   its mark: RE, each input that completes it reaches the target, UN, each of them runs out of steps, or MI, each of
+ *                   them runs into a missing alternative, so that no case covers it
  *   bytes 2 and 3   the steps that each of them takes, low byte first
  *   bytes 4 and 5   the length in bytes of what follows, low byte first
  *   from byte 6 on  its values, one for each parameter of the source function, in prefix form: a constructor's number, then its fields
@@ -135,7 +137,9 @@ static inline size_t remburai_size_at(const uint8_t *list, size_t list_length, s
 }
 
 /* Of an entry, given by its first byte: its kind, the steps, the length of its values in bytes, and where they begin. */
-static inline unsigned remburai_entry_kind(const uint8_t *entry) { return entry[0] == 'R' ? REMBURAI_REACHED : REMBURAI_UNFINISHED; }
+static inline unsigned remburai_entry_kind(const uint8_t *entry) {
+    return entry[0] == 'R' ? REMBURAI_REACHED : entry[0] == 'U' ? REMBURAI_UNFINISHED : REMBURAI_MISSING;
+}
 static inline unsigned remburai_entry_steps(const uint8_t *entry) { return entry[2] + 256u * entry[3]; }
 static inline size_t remburai_entry_values_length(const uint8_t *entry) { return entry[4] + 256u * entry[5]; }
 static inline const uint8_t *remburai_entry_values(const uint8_t *entry) { return entry + REMBURAI_ENTRY_HEAD; }

@@ -106,6 +106,8 @@ def check_print(programs):
     program = programs.example("print", AS_REACHLIST)
     names = sorted(name[:-5] for name in os.listdir(STORED) if name.endswith(".rule"))
     same("whether there are stored rule files", names != [], True)
+    lines = b"".join(stored(STORED, name + ".out") for name in names).splitlines()
+    same("what the stored lines begin with", {line.split()[0] for line in lines}, {b"reach", b"unfinished", b"missing", b"total", b"refused"})
     for name in names:
         said, status, faults = call([program], input=stored(STORED, name + ".rule"))
         wanted = stored(STORED, name + ".out")

@@ -8,6 +8,7 @@ pub struct Tried {
     pub inputs: u64,
     pub reached: u64,
     pub unfinished: u64,
+    pub missing: u64,
 }
 
 /// The number of closed values of each type for each depth, and of inputs; `u64::MAX` where there are more.
@@ -67,6 +68,7 @@ pub fn enumerate(program: &Program, counts: &Counts, most: u64) -> Tried {
         match run_rank(program, counts, &mut machine, rank) {
             Stop::Reached => tried.reached += 1,
             Stop::Unfinished => tried.unfinished += 1,
+            Stop::Missing => tried.missing += 1,
             Stop::Ended => {}
             Stop::Waits(_) => unreachable!("a closed input has no open part"),
         }
@@ -127,10 +129,10 @@ pub fn completions(program: &Program, counts: &Counts, list: &[u8]) -> Tried {
         let inputs = parameters.fold(1, |product: u64, of| {
             product.saturating_mul(complete(program, counts, *of, program.depth, &mut entry))
         });
-        let sum = if *mark == b'R' {
-            &mut tried.reached
-        } else {
-            &mut tried.unfinished
+        let sum = match *mark {
+            b'R' => &mut tried.reached,
+            b'U' => &mut tried.unfinished,
+            _ => &mut tried.missing,
         };
         *sum = sum.saturating_add(inputs);
         rest = after;

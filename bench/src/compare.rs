@@ -18,11 +18,11 @@ pub fn library_list(file: &[u8]) -> Result<(Vec<u8>, Verdict), SearchError> {
 
 /// The verdict on a complete list.
 pub fn verdict_of(list: &[u8]) -> Verdict {
-    let kinds = || remburai::entries(list).map(|entry| entry.kind());
-    match (kinds().any(|kind| kind == Kind::Reach), kinds().next()) {
+    let has = |kind| remburai::entries(list).any(|entry| entry.kind() == kind);
+    match (has(Kind::Reach), has(Kind::Unfinished)) {
         (true, _) => Verdict::Found,
-        (false, Some(_)) => Verdict::Undecided,
-        (false, None) => Verdict::None,
+        (false, true) => Verdict::Undecided,
+        (false, false) => Verdict::None,
     }
 }
 
@@ -121,6 +121,7 @@ fn outcome(ran: &Ran) -> Outcome {
         Stop::Reached => Outcome::Reached(steps),
         Stop::Ended => Outcome::Ended(steps),
         Stop::Unfinished => Outcome::Unfinished(steps),
+        Stop::Missing => Outcome::Missing(steps),
         Stop::Waits(_) => unreachable!("a closed input has no open part"),
     }
 }

@@ -60,12 +60,14 @@ enum Focus<'p> {
     Part(u32),
 }
 
-/// Where an evaluation stops. `Waits`: a case waits on the open part in this cell, with steps left.
+/// Where an evaluation stops. `Missing`: a case has no alternative for the constructor. `Waits`: a case waits on the open part in this cell,
+/// with steps left.
 #[derive(Clone, Copy, PartialEq, Eq, Debug)]
 pub enum Stop {
     Reached,
     Ended,
     Unfinished,
+    Missing,
     Waits(u32),
 }
 
@@ -230,7 +232,7 @@ impl<'p> Machine<'p> {
         let frame = self.frames[self.frame as usize];
         self.frame = frame.below;
         let Some(alternative) = &frame.alternatives[constructor as usize] else {
-            return Some(Stop::Ended);
+            return Some(Stop::Missing);
         };
         let environment = match fields {
             0 => frame.environment,

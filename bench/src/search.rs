@@ -29,6 +29,7 @@ pub fn search_within(program: &Program, most_moves: u64) -> Option<Searched> {
         match machine.run() {
             Stop::Reached => write_entry(program, &machine, b"RE", &mut list),
             Stop::Unfinished => write_entry(program, &machine, b"UN", &mut list),
+            Stop::Missing => write_entry(program, &machine, b"MI", &mut list),
             Stop::Ended => {}
             Stop::Waits(cell) => choices.push(Choice {
                 point: machine.point(cell),

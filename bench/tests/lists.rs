@@ -2,7 +2,9 @@
 use bench::compare::{compare_problem, compare_stored, library_list};
 use bench::problems::{problems, stored};
 use bench::program::Program;
-use bench::search::search_within;
+use bench::search::{search, search_within};
+use remburai::{entries, Kind};
+use std::collections::HashMap;
 
 #[test]
 fn problems_against_an_independent_implementation() {
@@ -24,6 +26,26 @@ fn stored_files_against_an_independent_implementation() {
         }
     }
     assert!(1_000 <= listed, "{listed} cases have a list");
+}
+
+/// The stored files have entries of every kind, so that each is compared.
+#[test]
+fn kinds_of_entries() {
+    let mut counts: HashMap<Kind, usize> = HashMap::new();
+    for case in stored().unwrap() {
+        if remburai::check(&case.file).is_err() {
+            continue;
+        }
+        for entry in entries(&search(&case.file).list) {
+            *counts.entry(entry.kind()).or_default() += 1;
+        }
+    }
+    for kind in [Kind::Reach, Kind::Unfinished, Kind::Missing] {
+        assert!(
+            counts.get(&kind).is_some_and(|count| 1_000 <= *count),
+            "{counts:?}"
+        );
+    }
 }
 
 /// Stored rule files with one to three bytes changed at random; those that are accepted and searched in time are compared.

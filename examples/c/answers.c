@@ -27,7 +27,7 @@ static void print_search(const char *call, size_t list_length) {
 }
 
 static void print_run(const char *call, const uint8_t *input, size_t input_length) {
-    static const char *const outcomes[] = {"no outcome", "reached", "ended", "unfinished"};
+    static const char *const outcomes[] = {"no outcome", "reached", "ended", "unfinished", "missing"};
     uint64_t answer = remburai_run(file, sizeof file, input, input_length, work, sizeof work / sizeof *work);
     print_number(call, answer);
     printf("refusal %u, %s, %u steps\n", remburai_refusal(answer), outcomes[remburai_outcome(answer)], remburai_steps(answer));

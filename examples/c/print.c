@@ -4,7 +4,7 @@
  *     gcc -O2 -Wall -Wextra -I include -o target/print examples/c/print.c target/staticlib/libremburai.a
  *     target/print < examples/p.rule
  *
- * The last line prints `reach 6 1 1 _` and `total 1 0 0 found`. The slices are as long as the library takes; with those of `reachlist`,
+ * The last line prints `reach 6 1 1 _` and `total 1 0 0 0 found`. The slices are as long as the library takes; with those of `reachlist`,
  * -DLIST_BYTES=32768 -DWORK_WORDS=16384, refusals 11 and 12 are given where `reachlist` gives them.
  *
  * Exit status: 0 found, 1 none, 2 undecided, 3 refused, 4 a fault in reading or writing.
@@ -25,9 +25,10 @@ static uint8_t list[LIST_BYTES];
 
 /* An entry: its kind, its steps, and its values byte by byte. */
 static void print_entry(const uint8_t *entry) {
+    static const char *const kinds[] = {NULL, "reach", NULL, "unfinished", "missing"};
     const uint8_t *values = remburai_entry_values(entry);
     const uint8_t *end = values + remburai_entry_values_length(entry);
-    printf("%s %u", remburai_entry_kind(entry) == REMBURAI_REACHED ? "reach" : "unfinished", remburai_entry_steps(entry));
+    printf("%s %u", kinds[remburai_entry_kind(entry)], remburai_entry_steps(entry));
     for (; values != end; values++) {
         if (*values == REMBURAI_OPEN)
             printf(" _");
@@ -37,16 +38,22 @@ static void print_entry(const uint8_t *entry) {
     printf("\n");
 }
 
-/* The entries of the list, and the total with their counts: of those that reach the target, and of those that ran out of steps. */
+/* The total: how many entries there are of each kind, and the share of the unfinished ones, in which the missing ones do not count. */
+static void print_total(const size_t *count, const char *verdict) {
+    size_t reached = count[REMBURAI_REACHED], unfinished = count[REMBURAI_UNFINISHED];
+    size_t share = unfinished == 0 ? 0 : 100 * unfinished / (reached + unfinished);
+    printf("total %zu %zu %zu %zu %s\n", reached, unfinished, count[REMBURAI_MISSING], share, verdict);
+}
+
+/* The entries of the list, and the total where there is a verdict. */
 static void print_list(size_t length, const char *verdict) {
-    size_t place, size, reached = 0, count = 0;
+    size_t place, size, count[REMBURAI_MISSING + 1] = {0}; /* by the numbers of the kinds */
     for (place = 0; (size = remburai_size_at(list, length, place)) != 0; place += size) {
         print_entry(list + place);
-        reached += remburai_entry_kind(list + place) == REMBURAI_REACHED;
-        count++;
+        count[remburai_entry_kind(list + place)]++;
     }
     if (verdict != NULL)
-        printf("total %zu %zu %zu %s\n", reached, count - reached, count == 0 ? 0 : 100 * (count - reached) / count, verdict);
+        print_total(count, verdict);
 }
 
 int main(void) {

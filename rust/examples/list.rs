@@ -12,7 +12,7 @@
 //!         constructor 1
 //!           constructor 1
 //!             anything
-//!     total 1 0 0 found
+//!     total 1 0 0 0 found
 //!     within depth 4, 20 steps
 use remburai::{entries, search, work_words, Kind, Part, Rule, SearchError, LIST_LIMIT};
 use std::error::Error;
@@ -46,6 +46,7 @@ fn print_list() -> Result<(), Box<dyn Error>> {
         let ended = match entry.kind() {
             Kind::Reach => "reached",
             Kind::Unfinished => "unfinished",
+            Kind::Missing => "missing an alternative",
         };
         println!("{ended} after {} steps", entry.steps());
         let parts = entry.parts(&rule).ok_or("an entry of another rule")?;

@@ -22,7 +22,7 @@
 //! let mut list = vec![0; 1000];
 //! let listed = search(file, &mut work, &mut list).unwrap();
 //! assert_eq!(listed.verdict, Verdict::Found);
-//! assert_eq!(listed.total(&list).to_string(), "total 1 0 0 found");
+//! assert_eq!(listed.total(&list).to_string(), "total 1 0 0 0 found");
 //!
 //! // One entry: reached after 6 steps by every input that begins with 1 1, whatever is below.
 //! let entry = entries(&list[..listed.length]).next().unwrap();
@@ -87,7 +87,7 @@ pub enum Verdict {
     Found = 1,
     /// No entry reaches the target, and one ran out of steps.
     Undecided = 2,
-    /// No entry: every closed input within the depth stops in time off target.
+    /// No entry reaches the target or ran out of steps: every closed input within the depth stops in time off target.
     None = 3,
 }
 
@@ -106,10 +106,12 @@ impl fmt::Display for Verdict {
 pub enum Outcome {
     /// The sought target is demanded.
     Reached(u16),
-    /// It stops off target.
+    /// It stops off target at a constructor, or at a part of the input, with no case waiting.
     Ended(u16),
-    /// S steps are done and it is none of these.
+    /// S steps are done and it is none of the others.
     Unfinished(u16),
+    /// It stops off target at a case that has no alternative for the constructor.
+    Missing(u16),
 }
 
 impl fmt::Display for Outcome {
@@ -118,6 +120,7 @@ impl fmt::Display for Outcome {
             Outcome::Reached(steps) => write!(f, "reached {steps}"),
             Outcome::Ended(steps) => write!(f, "ended {steps}"),
             Outcome::Unfinished(steps) => write!(f, "unfinished {steps}"),
+            Outcome::Missing(steps) => write!(f, "missing {steps}"),
         }
     }
 }
@@ -227,6 +230,7 @@ pub fn run(file: &[u8], input: &[u8], work: &mut [u32]) -> Result<Outcome, Refus
         1 => Ok(Outcome::Reached(steps)),
         2 => Ok(Outcome::Ended(steps)),
         3 => Ok(Outcome::Unfinished(steps)),
+        4 => Ok(Outcome::Missing(steps)),
         number => unreachable!("no outcome has the number {number}"),
     }
 }

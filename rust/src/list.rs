@@ -15,6 +15,8 @@ pub enum Kind {
     Reach,
     /// They ran out of steps.
     Unfinished,
+    /// They run into a missing alternative: no case covers them.
+    Missing,
 }
 
 impl fmt::Display for Kind {
@@ -22,6 +24,7 @@ impl fmt::Display for Kind {
         f.write_str(match self {
             Kind::Reach => "reach",
             Kind::Unfinished => "unfinished",
+            Kind::Missing => "missing",
         })
     }
 }
@@ -48,6 +51,7 @@ impl<'l> Entry<'l> {
         match &self.bytes[..2] {
             b"RE" => Kind::Reach,
             b"UN" => Kind::Unfinished,
+            b"MI" => Kind::Missing,
             mark => unreachable!("no entry has the mark {mark:?}"),
         }
     }
@@ -165,8 +169,8 @@ impl<'l> Iterator for Entries<'l> {
 /// ```
 /// use remburai::{Total, Verdict};
 ///
-/// let total = Total { reach: 2, unfinished: 1, verdict: Verdict::Found };
-/// assert_eq!(total.to_string(), "total 2 1 33 found");
+/// let total = Total { reach: 2, unfinished: 1, missing: 4, verdict: Verdict::Found };
+/// assert_eq!(total.to_string(), "total 2 1 4 33 found");
 /// ```
 #[derive(Clone, Copy, Debug, PartialEq, Eq, Hash)]
 pub struct Total {
@@ -174,11 +178,14 @@ pub struct Total {
     pub reach: usize,
     /// How many entries ran out of steps.
     pub unfinished: usize,
+    /// How many entries run into a missing alternative.
+    pub missing: usize,
     pub verdict: Verdict,
 }
 
 impl Total {
-    /// The share of the entries that ran out of steps in whole per cent, rounded down; 0 where there is no entry.
+    /// The share of the entries that ran out of steps among these and those that reach the target, in whole per cent, rounded down; 0
+    /// where there is neither.
     pub fn share(&self) -> usize {
         (100 * self.unfinished)
             .checked_div(self.reach + self.unfinished)
@@ -190,9 +197,10 @@ impl fmt::Display for Total {
     fn fmt(&self, f: &mut fmt::Formatter<'_>) -> fmt::Result {
         write!(
             f,
-            "total {} {} {} {}",
+            "total {} {} {} {} {}",
             self.reach,
             self.unfinished,
+            self.missing,
             self.share(),
             self.verdict
         )
@@ -202,15 +210,19 @@ impl fmt::Display for Total {
 impl Listed {
     /// The total of this list, which stands at the front of the list slice.
     pub fn total(&self, list: &[u8]) -> Total {
-        let all = entries(&list[..self.length]);
-        let (reach, unfinished) = all.fold((0, 0), |(r, u), entry| match entry.kind() {
-            Kind::Reach => (r + 1, u),
-            Kind::Unfinished => (r, u + 1),
-        });
-        Total {
-            reach,
-            unfinished,
+        let mut total = Total {
+            reach: 0,
+            unfinished: 0,
+            missing: 0,
             verdict: self.verdict,
+        };
+        for entry in entries(&list[..self.length]) {
+            *match entry.kind() {
+                Kind::Reach => &mut total.reach,
+                Kind::Unfinished => &mut total.unfinished,
+                Kind::Missing => &mut total.missing,
+            } += 1;
         }
+        total
     }
 }

@@ -15,6 +15,8 @@ const HOLLOW: [u8; 21] = [
     0x00, 0x07, 0x04, 0x14, 0x00,
 ];
 
+const FORMAT: &str = include_str!("../../docs/FORMAT.md");
+
 const GUARD: usize = 64;
 const WORD: u32 = 0xA5A5_A5A5;
 const BYTE: u8 = 0x5A;
@@ -31,6 +33,14 @@ fn changed(label: u8, depth: u8, steps: u16) -> Vec<u8> {
     file[39] = label;
     file[40] = depth;
     file[41..].copy_from_slice(&steps.to_le_bytes());
+    file
+}
+
+/// P without its alternative for zero, with another D and S.
+fn uncovered(depth: u8, steps: u16) -> Vec<u8> {
+    let mut file = changed(7, depth, steps);
+    file[11] -= 3;
+    file.splice(17..21, [0]);
     file
 }
 
@@ -125,6 +135,56 @@ fn the_examples() {
     assert_eq!(listed(&changed(8, 4, 7), 7), (vec![], Verdict::None));
 }
 
+/// That an alternative is missing is found by a step: at step S it still is, and with S steps done before the entry is unfinished. An entry
+/// of this kind alone leaves the verdict none. docs/FORMAT.md shows its bytes.
+#[test]
+fn entries_of_a_missing_alternative() {
+    let missing = entry_of(b"MI", 3, &[0]);
+    let shown: Vec<String> = missing.iter().map(|byte| format!("{byte:02X}")).collect();
+    assert!(FORMAT.contains(&format!("`{}`", shown.join(" "))));
+    let with =
+        |mark, steps, parameters| [missing.clone(), entry_of(mark, steps, parameters)].concat();
+    assert_eq!(
+        listed(&uncovered(4, 20), 20),
+        (with(b"RE", 6, &[1, 1, 255]), Verdict::Found)
+    );
+    assert_eq!(
+        listed(&uncovered(2, 20), 20),
+        (missing.clone(), Verdict::None)
+    );
+    assert_eq!(
+        listed(&uncovered(4, 3), 3),
+        (with(b"UN", 3, &[1, 255]), Verdict::Undecided)
+    );
+    assert_eq!(
+        listed(&uncovered(4, 2), 2),
+        (entry_of(b"UN", 2, &[255]), Verdict::Undecided)
+    );
+    let words = work_words(20);
+    for (room, length) in [(0, 0), (6, 0), (7, 7), (15, 7)] {
+        assert_eq!(
+            Lent::new(words, room).search(&uncovered(4, 20), words),
+            Err(SearchError::Full { length })
+        );
+    }
+}
+
+#[test]
+fn runs_into_a_missing_alternative() {
+    let outcomes = [
+        (20, Outcome::Missing(3)),
+        (3, Outcome::Missing(3)),
+        (2, Outcome::Unfinished(2)),
+    ];
+    for (steps, outcome) in outcomes {
+        let words = work_words(steps as usize);
+        assert_eq!(
+            Lent::new(words, 0).run(&uncovered(4, steps), &[0], words),
+            Ok(outcome)
+        );
+    }
+}
+
 #[test]
 fn the_closed_runs_of_the_examples() {
     let words = work_words(20);
@@ -151,14 +211,15 @@ fn the_closed_runs_of_the_examples() {
     assert_eq!(Lent::new(0, 0).run(&P, &[1], 0), Err(Refusal::BadInput));
 }
 
+fn changed_at(file: &[u8], at: usize, byte: u8) -> Vec<u8> {
+    let mut file = file.to_vec();
+    file[at] = byte;
+    file
+}
+
 #[test]
 fn one_file_for_each_refusal_of_the_check() {
     let longer = vec![0; FILE_LIMIT + 1];
-    let changed_at = |file: &[u8], at: usize, byte: u8| {
-        let mut file = file.to_vec();
-        file[at] = byte;
-        file
-    };
     let with = |at: usize, byte: u8| changed_at(&P, at, byte);
     let behind = [&P[..], &[0]].concat();
     let cases: [(&[u8], u8); 15] = [
@@ -299,7 +360,7 @@ fn entries_of_lists() {
     assert_eq!(entry(b"", 0), b"");
     assert_eq!(entry(b"", usize::MAX), b"");
     let first = entry_of(b"UN", 2, &[255]);
-    let second = entry_of(b"RE", 6, &[]);
+    let second = entry_of(b"MI", 6, &[]);
     let both = [&first[..], &second].concat();
     assert_eq!(entry(&both, 0), first);
     assert_eq!(entry(&both, 1), second);
@@ -320,7 +381,11 @@ fn entries_of_lists() {
         assert_eq!(entry(&first[..end], 0), b"");
         assert_eq!(entries(&first[..end]).count(), 0);
     }
-    assert_eq!(entry(b"RN\x02\x00\x01\x00\xFF", 0), b"");
+    for mark in [b"RN", b"MN", b"UI", b"RI", b"ME", b"mi", b"MI"] {
+        let alone = entry_of(mark, 2, &[255]);
+        let wanted = if mark == b"MI" { &alone[..] } else { b"" };
+        assert_eq!(entry(&alone, 0), wanted);
+    }
 }
 
 /// Of a list only the first 16,777,216 bytes count: an entry that ends behind them is none.

@@ -171,18 +171,39 @@ fn what_a_rule_file_says() {
 
 #[test]
 fn totals() {
-    let total = |reach, unfinished, verdict| {
+    let total = |reach, unfinished, missing, verdict| {
         Total {
             reach,
             unfinished,
+            missing,
             verdict,
         }
         .to_string()
     };
-    assert_eq!(total(0, 0, Verdict::None), "total 0 0 0 none");
-    assert_eq!(total(1, 2, Verdict::Found), "total 1 2 66 found");
-    assert_eq!(total(0, 3, Verdict::Undecided), "total 0 3 100 undecided");
-    assert_eq!(total(199, 1, Verdict::Found), "total 199 1 0 found");
+    assert_eq!(total(0, 0, 0, Verdict::None), "total 0 0 0 0 none");
+    assert_eq!(total(1, 2, 0, Verdict::Found), "total 1 2 0 66 found");
+    assert_eq!(
+        total(0, 3, 0, Verdict::Undecided),
+        "total 0 3 0 100 undecided"
+    );
+    assert_eq!(total(199, 1, 0, Verdict::Found), "total 199 1 0 0 found");
+    // the share is of the first two alone
+    assert_eq!(total(0, 0, 5, Verdict::None), "total 0 0 5 0 none");
+    assert_eq!(total(1, 1, 98, Verdict::Found), "total 1 1 98 50 found");
+}
+
+/// A list with an entry of each kind, and its counts.
+#[test]
+fn kinds() {
+    let list = b"MI\x03\x00\x01\x00\x00UN\x14\x00\x00\x00RE\x06\x00\x01\x00\xFFMI\x14\x00\x00\x00";
+    let printed: Vec<String> = entries(list).map(|entry| entry.to_string()).collect();
+    let wanted = ["missing 3 0", "unfinished 20", "reach 6 _", "missing 20"];
+    assert_eq!(printed, wanted);
+    let listed = Listed {
+        length: list.len(),
+        verdict: Verdict::Found,
+    };
+    assert_eq!(listed.total(list).to_string(), "total 1 1 2 50 found");
 }
 
 #[test]
@@ -193,6 +214,7 @@ fn words() {
     let printed = "refused 9 shallow: a source parameter's least depth exceeds D";
     assert_eq!(Refusal::DepthTooSmall.to_string(), printed);
     assert_eq!(Outcome::Ended(3).to_string(), "ended 3");
+    assert_eq!(Outcome::Missing(3).to_string(), "missing 3");
 }
 
 /// The crate has the version that its header says.

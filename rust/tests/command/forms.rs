@@ -1,7 +1,7 @@
 //! The forms of a list: for people, raw, and in JSON.
-use crate::calling::{call, call_with, path};
+use crate::calling::{call, call_with, path, Scratch};
 use crate::json::{number, object, string, strings};
-use crate::rules::{stored, Stored};
+use crate::rules::{stored, uncovered, Stored};
 
 /// The exit status that the last line of `reachlist` comes to.
 fn status(last: &str) -> i32 {
@@ -30,12 +30,12 @@ fn raw_lists_are_those_of_reachlist() {
 #[test]
 fn raw_lists_that_reachlist_refuses() {
     let totals = [
-        ("s241", "total 1 0 0 found"),
-        ("s4096", "total 1 0 0 found"),
-        ("list_lacks_a_byte", "total 2048 0 0 found"),
-        ("list_lacks_entries", "total 2304 0 0 found"),
-        ("many_entries", "total 4096 0 0 found"),
-        ("long_entries", "total 752 16 2 found"),
+        ("s241", "total 1 0 0 0 found"),
+        ("s4096", "total 1 0 0 0 found"),
+        ("list_lacks_a_byte", "total 2047 0 1 0 found"),
+        ("list_lacks_entries", "total 2303 0 1 0 found"),
+        ("many_entries", "total 4096 0 0 0 found"),
+        ("long_entries", "total 752 16 0 2 found"),
     ];
     let refused: Vec<Stored> = stored().into_iter().filter(|case| !case.whole()).collect();
     assert_eq!(refused.len(), totals.len());
@@ -89,14 +89,14 @@ fn raw_line(line: &str) -> String {
                 parameters.collect::<String>()
             )
         }
-        ["reach", "unfinished", "share", "verdict", "depth", "steps"] => {
-            let counts = fields[..3]
+        ["reach", "unfinished", "missing", "share", "verdict", "depth", "steps"] => {
+            let counts = fields[..4]
                 .iter()
                 .map(|(_, value)| number(value).to_string());
             format!(
                 "total {} {}",
                 counts.collect::<Vec<_>>().join(" "),
-                string(&fields[3].1)
+                string(&fields[4].1)
             )
         }
         ["refused", "word"] => format!("refused {}", number(&fields[0].1)),
@@ -109,13 +109,38 @@ fn json_of_a_list() {
     let called = call(&["list", "--json", "--depth", "5", &Stored::named("p").rule]);
     let wanted = [
         r#"{"kind":"reach","steps":6,"parameters":["1 1 _"]}"#,
-        r#"{"reach":1,"unfinished":0,"share":0,"verdict":"found","depth":5,"steps":20}"#,
+        r#"{"reach":1,"unfinished":0,"missing":0,"share":0,"verdict":"found","depth":5,"steps":20}"#,
     ];
     assert_eq!(called.lines(0), wanted);
     let called = call(&["list", "--json", &Stored::named("shallow").rule]);
     assert_eq!(called.lines(3), [r#"{"refused":9,"word":"shallow"}"#]);
     let called = call(&["list", "--json", &Stored::named("no_parameters_found").rule]);
     assert!(called.lines(0)[0].ends_with(r#""parameters":[]}"#));
+}
+
+#[test]
+fn a_missing_entry_in_each_form() {
+    let rule = Scratch::file("forms.rule", &uncovered());
+    let list = |form: &[&str]| call(&[&["list", rule.name()], form].concat());
+    let people = list(&[]);
+    assert_eq!(people.lines(0)[..2], ["missing 3  0", "reach 6  1 1 _"]);
+    assert_eq!(
+        list(&["--raw"]).lines(0),
+        ["missing 3 0", "reach 6 1 1 _", "total 1 0 1 0 found"]
+    );
+    let wanted = [
+        r#"{"kind":"missing","steps":3,"parameters":["0"]}"#,
+        r#"{"reach":0,"unfinished":0,"missing":1,"share":0,"verdict":"none","depth":2,"steps":20}"#,
+    ];
+    assert_eq!(list(&["--json", "--depth", "2"]).lines(1), wanted);
+    let entry = call(&["entry", rule.name(), "0"]);
+    assert_eq!(
+        entry.lines(0),
+        [
+            "missing 3  0",
+            "entry 0 of the list within depth 4, 20 steps."
+        ]
+    );
 }
 
 /// By numbers, each parameter after two spaces.
@@ -128,7 +153,7 @@ fn lists_for_people() {
             "reach 3  0  _",
             "unfinished 20  1  0",
             "reach 6  1  1",
-            "total 2 1 33 found"
+            "total 2 1 0 33 found"
         ]
     );
     let called = call(&["list", &Stored::named("no_parameters_found").rule]);

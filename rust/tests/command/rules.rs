@@ -1,4 +1,4 @@
-//! Rule files: those stored in tests/reachlist, and two that are too large for `reachlist`.
+//! Rule files: those stored in tests/reachlist, one with a missing alternative, and two that are too large for `reachlist`.
 use crate::calling::path;
 use std::fs;
 
@@ -54,6 +54,16 @@ fn function(parameters: usize, body: &[u8]) -> Vec<u8> {
     record.extend((body.len() as u16).to_le_bytes());
     record.extend(body);
     record
+}
+
+/// The example P without its alternative for zero.
+pub fn uncovered() -> Vec<u8> {
+    let inner = [3, 0, 0, 1, 1, 2, 0, 0, 1, 5, 7, 2, 0, 0];
+    let body = [&[3, 0, 0, 0, 0, 1], &inner[..]].concat();
+    let mut file = b"TY\x02\x00\x01\x00".to_vec();
+    file.extend(function(1, &body));
+    file.extend(b"GO\x00\x07\x04\x14\x00");
+    file
 }
 
 /// Six parameters of a type of sixteen constructors without fields, all looked at: 16,777,216 entries of 12 bytes, more than any list holds.

@@ -26,17 +26,48 @@ fn the_names_that_open_a_second_record() {
         .iter()
         .map(|part| format!("reach 64  byte hC {part} _ end)"))
         .collect();
-    wanted.push("total 8 0 0 found".to_string());
+    wanted.push("total 8 0 0 0 found".to_string());
     wanted.push("found within depth 3, 100 steps: 8 entries reach the target.".to_string());
     wanted.push("Every other input of depth 3 or less stops within 100 steps, off target. Of deeper inputs nothing is said.".to_string());
     assert_eq!(called.lines(0), wanted);
     assert_eq!(called.said, "");
 }
 
+/// Names that no case covers, by names.
+#[test]
+fn names_that_no_case_covers() {
+    let uncovered = text("label 7 depth 4 steps 20").replace("zero -> zero", "zero -> _");
+    let called = call_with(&["list", "-"], uncovered.as_bytes());
+    let wanted = [
+        "missing 3  zero",
+        "reach 3  suc _",
+        "total 1 0 1 0 found",
+        "found within depth 4, 20 steps: 1 entry reaches the target.",
+        "1 entry runs into a missing alternative: no case covers its inputs, which stop there, off target.",
+        "Every other input of depth 4 or less stops within 20 steps, off target. Of deeper inputs nothing is said.",
+    ];
+    assert_eq!((called.lines(0), &called.said[..]), (wanted.to_vec(), ""));
+    let called = call_with(&["entry", "--json", "-", "0"], uncovered.as_bytes());
+    let wanted = r#"{"kind":"missing","steps":3,"parameters":["zero"]}"#;
+    assert_eq!(called.lines(0), [wanted]);
+    let called = call_with(&["run", "-", "zero"], uncovered.as_bytes());
+    let wanted = "missing an alternative after 3 steps, within depth 4, 20 steps: no case covers the input, which stops there, off target.";
+    assert_eq!(called.lines(1), [wanted]);
+}
+
+fn names_of_examples() -> Vec<String> {
+    let folder = fs::read_dir(path("examples")).expect("a folder");
+    let names = folder.map(|entry| entry.expect("an entry").file_name());
+    let texts = names.filter_map(|name| Some(name.to_str()?.strip_suffix(".txt")?.to_string()));
+    texts.collect()
+}
+
 /// The text of a rule file gives what the rule file gives, but for names and warnings.
 #[test]
 fn a_text_and_its_rule_file() {
-    for name in ["p", "relay", "tree", "even", "sorted"] {
+    let names = names_of_examples();
+    assert!(5 <= names.len());
+    for name in names {
         let text = path(&format!("examples/{name}.txt"));
         let rule = path(&format!("examples/{name}.rule"));
         for words in [&["list", "--raw"][..], &["check"]] {
@@ -64,7 +95,7 @@ fn json_and_entries_by_names() {
     let text = path("examples/p.txt");
     let wanted = [
         r#"{"kind":"reach","steps":6,"parameters":["suc (suc _)"]}"#,
-        r#"{"reach":1,"unfinished":0,"share":0,"verdict":"found","depth":4,"steps":20}"#,
+        r#"{"reach":1,"unfinished":0,"missing":0,"share":0,"verdict":"found","depth":4,"steps":20}"#,
     ];
     assert_eq!(call(&["list", "--json", &text]).lines(0), wanted);
     assert_eq!(call(&["entry", "--json", &text, "0"]).lines(0), wanted[..1]);
@@ -108,7 +139,7 @@ fn names_below_the_depth_of_the_text() {
 #[test]
 fn warnings_and_faults_are_passed_on() {
     let typo = call_with(&["list", "-"], text("label 8 depth 4 steps 20").as_bytes());
-    assert_eq!(typo.lines(1)[0], "total 0 0 0 none");
+    assert_eq!(typo.lines(1)[0], "total 0 0 0 0 none");
     assert!(
         typo.said.contains("standard input:8: warning:"),
         "{}",

@@ -12,7 +12,7 @@ fn help() {
     let text = general.lines(0).join("\n");
     for status in [
         "0  found",
-        "1  none",
+        "1  none, ended or missing",
         "2  undecided",
         "3  refused",
         "4  a fault",
@@ -27,6 +27,14 @@ fn help() {
         assert!(text.contains(&format!("remburai {name} RULE")));
         assert_eq!(call(&["help", name]), page);
         assert_eq!(call(&[name, "rule", "--depth", "3", "-h"]), page);
+    }
+}
+
+#[test]
+fn kinds_in_the_help() {
+    let page = call(&["list", "--help"]).printed;
+    for kind in ["reach", "unfinished", "missing"] {
+        assert!(page.contains(&format!("\n  {kind}  ")), "{kind}");
     }
 }
 

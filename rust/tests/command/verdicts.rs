@@ -1,6 +1,6 @@
 //! What is said of a verdict or of an outcome: never without the depth and the step limit.
 use crate::calling::{call, call_within, path, Scratch};
-use crate::rules::{endless, Stored};
+use crate::rules::{endless, uncovered, Stored};
 use std::time::{Duration, Instant};
 
 fn p(words: &[&str]) -> Vec<String> {
@@ -16,7 +16,7 @@ fn p(words: &[&str]) -> Vec<String> {
 fn found() {
     let wanted = [
         "reach 6  1 1 _",
-        "total 1 0 0 found",
+        "total 1 0 0 0 found",
         "found within depth 4, 20 steps: 1 entry reaches the target.",
         "Every other input of depth 4 or less stops within 20 steps, off target. Of deeper inputs nothing is said.",
         "status Some(0)",
@@ -28,9 +28,9 @@ fn found() {
 fn found_beside_unfinished() {
     let called = call(&["list", &Stored::named("long_entries").rule]);
     let wanted = [
-        "total 752 16 2 found",
+        "total 752 16 0 2 found",
         "found within depth 60, 240 steps: 752 entries reach the target, and 16 are unfinished.",
-        "Whether inputs that complete an unfinished entry reach the target is not known; a larger --steps may tell.",
+        "Whether inputs that complete an unfinished entry reach the target, or run into a missing alternative, is not known; a larger --steps may tell.",
         "Every other input of depth 60 or less stops within 240 steps, off target. Of deeper inputs nothing is said.",
     ];
     assert_eq!(called.lines(0)[768..], wanted);
@@ -39,7 +39,7 @@ fn found_beside_unfinished() {
 #[test]
 fn none() {
     let wanted = [
-        "total 0 0 0 none",
+        "total 0 0 0 0 none",
         "none within depth 2, 20 steps: every input of depth 2 or less stops within 20 steps, off target.",
         "Of deeper inputs nothing is said.",
         "status Some(1)",
@@ -51,9 +51,9 @@ fn none() {
 fn undecided() {
     let wanted = [
         "unfinished 1  _",
-        "total 0 1 100 undecided",
+        "total 0 1 0 100 undecided",
         "undecided within depth 4, 1 step: no entry reaches the target, and 1 is unfinished.",
-        "Whether inputs that complete an unfinished entry reach the target is not known; a larger --steps may tell.",
+        "Whether inputs that complete an unfinished entry reach the target, or run into a missing alternative, is not known; a larger --steps may tell.",
         "Every other input of depth 4 or less stops within 1 step, off target. Of deeper inputs nothing is said.",
         "status Some(2)",
     ];
@@ -66,6 +66,52 @@ fn undecided() {
         &Stored::named("no_parameters_undecided").rule,
     ]);
     assert!(called.lines(2)[3].ends_with("is not known; 4096 steps are the most there are."));
+}
+
+/// What is said of the entries that run into a missing alternative, beside each verdict.
+#[test]
+fn missing() {
+    let rule = Scratch::file("uncovered.rule", &uncovered());
+    let one = "1 entry runs into a missing alternative: no case covers its inputs, which stop there, off target.";
+    let list = |words: &[&str]| call(&[&["list", rule.name()], words].concat());
+    let wanted = [
+        "total 1 0 1 0 found",
+        "found within depth 4, 20 steps: 1 entry reaches the target.",
+        one,
+        "Every other input of depth 4 or less stops within 20 steps, off target. Of deeper inputs nothing is said.",
+    ];
+    assert_eq!(list(&[]).lines(0)[2..], wanted);
+    let wanted = [
+        "missing 3  0",
+        "total 0 0 1 0 none",
+        "none within depth 2, 20 steps: every input of depth 2 or less stops within 20 steps, off target.",
+        one,
+        "Of deeper inputs nothing is said.",
+    ];
+    assert_eq!(list(&["--depth", "2"]).lines(1), wanted);
+    let wanted = [
+        "missing 3  0",
+        "unfinished 3  1 _",
+        "total 0 1 1 100 undecided",
+        "undecided within depth 4, 3 steps: no entry reaches the target, and 1 is unfinished.",
+        "Whether inputs that complete an unfinished entry reach the target, or run into a missing alternative, is not known; a larger --steps may tell.",
+        one,
+        "Every other input of depth 4 or less stops within 3 steps, off target. Of deeper inputs nothing is said.",
+    ];
+    assert_eq!(list(&["--steps", "3"]).lines(2), wanted);
+    let several = call(&["list", &path("examples/even.rule")]);
+    assert!(several.lines(0)[10]
+        .starts_with("3 entries run into a missing alternative: no case covers their inputs,"));
+}
+
+#[test]
+fn a_run_into_a_missing_alternative() {
+    let rule = Scratch::file("run.rule", &uncovered());
+    let called = call(&["run", rule.name(), "0", "--steps", "3"]);
+    let wanted = "missing an alternative after 3 steps, within depth 4, 3 steps: no case covers the input, which stops there, off target.";
+    assert_eq!(called.lines(1), [wanted]);
+    let called = call(&["run", rule.name(), "0", "--steps", "2"]);
+    assert!(called.lines(2)[0].starts_with("unfinished after 2 steps, within depth 4, 2 steps: "));
 }
 
 /// D and S of the command line give what a rule file with these D and S gives.
@@ -110,7 +156,7 @@ fn runs() {
         run(&["0"], 1),
         "ended off target after 3 steps, within depth 4, 20 steps."
     );
-    let open = "unfinished after 5 steps, within depth 3, 5 steps: whether the input reaches the target is not known; a larger --steps may tell.";
+    let open = "unfinished after 5 steps, within depth 3, 5 steps: whether the input reaches the target, or runs into a missing alternative, is not known; a larger --steps may tell.";
     assert_eq!(run(&["1 1 0", "--steps", "5", "--depth", "3"], 2), open);
     assert_eq!(
         call(&["run", &Stored::named("no_parameters_found").rule]).status,

@@ -59,12 +59,13 @@ pub fn write_total(form: Form, total: &Total, goal: Goal, out: &mut Output) -> R
     let Total {
         reach,
         unfinished,
+        missing,
         verdict,
     } = total;
     let (share, depth, steps) = (total.share(), goal.depth, goal.steps);
     match form {
         Form::Json => out.line(format_args!(
-            "{{\"reach\":{reach},\"unfinished\":{unfinished},\"share\":{share},\"verdict\":\"{verdict}\",\"depth\":{depth},\"steps\":{steps}}}"
+            "{{\"reach\":{reach},\"unfinished\":{unfinished},\"missing\":{missing},\"share\":{share},\"verdict\":\"{verdict}\",\"depth\":{depth},\"steps\":{steps}}}"
         )),
         Form::Raw => {
             out.line(total)?;

@@ -7,7 +7,7 @@ use std::fmt::Display;
 pub enum Status {
     /// Found, accepted or reached; the entry asked for.
     Yes = 0,
-    /// None or ended; no such entry.
+    /// None, ended or missing; no such entry.
     No = 1,
     /// Undecided or unfinished; no answer within the limit.
     Open = 2,
@@ -31,7 +31,7 @@ impl From<Outcome> for Status {
     fn from(outcome: Outcome) -> Status {
         match outcome {
             Outcome::Reached(_) => Status::Yes,
-            Outcome::Ended(_) => Status::No,
+            Outcome::Ended(_) | Outcome::Missing(_) => Status::No,
             Outcome::Unfinished(_) => Status::Open,
         }
     }

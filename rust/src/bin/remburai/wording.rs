@@ -25,26 +25,49 @@ pub fn verdict(total: &Total, goal: Goal) -> Vec<String> {
         steps(goal.steps)
     );
     let deeper = "Of deeper inputs nothing is said.";
-    if total.verdict == Verdict::None {
-        return vec![format!("{begin}: every {stops}"), deeper.to_string()];
-    }
+    let (first, last) = match total.verdict {
+        Verdict::None => (format!("every {stops}"), deeper.to_string()),
+        _ => (counts(total), format!("Every other {stops} {deeper}")),
+    };
+    let lines = [
+        Some(format!("{begin}: {first}")),
+        unknown(total, goal),
+        uncovered(total),
+        Some(last),
+    ];
+    lines.into_iter().flatten().collect()
+}
+
+/// How many entries reach the target, and how many may.
+fn counts(total: &Total) -> String {
     let reach = match total.reach {
         0 => "no entry reaches the target".to_string(),
         1 => "1 entry reaches the target".to_string(),
         n => format!("{n} entries reach the target"),
     };
-    let every = format!("Every other {stops} {deeper}");
-    let open = match total.unfinished {
-        0 => return vec![format!("{begin}: {reach}."), every],
-        1 => "1 is unfinished",
-        n => &format!("{n} are unfinished"),
+    match total.unfinished {
+        0 => format!("{reach}."),
+        1 => format!("{reach}, and 1 is unfinished."),
+        n => format!("{reach}, and {n} are unfinished."),
+    }
+}
+
+/// What is said of unfinished entries, where there are any.
+fn unknown(total: &Total, goal: Goal) -> Option<String> {
+    let reach = "inputs that complete an unfinished entry reach the target, or run into a missing alternative";
+    (total.unfinished != 0).then(|| format!("Whether {reach}, is not known; {}.", more_steps(goal)))
+}
+
+/// What is said of missing entries, where there are any.
+fn uncovered(total: &Total) -> Option<String> {
+    let (entries, whose) = match total.missing {
+        0 => return None,
+        1 => ("1 entry runs".to_string(), "its"),
+        n => (format!("{n} entries run"), "their"),
     };
-    let unknown = "Whether inputs that complete an unfinished entry reach the target is not known";
-    vec![
-        format!("{begin}: {reach}, and {open}."),
-        format!("{unknown}; {}.", more_steps(goal)),
-        every,
-    ]
+    Some(format!(
+        "{entries} into a missing alternative: no case covers {whose} inputs, which stop there, off target."
+    ))
 }
 
 fn more_steps(goal: Goal) -> String {
@@ -60,8 +83,15 @@ pub fn outcome(outcome: Outcome, goal: Goal) -> String {
     match outcome {
         Outcome::Reached(n) => format!("reached after {}, {within}.", steps(n)),
         Outcome::Ended(n) => format!("ended off target after {}, {within}.", steps(n)),
+        Outcome::Missing(n) => {
+            let uncovered = "no case covers the input, which stops there, off target";
+            format!(
+                "missing an alternative after {}, {within}: {uncovered}.",
+                steps(n)
+            )
+        }
         Outcome::Unfinished(n) => {
-            let unknown = "whether the input reaches the target is not known";
+            let unknown = "whether the input reaches the target, or runs into a missing alternative, is not known";
             let more = more_steps(goal);
             format!(
                 "unfinished after {}, {within}: {unknown}; {more}.",
