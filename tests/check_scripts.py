@@ -75,10 +75,10 @@ def wanted(data, printed):
         number = int(last[1])
         hint = "the rule is too large for this program: try ./remburai list" if number > 10 else "README.md says what to do about it"
         return 3, f"reachlist: refused {number} {WORDS[number]}\nreachlist: {hint}\n"
-    depth, steps = data[-3], data[-2] + 256 * data[-1]
     same("words of the total", len(last), 6)
-    verdict = last[5]
-    return ["found", "none", "undecided"].index(verdict), f"reachlist: {verdict} within depth {depth}, {steps} steps\n"
+    depth, steps, verdict = data[-3], data[-2] + 256 * data[-1], last[5]
+    unit = "step" if steps == 1 else "steps"
+    return ["found", "none", "undecided"].index(verdict), f"reachlist: {verdict} within depth {depth}, {steps} {unit}\n"
 
 
 def test_stored_rule_files():
