@@ -6,7 +6,7 @@ differs, and where there is nothing to compare."""
 import os
 import sys
 
-from rule_tool import EXAMPLES, ROOT, build, checked, compare, count, counts, stored, warnings_of, wrong
+from rule_tool import EXAMPLES, ROOT, agree, build, checked, compare, count, counts, stored, warnings_of, wrong
 
 import check_rule_commands
 import check_rule_damaged
@@ -26,15 +26,6 @@ LIST_BYTES = 32768  # the list buffer of reachlist
 def commented(text):
     """The lines of output that the first comment of a text shows."""
     return [line[5:] for line in text.split("\n\n")[0].split("\n") if line.startswith("--   ")]
-
-
-def agree(shown, lines):
-    """Whether the lines shown are the lines of the output, where '..' stands for lines left out before the last ones."""
-    if ".." not in shown:
-        return shown == lines
-    cut = shown.index("..")
-    rest = shown[cut + 1:]
-    return rest != [] and shown[:cut] == lines[:cut] and len(lines) > len(shown) - 1 and rest == lines[len(lines) - len(rest):]
 
 
 def check_example(name):

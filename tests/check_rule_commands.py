@@ -6,10 +6,11 @@ import os
 import shutil
 import unicodedata
 from tempfile import TemporaryDirectory
+from textwrap import dedent
 
-from rule_tool import ROOT, TOOL, build, changed, compare, count, run, shell, start, stored, wrong
+from rule_tool import ROOT, TOOL, agree, build, changed, compare, count, run, shell, start, stored, wrong
 from blind.enumerate import fill, printed
-from blind.evaluate import REACHED, run as closed_run
+from blind.evaluate import MISSING, REACHED, run as closed_run
 from blind.narrow import Narrowing
 from blind.rulefile import read
 
@@ -32,25 +33,85 @@ def quoted(part):
     return [line[least:] for line in lines]
 
 
+def listed(data):
+    """The lines of reachlist for a rule file."""
+    return printed(fill(list(Narrowing(read(data)).entries({})), 32768)).encode()
+
+
+def named(name, lines):
+    """The lines of reachlist with the names of an example."""
+    return run("names", name, stdin=lines)[1].decode().splitlines()
+
+
 def check_page():
-    """What the page shows is so: its first example, what names prints as JSON, and the way of a name to the list."""
+    """What the page shows is so: its first example, what names prints as JSON, and the two ways to a list."""
     first, *parts = stored("docs", "RULES.md").decode().split("\n## ")
     compare("the first example of docs/RULES.md", build("\n".join(quoted(first)) + "\n"), P_RULE)
     objects = [line for line in quoted(parts[3]) if line.startswith("{")]
-    compare("its JSON", run("names", "--json", "p.txt", stdin=b"reach 6 1 1 _\ntotal 1 0 0 found\nrefused 12\n")[1].decode().splitlines(), objects)
-    way, text = parts[4], stored("examples", "relay.txt").decode()
-    shown = way[:way.index("$ ./reachlist")].split("tools/rule")[0]
-    compare("its lines that the example has not", [line for line in quoted(shown) if line.strip() and line.strip() not in text], [])
-    listed = [line.strip() for line in way[way.index("$ ./reachlist"):].split("\n\n")[0].split("\n")[1:]]
-    lines = run("names", "relay.txt", stdin=relay_list())[1].decode().splitlines()
-    compare("its list", listed, lines[:2] + [".."] + lines[-2:])
+    lines = listed(stored("examples", "group.rule")).splitlines()
+    shown = b"\n".join([lines[0], lines[3], lines[-1], b"refused 12"])
+    compare("its JSON", run("names", "--json", "group.txt", stdin=shown)[1].decode().splitlines(), objects)
+    check_way("relay", parts[4])
+    check_way("group", parts[5])
+    check_relay(parts[4])
+    check_group(parts[5])
+    check_unseen()
+
+
+def check_way(name, way):
+    """The parts of an example that a way shows, and its list."""
+    text = stored("examples", name + ".txt").decode()
+    shown = [dedent(part) for part in way[:way.index("tools/rule")].split("\n\n") if part.startswith("    ") and part.strip()]
+    compare(f"parts that {name}.txt has not", (shown != [], [part for part in shown if part not in text]), (True, []))
+    found = [line.strip() for line in way[way.index("$ ./reachlist"):].split("\n\n")[0].split("\n")[1:]]
+    lines = named(name + ".txt", listed(stored("examples", name + ".rule")))
+    if not agree(found, lines):
+        wrong.append(f"docs/RULES.md shows other lines for {name}.txt than {lines}")
+
+
+def check_relay(way):
+    text = stored("examples", "relay.txt").decode()
     message = "no target has label 8; there are targets with label 7"
     compare("its message", (message in way, run("build", "--strict", "-", stdin=changed(text, "enter label 7", "enter label 8").encode())),
             (True, (1, b"", f"standard input:{len(text.splitlines())}: {message}\n")))
 
 
-def relay_list():
-    return printed(fill(list(Narrowing(read(stored("examples", "relay.rule"))).entries({})), 32768)).encode()
+def check_group(way):
+    """What is said of a gap: forgotten or meant it is the same rule file, its entries are exact, and alone they have the verdict none."""
+    text, data = stored("examples", "group.txt").decode(), stored("examples", "group.rule")
+    forgotten = changed(text, "    d3 -> _\n", "")
+    status, output, report = run("build", "--strict", "-", stdin=forgotten.encode())
+    compare("a forgotten case", (status, output, build(forgotten)), (1, b"", data))
+    compare("its warning in docs/RULES.md", report.replace("standard input", "examples/group.txt").strip() in map(str.strip, quoted(way)), True)
+    alone = named("group.txt", listed(build(changed(text, "groupOf label 1", "groupOf label 2"))))
+    gaps = [line for line in named("group.txt", listed(data)) if line.startswith("missing ")]
+    compare("missing alone", alone, gaps + ["total 0 0 4 0 none"])
+    compare("its total in docs/RULES.md", f"`{alone[-1]}`" in way, True)
+    for name in ("relay F d1", "relay F d2", "relay F d3"):
+        outcome = closed_run(data, run("input", "group.txt", name)[1], 16384)
+        compare(f"what becomes of {name}", (outcome.end, outcome.steps), (MISSING, 6))
+    covered = changed(changed(text, "feeder | busbar", "feeder | busbar | none"), "      _ -> _", "      K -> none\n      _ -> _")
+    compare("K with an alternative", named("group.txt", listed(build(covered)))[:-1],
+            [line for line in named("group.txt", listed(data))[:-1] if "relay K" not in line])
+
+
+UNSEEN = """type t = a | b t
+fn f (x : t) : t =
+  case x of
+    a -> target 1 (g x)
+    b y -> b (g y)
+fn g (x : t) : t =
+  case x of
+    b y -> y
+    _ -> _
+go f label 1 depth 3 steps 20
+"""
+
+
+def check_unseen():
+    """A gap under a target that is reached, or in a field of the result, is not found; by itself it is."""
+    compare("gaps that are not looked at", listed(build(UNSEEN)), b"reach 3 0\ntotal 1 0 0 0 found\n")
+    compare("the gap by itself", listed(build(changed(UNSEEN, "go f", "go g"))), b"missing 3 0\ntotal 0 0 1 0 none\n")
 
 
 # build
@@ -124,8 +185,14 @@ def check_show():
 
 # names
 
-LINES = b"reach 6 1 1 _\nunfinished 20 1 0\ntotal 1 1 50 found\nrefused 12\n"
-
+LINES = b"reach 6 1 1 _\nmissing 7 1 0\nunfinished 20 0\ntotal 1 1 1 50 found\nrefused 12\n"
+NAMED = b"reach 6  suc (suc _)\nmissing 7  suc zero\nunfinished 20  zero\ntotal 1 1 1 50 found\nrefused 12 full\n"
+OBJECTS = b"""{"kind":"reach","steps":6,"parameters":["suc (suc _)"]}
+{"kind":"missing","steps":7,"parameters":["suc zero"]}
+{"kind":"unfinished","steps":20,"parameters":["zero"]}
+{"reach":1,"unfinished":1,"missing":1,"share":50,"verdict":"found"}
+{"refused":12}
+"""
 
 BAD_LINES = [
     ("reach 6 1 2 _", "'2' does not fit the rule's type nat here"),
@@ -133,20 +200,24 @@ BAD_LINES = [
     ("reach 6 1", "the entry is too short for the rule"),
     ("reach 6 0 0", "the entry is too long for the rule"),
     ("reach 6" + 65 * " 1" + " _", "'1' does not fit the rule's type nat here"),
-] + [(line, "this is no line of reachlist") for line in ("reach", "reach x 1", "reached", "", "total 1 0 0", "total 1 0 0 lost", "refused 0",
-                                                          "refused 13", "refused", "total " + "9" * 5000)]
+    ("missing 6 1 2 _", "'2' does not fit the rule's type nat here"),
+    ("missing 6", "the entry is too short for the rule"),
+    ("missing 6 _ _", "the entry is too long for the rule"),
+] + [(line, "this is no line of reachlist") for line in ("reach", "reach x 1", "reached", "missing", "missing x 1", "missed 6 1 1 _", "",
+                                                          "total 1 0 0 0 lost", "total 1 0 x 0 found", "totals 1 0 0 0 found", "refused 0",
+                                                          "refused 13", "refused")
+     ] + [(line, f"the total has {words} and not 6: total REACH UNFINISHED MISSING SHARE VERDICT") for line, words in
+          (("total 1 0 0 found", "5 words"), ("total 1 0 0 0", "5 words"), ("total 1 0 0 0 0 found", "7 words"), ("total", "1 word"),
+           ("total " + "9" * 5000, "2 words"))]
 
 
 def check_names():
     command("names", run("names", "p.txt", stdin=stored("tests", "reachlist", "p.out")),
-            (0, b"reach 6  suc (suc _)\ntotal 1 0 0 found\n", ""))
-    command("each kind of line", run("names", "p.txt", stdin=LINES),
-            (0, b"reach 6  suc (suc _)\nunfinished 20  suc zero\ntotal 1 1 50 found\nrefused 12 full\n", ""))
+            (0, b"reach 6  suc (suc _)\ntotal 1 0 0 0 found\n", ""))
+    command("each kind of line", run("names", "p.txt", stdin=LINES), (0, NAMED, ""))
     status, output, report = run("names", "--json", "p.txt", stdin=LINES)
-    command("names --json", (status, report, output),
-            (0, "", b'{"kind":"reach","steps":6,"parameters":["suc (suc _)"]}\n{"kind":"unfinished","steps":20,"parameters":["suc zero"]}\n'
-                    b'{"reach":1,"unfinished":1,"share":50,"verdict":"found"}\n{"refused":12}\n'))
-    compare("JSON", [json.loads(line).get("verdict") for line in output.splitlines()], [None, None, "found", None])
+    command("names --json", (status, report, output), (0, "", OBJECTS))
+    compare("JSON", [json.loads(line).get("verdict") for line in output.splitlines()], [None, None, None, "found", None])
     command("a depth that the text has not", run("names", "p.txt", stdin=b"reach 6 1 1 1 1 1 _\n"),
             (0, b"reach 6  suc (suc (suc (suc (suc _))))\n", ""))
     for line, message in BAD_LINES:
@@ -156,8 +227,31 @@ def check_names():
     command("lines that end as on other systems", run("names", "p.txt", stdin=LINES.replace(b"\n", b"\r\n")), run("names", "p.txt", stdin=LINES))
     command("a second line", run("names", "p.txt", stdin=b"reach 6 1 1 _\nh\xc9llo\n"),
             (1, b"reach 6  suc (suc _)\n", "standard input:2: this is no line of reachlist\n"))
+    command("an old total at the end", run("names", "p.txt", stdin=b"missing 7 0\ntotal 0 0 0 none\n"),
+            (1, b"missing 7  zero\n", "standard input:2: the total has 5 words and not 6: total REACH UNFINISHED MISSING SHARE VERDICT\n"))
     command("names -", run("names", "-", stdin=P.encode()),
             (1, b"", "standard input: it is read as something else already: give a file here\n"))
+
+
+# The source of a text: the lines of its list, with names and as JSON.
+SOURCES = [
+    ("g", "missing 3\ntotal 0 0 1 0 none\n", "missing 3\ntotal 0 0 1 0 none\n",
+     '{"kind":"missing","steps":3,"parameters":[]}\n{"reach":0,"unfinished":0,"missing":1,"share":0,"verdict":"none"}\n'),
+    ("f", "missing 9 1 _ 0 _ 1\ntotal 0 2 1 100 undecided\n", "missing 9  suc _  É _ ω\ntotal 0 2 1 100 undecided\n",
+     '{"kind":"missing","steps":9,"parameters":["suc _","É _ ω"]}\n'
+     '{"reach":0,"unfinished":2,"missing":1,"share":100,"verdict":"undecided"}\n'),
+]
+
+
+def check_sources():
+    """Names for a source without parameters, and for one with two."""
+    with TemporaryDirectory() as folder:
+        for source, lines, names, objects in SOURCES:
+            with open(os.path.join(folder, "text.txt"), "wb") as file:
+                file.write(changed(PAIR, "go f", f"go {source}").encode())
+            for words, wanted in (([], names), (["--json"], objects)):
+                command(f"names for {source} {words}", run("names", *words, "text.txt", stdin=lines.encode(), folder=folder),
+                        (0, wanted.encode(), ""))
 
 
 # input
@@ -291,6 +385,7 @@ def check_all():
     check_output()
     check_show()
     check_names()
+    check_sources()
     check_values()
     check_input()
     check_streams()

@@ -21,7 +21,7 @@ fn second (n : nat) : nat =
 go first label 3 depth 4 steps 240
 """
 
-MEANT = "; '_ -> _' says that this is meant"
+MEANT = ": inputs that need one are listed as missing; '_ -> _' says that this is meant"
 UNUSED = "; '_' says that this is meant"
 UNCALLED = ": 'first' does not come to call it"
 
@@ -134,6 +134,8 @@ def check_others():
     compare("their warnings", warnings_of(SHORT), warnings_of(LONG))
     compare("only others", build(changed(SHORT, "  case x of\n    c u -> u\n", "  case x : t of\n    c u -> u\n")), build(SHORT))
     missing = changed(SHORT, "_ -> let z : t = x in f z y", "_ -> _")
+    meant = changed(CLEAN, "    suc m -> second m\n", "    suc _ -> _\n")
+    compare("one that is missing", build(meant), build(changed(CLEAN, "    suc m -> second m\n", "")))
     compare("others that are missing", build(missing), build(changed(SHORT, "      _ -> let z : t = x in f z y\n", "")))
     compare("a field that just fits", [fault for fault in faults_of(wide(3)) if "view" in fault[1]], [])
     compare("a field too many", faults_of(wide(4)),

@@ -24,6 +24,7 @@ from tempfile import TemporaryDirectory
 sys.dont_write_bytecode = True
 
 from blind.compare import Different, same
+from blind.enumerate import reachlist
 
 ROOT = os.path.dirname(os.path.dirname(os.path.abspath(__file__)))
 SCRIPT = os.path.join(ROOT, "reachlist")
@@ -74,8 +75,10 @@ def wanted(data, printed):
         number = int(last[1])
         hint = "the rule is too large for this program: try ./remburai list" if number > 10 else "README.md says what to do about it"
         return 3, f"reachlist: refused {number} {WORDS[number]}\nreachlist: {hint}\n"
-    depth, steps = data[-3], data[-2] + 256 * data[-1]
-    return ["found", "none", "undecided"].index(last[4]), f"reachlist: {last[4]} within depth {depth}, {steps} steps\n"
+    same("words of the total", len(last), 6)
+    depth, steps, verdict = data[-3], data[-2] + 256 * data[-1], last[5]
+    unit = "step" if steps == 1 else "steps"
+    return ["found", "none", "undecided"].index(verdict), f"reachlist: {verdict} within depth {depth}, {steps} {unit}\n"
 
 
 def test_stored_rule_files():
@@ -98,6 +101,14 @@ def test_standard_input():
             same(f"{name} on standard input", run(words, input=data), (status, printed, said))
     status, printed, _ = by_shell("< /dev/zero", [SCRIPT])
     same("an input without end", (status, printed), (3, "refused 3\n"))
+
+
+def test_names_that_no_case_covers():
+    """They are listed with those that reach the target; alone, with a label that no target has, their verdict is none."""
+    rule = read(os.path.join(ROOT, "examples", "group.rule"))
+    for label, status, verdict in ((1, 0, "found"), (2, 1, "none")):
+        data = rule[:-4] + bytes([label]) + rule[-3:]
+        same(f"label {label}", run([SCRIPT], input=data), (status, reachlist(data), f"reachlist: {verdict} within depth 2, 20 steps\n"))
 
 
 def test_limits_in_words():
@@ -161,7 +172,7 @@ def test_texts():
 def test_use():
     status, printed, said = run([SCRIPT, "--help"])
     same("the help", (status, said, run([SCRIPT, "-h"])[1]), (0, "", printed))
-    for part in ("0  found", "1  none", "2  undecided", "3  refused", "4  a fault"):
+    for part in ("reach, unfinished or missing", "0  found", "1  none", "2  undecided", "3  refused", "4  a fault"):
         if part not in printed:
             raise Different(f"{part!r} is not in the help")
     fault("an option", run([SCRIPT, "--raw"]), "there is no option --raw")
@@ -216,7 +227,7 @@ mkdir -p "$2/release"
 """
 
 # What stands for the programs: one prints a list, the other what it is called with.
-LISTING = "#!/bin/sh\ncat > /dev/null\necho 'total 0 0 0 none'\n"
+LISTING = "#!/bin/sh\ncat > /dev/null\necho 'total 0 0 0 0 none'\n"
 COMMAND = "#!/bin/sh\necho \"$REMBURAI_RULE\"\nfor word in \"$@\"; do echo \"<$word>\"; done\nexit 3\n"
 
 
@@ -284,7 +295,7 @@ FOUR = [f"{number} of 4 crates proved" for number in range(1, 5)]
 @in_a_copy
 def test_first_use_of_reachlist(copy):
     status, printed, said = copy.run("reachlist", input=read(P))
-    same("first use", (status, printed, copy.called()), (1, "total 0 0 0 none\n", ["rt check reachlist"]))
+    same("first use", (status, printed, copy.called()), (1, "total 0 0 0 0 none\n", ["rt check reachlist"]))
     same("what is shown", progress("reachlist", said), FOUR)
     says_how_long("proving and building the program", said)
     same("second use", (copy.run("reachlist", input=read(P))[2], copy.called()), ("reachlist: none within depth 4, 20 steps\n", []))
@@ -325,7 +336,7 @@ def test_first_use_of_remburai(copy):
 def test_one_proof_at_a_time(copy):
     words = [os.path.join(copy.root, "reachlist"), P]
     both = [subprocess.Popen(words, env=copy.words, stdout=subprocess.PIPE, stderr=subprocess.DEVNULL) for _ in range(3)]
-    same("all of them", [process.communicate(timeout=SECONDS)[0] for process in both], [b"total 0 0 0 none\n"] * 3)
+    same("all of them", [process.communicate(timeout=SECONDS)[0] for process in both], [b"total 0 0 0 0 none\n"] * 3)
     same("proofs", copy.called(), ["rt check reachlist"])
 
 

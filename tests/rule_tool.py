@@ -28,6 +28,15 @@ def compare(what, got, wanted):
         wrong.append(f"{what}: {got!r}, expected {wanted!r}")
 
 
+def agree(shown, lines):
+    """Whether the lines shown are the lines of the output, where '..' stands for lines left out before the last ones."""
+    if ".." not in shown:
+        return shown == lines
+    cut = shown.index("..")
+    rest = shown[cut + 1:]
+    return rest != [] and shown[:cut] == lines[:cut] and len(lines) > len(shown) - 1 and rest == lines[len(lines) - len(rest):]
+
+
 def count(what, number=1):
     counts[what] = counts.get(what, 0) + number
 

@@ -117,7 +117,8 @@ class Body:
                 found[number] = self.alternative(alternative, alternative.variables, number, constructors, expected, view)
         missing = [name.text for (name, _), items in zip(constructors, found) if items is None]
         if missing:
-            self.warned[id(case)] = (case.line, f"the case has no alternative for {quoted(missing)}; '_ -> _' says that this is meant")
+            self.warned[id(case)] = (case.line, f"the case has no alternative for {quoted(missing)}: inputs that need one are listed as "
+                                                "missing; '_ -> _' says that this is meant")
         return [3, made, scrutinee] + [item for items in found for item in items or [0]]
 
     def named(self, alternative, made, found):

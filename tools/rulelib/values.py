@@ -38,15 +38,27 @@ class Entry:
         return found
 
 
+TOTAL = "total ([0-9]{1,9}) ([0-9]{1,9}) ([0-9]{1,9}) ([0-9]{1,3}) (found|undecided|none)"
+
+
+def total_object(line):
+    """What the total line says."""
+    words, total = line.split(), re.fullmatch(TOTAL, line)
+    if total:
+        reach, unfinished, missing, share = map(int, total.groups()[:4])
+        return {"reach": reach, "unfinished": unfinished, "missing": missing, "share": share, "verdict": total[5]}
+    if len(words) != 6:
+        raise Fault(None, f"the total has {counted(len(words), 'word')} and not 6: total REACH UNFINISHED MISSING SHARE VERDICT")
+    raise Fault(None, "this is no line of reachlist")
+
+
 def line_object(rule, line):
     """What a line of reachlist says: an entry, the total, or a refusal."""
     words = line.split()
-    if re.match("(reach|unfinished) [0-9]{1,5}( |$)", line):
+    if re.match("(reach|unfinished|missing) [0-9]{1,5}( |$)", line):
         return {"kind": words[0], "steps": int(words[1]), "parameters": Entry(rule, words[2:]).values()}
-    total = re.fullmatch("total ([0-9]{1,9}) ([0-9]{1,9}) ([0-9]{1,3}) (found|undecided|none)", line)
-    if total:
-        reach, unfinished, share = map(int, total.groups()[:3])
-        return {"reach": reach, "unfinished": unfinished, "share": share, "verdict": total[4]}
+    if words[:1] == ["total"]:
+        return total_object(line)
     if words[:1] == ["refused"] and words[1:] in [[str(number)] for number in range(1, len(REFUSALS) + 1)]:
         return {"refused": int(words[1])}
     raise Fault(None, "this is no line of reachlist")
