@@ -34,17 +34,27 @@ def shown_times(text):
 
 
 class Terminal:
-    """The command on a terminal of its own."""
+    """The command on a terminal of its own. It takes interrupts, also where this test, as a job in the background, does not; and where the test fails it
+    is not left running."""
 
     def __init__(self, words):
         self.began, self.text = time.monotonic(), ""
         self.process, self.descriptor = pty.fork()
         if self.process == 0:
+            signal.signal(signal.SIGINT, signal.SIG_DFL)
             os.execv(words[0], words)
+
+    def __enter__(self):
+        return self
+
+    def __exit__(self, kind, value, trace):
+        if kind is not None:
+            os.kill(self.process, signal.SIGKILL)
 
     def read(self):
         """Takes what is printed next; the result is whether there was something before the end."""
-        see(f"no end after {SECONDS} seconds", select.select([self.descriptor], [], [], SECONDS)[0])
+        left = SECONDS - self.passed()
+        see(f"no end after {SECONDS} seconds", left > 0 and select.select([self.descriptor], [], [], left)[0])
         try:
             piece = os.read(self.descriptor, 4096)
         except OSError:
@@ -64,22 +74,22 @@ class Terminal:
 
 
 def interrupted(command, rule):
-    terminal = Terminal([command, "list", rule])
-    while len(set(shown_times(terminal.text))) < 2 and terminal.read():
-        if len(shown_times(terminal.text)) == 1:
-            see("the time is shown before two seconds have passed", terminal.passed() >= 2)
-    times = shown_times(terminal.text)
-    see(f"the times that are shown are {times}", times[:2] in ([2, 3], [2, 4], [3, 4]))
-    see("the line is not written over", "\n" not in terminal.text)
-    os.write(terminal.descriptor, b"\3")
-    status = terminal.end()
+    with Terminal([command, "list", rule]) as terminal:
+        while len(set(shown_times(terminal.text))) < 2 and terminal.read():
+            if len(shown_times(terminal.text)) == 1:
+                see("the time is shown before two seconds have passed", terminal.passed() >= 2)
+        times = shown_times(terminal.text)
+        see(f"the times that are shown are {times}", times[:2] in ([2, 3], [2, 4], [3, 4]))
+        see("the line is not written over", "\n" not in terminal.text)
+        os.write(terminal.descriptor, b"\3")
+        status = terminal.end()
     see(f"the status after an interrupt is {status}", status == -signal.SIGINT)
     see("something is listed", "total" not in terminal.text)
 
 
 def limited(command, rule):
-    terminal = Terminal([command, "list", rule, "--limit", "4"])
-    status = terminal.end()
+    with Terminal([command, "list", rule, "--limit", "4"]) as terminal:
+        status = terminal.end()
     see(f"the status at the limit is {status}", status == 2)
     see("the limit is not shown", ", of 4 s at most" in terminal.text)
     # the line that showed the time is blank before the message comes

@@ -14,7 +14,7 @@ use Rattle.reach.specs.declared.Kind.{Kind}
 use Rattle.reach.specs.declared.Kind.the-variants.{RE, UN, MI}
 use Rattle.reach.specs.declared.PathEnd.{PathEnd}
 use Rattle.reach.specs.declared.PathEnd.the-variants.{Unlisted, Listed}
-use Rattle.reach.specs.Search.{Entry, branches}
+use Rattle.reach.specs.Search.{Entry, listing, branches}
 use Rattle.reach.specs.Moves as Model
 use Rattle.reach.specs.Moves.{Choice}
 use Rattle.reach.proofs.Evaluation.{waits-free}
@@ -38,29 +38,29 @@ use Rattle.moves.specs.Moving.{endedWalk, UnderWay, EntryIn, Lists, Make
 
 -- The model's arrival, by what comes next.
 module _ (p : Program) (table : List ℕ) (left n : ℕ) (e : Parts) (s : State) (cs : List Choice) (es : List Entry) where
-  demanded : Eval.next p e s ≡ Eval.demands → Model.arrive p table left n e s cs es ≡ Model.behind cs (es ++ (record { kind = RE; steps = n; input = e } ∷ []))
-  unfolding Model.arrive Model.settle
-  demanded next = by-left left
+  -- at an end it is over with what that lists, however many steps are left
+  ends :
+      (N : Eval.Next) (end : PathEnd)
+      → ((go : State → Model.Walk) (fork : Question → Model.Walk) → Model.settle go fork n e cs es N ≡ Model.behind cs (es ++ listing end n e))
+      → Eval.next p e s ≡ N → Model.arrive p table left n e s cs es ≡ Model.behind cs (es ++ listing end n e)
+  unfolding Model.arrive
+  ends N end settles next = by-left left
     where
-      by-left : (l : ℕ) → Model.arrive p table l n e s cs es ≡ Model.behind cs (es ++ (record { kind = RE; steps = n; input = e } ∷ []))
-      by-left zero = rw next
-      by-left (suc l) = rw next
+      by-left : (l : ℕ) → Model.arrive p table l n e s cs es ≡ Model.behind cs (es ++ listing end n e)
+      by-left zero = rw next (settles _ _)
+      by-left (suc l) = rw next (settles _ _)
 
-  lacked : Eval.next p e s ≡ Eval.lacks → Model.arrive p table left n e s cs es ≡ Model.behind cs (es ++ (record { kind = MI; steps = n; input = e } ∷ []))
-  unfolding Model.arrive Model.settle
-  lacked next = by-left left
-    where
-      by-left : (l : ℕ) → Model.arrive p table l n e s cs es ≡ Model.behind cs (es ++ (record { kind = MI; steps = n; input = e } ∷ []))
-      by-left zero = rw next
-      by-left (suc l) = rw next
+  demanded : Eval.next p e s ≡ Eval.demands → Model.arrive p table left n e s cs es ≡ Model.behind cs (es ++ listing (Listed RE) n e)
+  unfolding Model.settle
+  demanded = ends Eval.demands (Listed RE) (λ go fork. refl)
 
-  stopped : (why : Eval.Stop) → Eval.next p e s ≡ Eval.stops why → Model.arrive p table left n e s cs es ≡ Model.behind cs (es ++ [])
-  unfolding Model.arrive Model.settle
-  stopped why next = by-left left
-    where
-      by-left : (l : ℕ) → Model.arrive p table l n e s cs es ≡ Model.behind cs (es ++ [])
-      by-left zero = rw next
-      by-left (suc l) = rw next
+  lacked : Eval.next p e s ≡ Eval.lacks → Model.arrive p table left n e s cs es ≡ Model.behind cs (es ++ listing (Listed MI) n e)
+  unfolding Model.settle
+  lacked = ends Eval.lacks (Listed MI) (λ go fork. refl)
+
+  stopped : (why : Eval.Stop) → Eval.next p e s ≡ Eval.stops why → Model.arrive p table left n e s cs es ≡ Model.behind cs (es ++ listing Unlisted n e)
+  unfolding Model.settle
+  stopped why = ends (Eval.stops why) Unlisted (λ go fork. refl)
 
   gone-on :
       (l : ℕ) (s′ : State) → left ≡ suc l → Eval.next p e s ≡ Eval.goes s′
