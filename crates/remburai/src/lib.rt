@@ -1,12 +1,7 @@
 // The calls for C and Rust: the check of a rule file, its search, a closed run, and where an entry of a list stands. Each answers with
-// one number, which specs/Packing.antt of crate packing defines; include/remburai.h has the numbers for C. Rests on crates rulefile, search,
+// one number, which specs/Packing.antt of crate packing defines, and promises what specs/Answering.antt says; include/remburai.h has the numbers for C. Rests on crates rulefile, search,
 // closed, entries and packing.
-ghost use mathlib.Core.Path.{_≡_};
-ghost use lib.ListN.{length};
-ghost use Rattle.reach.specs.Answers as Answers;
-ghost use Rattle.search.specs.Answering.{Searched};
-ghost use Rattle.closed.specs.Answering.{HasRun};
-ghost use Rattle.packing.specs.Packing.{checkNumber, searchNumber, runNumber, partNumber, PartAt};
+ghost use Rattle.remburai.specs.Answering.{Checks, Searches, Runs, Finds};
 use entries::Span;
 use entries::room;
 use entries::span_of;
@@ -21,7 +16,7 @@ use rulefile::check;
 // The check of a rule file: 0, or the number of its refusal.
 #[no_mangle]
 pub extern "C" fn remburai_check(file: &[u8]) -> u64
-    ensures { λ r. ⌜ r ≡ checkNumber (Answers.check (now (file .entry))) ⌝ }
+    ensures { λ r. ⌜ Checks (now (file .entry)) r ⌝ }
 {
     match check(file) {
         Checked::Accepted => 0,
@@ -32,8 +27,7 @@ pub extern "C" fn remburai_check(file: &[u8]) -> u64
 // The search of a rule file, in the lent words, its list written to the lent list slice.
 #[no_mangle]
 pub extern "C" fn remburai_search<'a>(file: &'a [u8], work: &mut [u32], list: &mut [u8]) -> u64
-    ensures { λ r. ⌜ r ≡ searchNumber (Answers.searchAnswer (now (file .entry)) (length (now (work .entry))) (length (now (list .entry)))) ⌝ }
-    ensures slices { λ r. ⌜ Searched (now (file .entry)) (now (work .entry)) (now (work .exit)) (now (list .entry)) (now (list .exit)) ⌝ }
+    ensures { λ r. ⌜ Searches (now (file .entry)) (now (work .entry)) (now (work .exit)) (now (list .entry)) (now (list .exit)) r ⌝ }
 {
     match search::search(file, work, list) {
         exploring::Answer::Refused(why) => number(why),
@@ -46,8 +40,7 @@ pub extern "C" fn remburai_search<'a>(file: &'a [u8], work: &mut [u32], list: &m
 // The closed run of a rule file on an input, in the lent words.
 #[no_mangle]
 pub extern "C" fn remburai_run<'a>(file: &'a [u8], input: &'a [u8], work: &mut [u32]) -> u64
-    ensures { λ r. ⌜ r ≡ runNumber (Answers.runAnswer (now (file .entry)) (now (input .entry)) (length (now (work .entry)))) ⌝ }
-    ensures slices { λ r. ⌜ HasRun (now (file .entry)) (now (input .entry)) (now (work .entry)) (now (work .exit)) ⌝ }
+    ensures { λ r. ⌜ Runs (now (file .entry)) (now (input .entry)) (now (work .entry)) (now (work .exit)) r ⌝ }
 {
     match closed::run(file, input, work) {
         closed::Answer::Refused(why) => number(why),
@@ -58,8 +51,7 @@ pub extern "C" fn remburai_run<'a>(file: &'a [u8], input: &'a [u8], work: &mut [
 // Where the entry of a given number stands in a list, counted from 0, and how many bytes it fills; else the list's end and none.
 #[no_mangle]
 pub extern "C" fn remburai_entry(list: &[u8], number: usize) -> u64
-    ensures { λ r. ⌜ r ≡ partNumber (now (list .entry)) number ⌝ }
-    ensures part { λ r. ⌜ PartAt (now (list .entry)) number r ⌝ }
+    ensures { λ r. ⌜ Finds (now (list .entry)) number r ⌝ }
 {
     let end = room(list.len());
     match span_of(&list[..end], number) {

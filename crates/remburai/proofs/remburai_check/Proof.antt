@@ -7,10 +7,10 @@ use Rattle.remburai.proofs.remburai_check.Statement.{statement}
 use Rattle.remburai.proofs.remburai_check.Tie as tie
 
 returns : tie.Need-returns
-returns c = accepted-number (check (c .before .before .before .before .args .file .now)) (sym (c .enum-told .given .1) ∙ c .before .before .check .ensures .answer-is)
+returns c = record { number-is = accepted-number (check (c .before .before .before .before .args .file .now)) (sym (c .enum-told .given .1) ∙ c .before .before .check .ensures .answer-is) }
 
 returns-2 : tie.Need-returns-2
-returns-2 c = c .number .ensures ∙ refused-number (check (c .before .before .before .before .before .before .args .file .now)) _ (sym (c .before .before .why .given .1) ∙ c .before .before .before .before .check .ensures .answer-is)
+returns-2 c = record { number-is = c .number .ensures ∙ refused-number (check (c .before .before .before .before .before .before .args .file .now)) _ (sym (c .before .before .why .given .1) ∙ c .before .before .before .before .check .ensures .answer-is) }
 
 pub remburai-check-spec : {M : Type 1} → statement M
 remburai-check-spec =

@@ -29,13 +29,19 @@ returns : tie.Need-returns
 returns c =
     let found = c .before .before .before in
     let room = found .before .before .room .ensures in
-    (found-number _ _ _ room (found .span-of .ensures) (c .before .at .given .1), found-part _ _ _ room (found .span-of .ensures) (c .before .at .given .1))
+    record {
+      number-is = found-number _ _ _ room (found .span-of .ensures) (c .before .at .given .1);
+      part-is = found-part _ _ _ room (found .span-of .ensures) (c .before .at .given .1);
+    }
 
 returns-2 : tie.Need-returns-2
 returns-2 c =
     let found = c .before .before in
     let room = found .before .before .room .ensures in
-    (no-entry-number _ _ _ room (found .span-of .ensures) (c .enum-told .given .1), no-entry-part _ _ _ room (found .span-of .ensures) (c .enum-told .given .1))
+    record {
+      number-is = no-entry-number _ _ _ room (found .span-of .ensures) (c .enum-told .given .1);
+      part-is = no-entry-part _ _ _ room (found .span-of .ensures) (c .enum-told .given .1);
+    }
 
 pub remburai-entry-spec : {M : Type 1} → statement M
 remburai-entry-spec =

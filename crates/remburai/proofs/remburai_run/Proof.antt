@@ -11,18 +11,14 @@ use Rattle.remburai.proofs.remburai_run.Tie as tie
 returns : tie.Need-returns
 returns c =
     let a = c .before .before .before .before .before .before .before .before .before .before .before .args in
-    let ended = c .before .before .before .before .before .before .run .ensures in (
-      c .number .ensures ∙ no-run-number (runAnswer (a .file .now) (a .input .now) (length (a .work .now))) _ (sym (c .before .before .why .given .1) ∙ ended .answer-is),
-      run-so ended,
-    )
+    let ended = c .before .before .before .before .before .before .run .ensures in
+    record { number-is = c .number .ensures ∙ no-run-number (runAnswer (a .file .now) (a .input .now) (length (a .work .now))) _ (sym (c .before .before .why .given .1) ∙ ended .answer-is); leaves = run-so ended }
 
 returns-2 : tie.Need-returns-2
 returns-2 c =
     let a = c .before .before .before .before .before .before .before .before .before .before .before .before .args in
-    let ended = c .before .before .before .before .before .before .before .run .ensures in (
-      rw (c .steps-of .ensures .0, c .before .outcome-number .ensures .0) (ran-number (runAnswer (a .file .now) (a .input .now) (length (a .work .now))) _ (sym (c .before .before .before .outcome .given .1) ∙ ended .answer-is)),
-      run-so ended,
-    )
+    let ended = c .before .before .before .before .before .before .before .run .ensures in
+    record { number-is = rw (c .steps-of .ensures .0, c .before .outcome-number .ensures .0) (ran-number (runAnswer (a .file .now) (a .input .now) (length (a .work .now))) _ (sym (c .before .before .before .outcome .given .1) ∙ ended .answer-is)); leaves = run-so ended }
 
 pub remburai-run-spec : {M : Type 1} → statement M
 remburai-run-spec =

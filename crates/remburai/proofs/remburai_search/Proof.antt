@@ -37,26 +37,20 @@ add-result-2 c =
 returns : tie.Need-returns
 returns c =
     let a = c .before .before .before .before .before .before .before .before .before .before .before .before .before .before .args in
-    let searched = c .before .before .before .before .before .before .before .before .search .ensures in (
-      c .number .ensures ∙ no-search-number (searchAnswer (a .file .now) (length (a .work .now)) (length (a .list .now))) _ (sym (c .before .before .why .given .1) ∙ searched .answer-is),
-      searched-so searched,
-    )
+    let searched = c .before .before .before .before .before .before .before .before .search .ensures in
+    record { number-is = c .number .ensures ∙ no-search-number (searchAnswer (a .file .now) (length (a .work .now)) (length (a .list .now))) _ (sym (c .before .before .why .given .1) ∙ searched .answer-is); leaves = searched-so searched }
 
 returns-2 : tie.Need-returns-2
 returns-2 c =
     let a = c .before .before .before .before .before .before .before .before .before .before .before .before .before .before .args in
-    let searched = c .before .before .before .before .before .before .before .before .search .ensures in (
-      rw (c .verdict-number .ensures .0) (complete-number (searchAnswer (a .file .now) (length (a .work .now)) (length (a .list .now))) _ _ (sym (c .before .before .n .given .1) ∙ searched .answer-is)),
-      searched-so searched,
-    )
+    let searched = c .before .before .before .before .before .before .before .before .search .ensures in
+    record { number-is = rw (c .verdict-number .ensures .0) (complete-number (searchAnswer (a .file .now) (length (a .work .now)) (length (a .list .now))) _ _ (sym (c .before .before .n .given .1) ∙ searched .answer-is)); leaves = searched-so searched }
 
 returns-3 : tie.Need-returns-3
 returns-3 c =
     let a = c .before .before .before .before .before .before .before .before .before .before .before .before .before .before .args in
-    let searched = c .before .before .before .before .before .before .before .before .search .ensures in (
-      rw (c .number2 .ensures) (full-number (searchAnswer (a .file .now) (length (a .work .now)) (length (a .list .now))) _ (sym (c .before .before .n2 .given .1) ∙ searched .answer-is)),
-      searched-so searched,
-    )
+    let searched = c .before .before .before .before .before .before .before .before .search .ensures in
+    record { number-is = rw (c .number2 .ensures) (full-number (searchAnswer (a .file .now) (length (a .work .now)) (length (a .list .now))) _ (sym (c .before .before .n2 .given .1) ∙ searched .answer-is)); leaves = searched-so searched }
 
 pub remburai-search-spec : {M : Type 1} → statement M
 remburai-search-spec =
