@@ -5,7 +5,7 @@ They ask nothing of how the list was made: `broken` takes its entries and its ve
 
 from blind.compare import Different, same
 from blind.enumerate import MARKS, OPEN, inputs
-from blind.evaluate import ENDED, MISSING, REACHED, UNFINISHED, evaluate
+from blind.evaluate import ENDED, MISSING, REACHED, evaluate
 
 
 def bound_parts(program, parameters):
@@ -57,10 +57,9 @@ def apart(bounds):
 
 
 def right_verdict(verdict, ends):
-    """None is said exactly when every closed input stops in time off target."""
+    """None is said exactly when every closed input stops in time off target, else found exactly when one reaches the target."""
     same("whether none is said", verdict == "none", ends <= {ENDED, MISSING})
     same("whether found is said", verdict == "found", REACHED in ends)
-    same("whether undecided is said", verdict == "undecided", UNFINISHED in ends and REACHED not in ends)
 
 
 def demands(program, entries, verdict):

@@ -149,6 +149,11 @@ module _ (file input work work′ : List ℕ) (r : Answer) (call : Promised file
         let (j, reads, enough, ends) = ran-exactly o .0 is in
         rw ends (steps-kept (p .steps) (run p j) (run-spent p j))
 
+    pub unfinished-all : (n : ℕ) → r ≡ Answer.Ran (Unfinished n) → n ≡ p .steps
+    unfinished-all n is =
+        let (j, reads, enough, ends) = ran-exactly (Unfinished n) .0 is in
+        unfinished-kept (p .steps) n (run p j) (run-spent p j) ends
+
     -- 02, Slip 1: "the closed run says missing too, no longer ended": exactly where, inside the step limit, the last of so many steps finds that a case has no
     -- alternative for its constructor.
     pub missing-exactly : (n : ℕ)
@@ -160,11 +165,6 @@ module _ (file input work work′ : List ℕ) (r : Answer) (call : Promised file
       λ h. let (j, reads, enough, finds) = h in
           ran-exactly (Missing n) .1 (j, reads, enough, sym (ap outcomeOf ((Reach.missing-exactly p j n) .1 finds))),
     )
-
-    pub unfinished-all : (n : ℕ) → r ≡ Answer.Ran (Unfinished n) → n ≡ p .steps
-    unfinished-all n is =
-        let (j, reads, enough, ends) = ran-exactly (Unfinished n) .0 is in
-        unfinished-kept (p .steps) n (run p j) (run-spent p j) ends
 
   -- which condition a refusal has
   abbrev Refusable : Refusal → Type 0

@@ -34,7 +34,7 @@ use Rattle.reach.proofs.Accepted.{entries-true, entries-cover, entries-
 
 -- Demand 2: "Every listed entry is true: each closed input that completes it within the depth ends as the entry says, reached or unfinished,
 -- after exactly the listed steps of the published evaluation." Here for every closed input, however deep, and for a list cut short too; and, by 02,
--- Slip 1, "what holds for the listed kinds [..] holds for the new kind": or missing.
+-- Slip 1, "What holds for the listed kinds [..] holds for the new kind": or missing.
 pub entry-true : (file : List ℕ) (work list : ℕ) (p : Program) → check file ≡ accepted p
     → (e : Entry) → e ∈ listed (searchAnswer file work list)
     → (j : Parts) → ClosedInput p j → Completes j (e .input) → run p j ≡ says (e .kind) (e .steps)

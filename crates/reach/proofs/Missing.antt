@@ -1,7 +1,7 @@
 -- What `missing` means: a run is missing exactly where, inside the step limit, a case finds that it has no alternative for its constructor, and the step
 -- that finds it is the last that counts. A number that names nothing is never taken for it.
 -- Rests on specs/States and Evaluation.
-use Prim.Native.Nat.{ℕ, zero, suc, _+_, _-_, _<_}
+use Prim.Native.Nat.{ℕ, zero, suc, _+_, _-_}
 use mathlib.Core.Path.{_≡_, refl, sym, _∙_, ap, subst}
 use mathlib.Core.Logic.{_↔_}
 use mathlib.Core.Bool.{Bool, true, false}
@@ -11,8 +11,8 @@ use lib.Dec.{eqb}
 use native.Mathlib.Omega.{arith}
 use Rattle.reach.specs.Base.{pick}
 use Rattle.reach.specs.Syntax.{variable, call, construct, case, letIn, target, Exprs, Alternatives, no-more, absent, present, Function, Program, functionAt}
-use Rattle.reach.specs.Parts.{Parts, Place, Seen, gone, free, has, at}
-use Rattle.reach.specs.Eval.{Env, Closure, suspended, inputPart, lookup, Frame, waiting, State, evaluating, inspecting, uncovered, stuck, resume, choose, enter, Question, answered, Stop, Next, demands, lacks, stops, goes, waits, view, look, answer, next, Run, reached, ended, unfinished, missing, halted, eval, startOf, start, run, Spent}
+use Rattle.reach.specs.Parts.{Parts, Seen, gone, free, has, at}
+use Rattle.reach.specs.Eval.{Env, Closure, suspended, inputPart, lookup, Frame, waiting, State, evaluating, inspecting, uncovered, stuck, resume, choose, enter, Question, answered, Next, demands, lacks, stops, goes, waits, view, look, answer, next, Run, reached, ended, unfinished, missing, halted, eval, startOf, start, run, Spent}
 use Rattle.reach.specs.States.{Steps, no-step, one-more, Without, FindsNone, for-construction, for-part, MissingAfter}
 use Rattle.reach.proofs.Base.{clash}
 use Rattle.reach.proofs.Evaluation.{eval-step, eval-wait, eval-demands, eval-lacks, eval-stops, eval-spent, eval-spent-wait, run-spent}

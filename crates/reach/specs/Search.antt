@@ -15,7 +15,7 @@ use Rattle.reach.specs.Base.{pick}
 use Rattle.reach.specs.Syntax.{Program, sourceTypes}
 use Rattle.reach.specs.Parts.{Parts, allOpen, bindAt}
 use Rattle.reach.specs.Types.{Fork, forksAt, slotAt, sourceSlots, leastDepths}
-use Rattle.reach.specs.Eval.{State, Question, answered, Stop, Next, onNext, next, start, Run, reached, ended, unfinished, missing, halted}
+use Rattle.reach.specs.Eval.{State, Question, answered, Next, onNext, next, start, Run, reached, ended, unfinished, missing, halted}
 
 -- An entry: its kind, its steps, and the partial input.
 pub record Entry : Type 0 where
@@ -74,7 +74,7 @@ abbrev pub stateBehind : Question → Fork → State
 stateBehind q f = answered q (f .constructor) (f .fields)
 
 -- the entries below a state, with so many steps left and n done: depth first, a fork's constructors in number order.
--- A fork is paid for by the step that chooses the alternative.
+-- A fork is paid for by the step that chooses the alternative or finds that there is none.
 unfoldable pub search : Program → List ℕ → ℕ → ℕ → Parts → State → List Entry
 search p table zero n input s = gather (λ s′. spent n input) (λ q. spent n input) n input (next p input s)
 search p table (suc left) n input s =

@@ -1,6 +1,6 @@
 // The calls for C and Rust: the check of a rule file, its search, a closed run, and where an entry of a list stands. Each answers with
-// one number, which specs/Packing.antt of crate packing defines, and promises what specs/Answering.antt says; include/remburai.h has the numbers for C. Rests on crates rulefile, search,
-// closed, entries and packing.
+// one number, which specs/Packing.antt of crate packing defines, and promises what specs/Answering.antt says; include/remburai.h has the
+// numbers for C. Rests on crates rulefile, search, closed, entries and packing.
 ghost use Rattle.remburai.specs.Answering.{Checks, Searches, Runs, Finds};
 use entries::Span;
 use entries::room;

@@ -92,7 +92,7 @@ module _ (file types functions input : List ℕ) (label limit : ℕ) (w₀ : Lis
           let left : limit - done ≡ suc (limit - suc done) = omega arith in
           rw one (s′, under before, here .2 ∙ ap (λ l. eval p j l done (here .0)) left ∙ on (limit - suc done))
 
-      -- the end, where the target is demanded, or where the evaluation stops
+      -- the end, where the target is demanded, where an alternative is missing, or where the evaluation stops
       came-demands :
           AdvancesAll file types functions input label w w′ base cells r cells′ Next.Demands
           → EndsAs file types functions input label limit w₀ w′ base first from (Outcome.Reached done)

@@ -5,13 +5,12 @@ use native.Mathlib.Omega.{arith}
 use mathlib.Core.Path.{_≡_, refl, sym, ap, subst, _∙_}
 use mathlib.Core.List.{List, [], _∷_, _++_, flatMap, List·Memᴰ·cases-cons, List·Memᴰ·not-nil}
 use mathlib.Core.Logic.{_⊎_, inl, inr, ⊎-elim, _↔_}
-use mathlib.Core.Option.{some, Option·none-ne-some, Option·some-injective}
+use mathlib.Core.Option.{some}
 use lib.ListN.{length, getElem?, take, drop}
 use lib.Seq.{take-append-seam, drop-append-seam}
 use Rattle.reach.specs.declared.Refusal.{Refusal}
 use Rattle.reach.specs.declared.Refusal.the-variants.{WorkTooShort}
 use Rattle.reach.specs.declared.Verdict.{Verdict}
-use Rattle.reach.specs.declared.Verdict.the-variants.{None}
 use Rattle.reach.specs.Base.{_∈_}
 use Rattle.reach.specs.Words.{numberOf}
 use Rattle.reach.specs.Limits.{workWords}
@@ -19,7 +18,7 @@ use Rattle.reach.specs.Syntax.{Program}
 use Rattle.reach.specs.Eval.{missing, Spent}
 use Rattle.reach.specs.declared.Kind.{Kind}
 use Rattle.reach.specs.declared.Kind.the-variants.{RE, UN, MI}
-use Rattle.reach.specs.Search.{Entry, says, entries, countFrom, counts, verdictBy, verdict}
+use Rattle.reach.specs.Search.{Entry, says, entries, verdict}
 use Rattle.reach.specs.Lists.{entryBytes, listBytes, roomOf, written}
 use Rattle.reach.specs.Answers.{Checked, accepted, turnedBack, check, SearchAnswer, noSearch, complete, cutShort, searchAnswer, listed, refusalOf, verdictOf}
 use Rattle.reach.proofs.Base.{clash}

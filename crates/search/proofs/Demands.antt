@@ -10,7 +10,7 @@ use Prim.Native.Nat.{ℕ, _+_, _≤_, _<_}
 use native.Mathlib.Omega.{arith}
 use mathlib.Core.Path.{_≡_, sym, ap, subst, _∙_}
 use mathlib.Core.Logic.{_⊎_, _↔_, _≢_}
-use mathlib.Core.List.{List, [], _∷_, _++_, List·Memᴰ·not-nil}
+use mathlib.Core.List.{List, [], _∷_, _++_}
 use mathlib.Core.Option.{none, some}
 use lib.ListN.{length, getElem?, take, drop}
 use Rattle.reach.specs.declared.Refusal.{Refusal}
@@ -130,7 +130,7 @@ module _ (file work work′ before after : List ℕ) (r : Answer) (call : Promis
     member k e reads = nth-member shown k e ((entry-reads k e) .0 reads)
 
     -- Demand 2: "Every listed entry is true: each closed input that completes it within the depth ends as the entry says, reached or unfinished, after exactly
-    -- the listed steps of the published evaluation." Here for every closed input, however deep, and for a list cut short too; and, by 02, Slip 1, "what holds
+    -- the listed steps of the published evaluation." Here for every closed input, however deep, and for a list cut short too; and, by 02, Slip 1, "What holds
     -- for the listed kinds [..] holds for the new kind": or missing.
     pub entry-true : (k : ℕ) (e : Entry) → ReadsAs p (take (lengthIn r) after) k e
         → (j : Parts) → ClosedInput p j → Completes j (e .input) → run p j ≡ says (e .kind) (e .steps)
@@ -188,8 +188,9 @@ module _ (file work work′ before after : List ℕ) (r : Answer) (call : Promis
           let (k, there) = member-number shown e m in
           (k, e, (reads-at k e) .1 there, completes, so)
 
-      -- 02, Slip 1: "inputs that run into a missing alternative. Such a path now gives an entry `MI` with its steps". A closed input within the depth completes an
-      -- MI entry of so many steps exactly where, inside the step limit, the last of them finds that a case has no alternative for its constructor.
+      -- 02, Slip 1: "inputs that run into a missing alternative. Such a path now gives an entry `MI` with its steps". A closed input within the depth
+      -- completes an MI entry of so many steps exactly where, inside the step limit, the last of them finds that a case has no alternative for its
+      -- constructor.
       pub missing-exactly : (j : Parts) → WithinDepth p j → (steps : ℕ)
           → ((k : ℕ) × (e : Entry) × ReadsAs p (take n after) k e × Completes j (e .input) × (e .kind ≡ MI) × (e .steps ≡ steps)) ↔ MissingAfter p j steps
       missing-exactly j within steps = (

@@ -66,7 +66,7 @@ fn names_of_examples() -> Vec<String> {
 #[test]
 fn a_text_and_its_rule_file() {
     let names = names_of_examples();
-    assert!(5 <= names.len());
+    assert!(6 <= names.len());
     for name in names {
         let text = path(&format!("examples/{name}.txt"));
         let rule = path(&format!("examples/{name}.rule"));
