@@ -1,17 +1,18 @@
-/* Remburai, the case finder, for C: the check of a rule file, its search, a closed run, and where an entry of a list stands.
+/* Remburai, the case finder, for C: the check of a rule file, its search, a closed run, where an entry of a list stands, and the printed
+ * text of a list, with its length beforehand.
  *
  * Link with libremburai.a, which `rt staticlib remburai` proves and writes to target/staticlib, and `make install` puts beside this file
- * (x86-64 Linux). docs/FORMAT.md has the bytes of rule files, inputs and lists.
+ * (x86-64 Linux). docs/FORMAT.md has the bytes of rule files, inputs and lists, and the text.
  *
  * Each call is proved to give the number that its definition gives, for every content and every length of the slices, to stop, and to
  * read and write inside the slices only. What the caller owes:
  *   - each pointer is not NULL, also where its length is 0, and stands for as many elements as its length says;
  *   - work is aligned for uint32_t;
- *   - work and list overlap neither each other nor file or input;
+ *   - what a call writes to, that is work, text and the list of a search, overlaps no other slice of that call;
  *   - the thread has 256 KiB of stack left (tested with what nests deepest; the proofs say nothing of the stack);
  *   - the program has `memset`, with the meaning of C: the library asks for no other function.
- * Threads: nothing is kept between calls and nothing is shared, so calls may run at the same time, each with work and list of its own;
- * file and input may be lent to several at once, as long as nothing writes to them.
+ * Threads: nothing is kept between calls and nothing is shared, so calls may run at the same time, each with work, text and the list of a
+ * search of its own; file, input and a finished list may be lent to several at once, as long as nothing writes to them.
  * Time: a search stops, but it may run for years, and no call ends it. S bounds the steps of one path, not the number of paths; what bounds
  * that is D with the types of the source's parameters: there are at most as many paths as closed inputs within the depth. A rule of 115
  * bytes that walks over eight numbers has 64^8 of them at D 64 and would take 10 years; with four numbers it takes 20 s (docs/COSTS.md).
@@ -22,6 +23,9 @@
 
 #include <stddef.h>
 #include <stdint.h>
+#ifndef __cplusplus
+#include <stdbool.h>
+#endif
 
 #ifdef __cplusplus
 extern "C" {
@@ -29,19 +33,21 @@ extern "C" {
 
 /* The version of this file and of the library beside it. */
 #define REMBURAI_VERSION_MAJOR 0
-#define REMBURAI_VERSION_MINOR 2
+#define REMBURAI_VERSION_MINOR 3
 #define REMBURAI_VERSION_PATCH 0
-#define REMBURAI_VERSION "0.2.0"
+#define REMBURAI_VERSION "0.3.0"
 
 /* Every call answers with one number; the functions under "The parts of an answer" take it apart.
  *
- *                     bits 0 to 7     bits 8 to 15    from bit 16 on
- *   remburai_check    the refusal     0               0
- *   remburai_search   the refusal     the verdict     the length of the list, in bytes
- *   remburai_run      the refusal     the outcome     the steps
+ *                          bits 0 to 7     bits 8 to 15    from bit 16 on
+ *   remburai_check         the refusal     0               0
+ *   remburai_search        the refusal     the verdict     the length of the list, in bytes
+ *   remburai_run           the refusal     the outcome     the steps
+ *   remburai_text_length   the refusal     0               the length of the text, in bytes; 0 with a refusal
+ *   remburai_write_text    the refusal     0               the length of the text, in bytes; 0 with a refusal
  *
- *                     bits 0 to 31                    from bit 32 on
- *   remburai_entry    the place in the list           the size, in bytes
+ *                          bits 0 to 31                    from bit 32 on
+ *   remburai_entry         the place in the list           the size, in bytes
  */
 
 /* Refusals. */
@@ -56,8 +62,10 @@ extern "C" {
 #define REMBURAI_EMPTY_TYPE 8        /* a type has no closed value */
 #define REMBURAI_DEPTH_TOO_SMALL 9   /* a source parameter's least depth exceeds D */
 #define REMBURAI_BAD_INPUT 10        /* remburai_run only: the bytes are not one closed, fitting value per parameter */
-#define REMBURAI_WORK_TOO_SHORT 11   /* the work slice is shorter than REMBURAI_WORK_WORDS(S) */
+#define REMBURAI_WORK_TOO_SHORT 11   /* remburai_search, remburai_run: the work slice is shorter than REMBURAI_WORK_WORDS(S) */
 #define REMBURAI_LIST_FULL 12        /* remburai_search only: the next entry does not fit the list slice */
+#define REMBURAI_TEXT_TOO_SHORT 13   /* remburai_write_text only: the text slice is shorter than the text */
+#define REMBURAI_BAD_LIST 14         /* remburai_text_length, remburai_write_text: the list is too long, or not whole entries that fit the file */
 
 /* Verdicts. */
 #define REMBURAI_NO_VERDICT 0        /* with every refusal */
@@ -73,7 +81,7 @@ extern "C" {
 #define REMBURAI_MISSING 4           /* it stops off target at a case that has no alternative for the constructor */
 
 /* The longest rule file, in bytes; the largest step limit S; the words of work slice that a step limit asks for; and how many bytes of a
- * list slice count. */
+ * list slice count, which is also the most bytes of a list that has a text. */
 #define REMBURAI_FILE_LIMIT 16384u
 #define REMBURAI_STEP_LIMIT 4096u
 #define REMBURAI_WORK_WORDS(s) (64u * (size_t)(s) + 1024u)
@@ -105,12 +113,35 @@ uint64_t remburai_run(const uint8_t *file, size_t file_length,
  * bytes behind the list may be read as entries. */
 uint64_t remburai_entry(const uint8_t *list, size_t list_length, size_t number);
 
+/* The length of the printed text of a list, without writing it. The text has a line for each entry and the total line, as the program
+ * `reachlist` prints them; with `full`, which says that the search ended in 12, the line `refused 12` in place of the total. So for the
+ * list of a search give the file, the length that the search answered as `list_length`, and whether its refusal was REMBURAI_LIST_FULL.
+ * With another length, entries behind the list that happen to fit are printed too, and what does not fit is refused.
+ *
+ * Refusals, the first that holds: 1 to 9 of the file, then 14: the list has more than REMBURAI_LIST_LIMIT bytes, or is not whole entries
+ * of known kinds, each of at most S steps, whose values are one for each parameter of the source function, of its type and no deeper than
+ * D (an open part is as deep as its type's least depth), with nothing behind them. What a search of the file has written always passes,
+ * complete or cut short.
+ *
+ * Nothing is searched: an entry may be false, stand there twice, or out of its order. Counts and verdict of the text are those of the list
+ * that is handed in, and speak for the file only where its search returned that list. */
+uint64_t remburai_text_length(const uint8_t *file, size_t file_length,
+                              const uint8_t *list, size_t list_length, bool full);
+
+/* The same text, written to the front of `text`. The refusals are those of remburai_text_length, and behind them 13: text_length is below
+ * the length of the text, which is never above 4 times list_length and 64 more. With a refusal no byte is written, and without one those
+ * behind the text are as before. There is no 0 at its end: the answer says how long it is. */
+uint64_t remburai_write_text(const uint8_t *file, size_t file_length,
+                             const uint8_t *list, size_t list_length, bool full,
+                             uint8_t *text, size_t text_length);
+
 /* The parts of an answer. They are proved to be those of the definition's answer (crates/remburai/proofs/Demands.antt). */
 static inline unsigned remburai_refusal(uint64_t answer) { return (unsigned)(answer & 0xFF); }
 static inline unsigned remburai_verdict(uint64_t answer) { return (unsigned)(answer >> 8 & 0xFF); }
 static inline unsigned remburai_outcome(uint64_t answer) { return (unsigned)(answer >> 8 & 0xFF); }
 static inline size_t remburai_list_length(uint64_t answer) { return (size_t)(answer >> 16); }
 static inline unsigned remburai_steps(uint64_t answer) { return (unsigned)(answer >> 16); }
+static inline size_t remburai_text_bytes(uint64_t answer) { return (size_t)(answer >> 16); }
 static inline size_t remburai_entry_place(uint64_t answer) { return (size_t)(answer & 0xFFFFFFFF); }
 static inline size_t remburai_entry_size(uint64_t answer) { return (size_t)(answer >> 32); }
 

@@ -1,8 +1,9 @@
 """Tests the calls from C: include/remburai.h and the programs of examples/c, over the static library whose path is the one argument.
 
 The header is compiled by itself as C99, C11 and C++, with all warnings as errors. `list` prints its line, `answers` the lines of
-docs/FORMAT.md, and `print`, built with the slices of reachlist, what is stored in tests/reachlist, with the exit status of the verdict;
-with the library's whole limits it refuses by neither 11 nor 12 what reachlist does. The list's end is where the header says. The
+docs/FORMAT.md, and `print` and `text`, built with the slices of reachlist, what is stored in tests/reachlist, with the exit status of the
+verdict; with the library's whole limits they refuse by neither 11 nor 12 what reachlist does. The list's end is where the header says. The
+text of a list fits a slice of just its length, a shorter slice and a list that is too long are refused, and no other byte is changed. The
 version is one in header and Rust crate, and the library asks for memset and nothing else.
 
 It needs gcc, g++ and nm. The exit status is 1 where anything differs, and where there is nothing to compare.
@@ -25,6 +26,8 @@ WARNINGS = ["-Wall", "-Wextra", "-Werror", "-pedantic"]
 STANDARDS = {"c99": ("gcc", "c"), "c11": ("gcc", "c"), "c++98": ("g++", "c++"), "c++17": ("g++", "c++")}
 AS_REACHLIST = ["-DLIST_BYTES=32768", "-DWORK_WORDS=16384"]
 STATUSES = {"found": 0, "none": 1, "undecided": 2}  # else 3
+PRINTING = "print", "text"  # the programs that print what reachlist does
+LIST_LIMIT = 16777216
 SECONDS = 60
 
 END_OF_A_LONG_LIST = """
@@ -34,6 +37,36 @@ static uint8_t list[REMBURAI_LIST_LIMIT + 1];
 int main(void) {
     uint64_t answer = remburai_entry(list, sizeof list, 0);
     printf("%zu %zu\\n", remburai_entry_place(answer), remburai_entry_size(answer));
+    return 0;
+}
+"""
+
+# Each line of standard input is one call on P: how many bytes of a list of equal entries, whether the search ended in 12, and the bytes of the
+# text slice. Printed are what the length call answers, what the writer does, and whether all but the text is as before.
+ENTRY = bytes([82, 69, 6, 0, 2, 0, 1, 0])
+TEXTS = """
+#include <stdio.h>
+#include <string.h>
+#include "remburai.h"
+static const uint8_t file[] = {FILE}, entry[] = {ENTRY};
+static uint8_t list[REMBURAI_LIST_LIMIT + sizeof entry], text[2 * sizeof list], before[sizeof text];
+static void print_call(size_t length, bool full, size_t room) {
+    memset(text, 0x5A, sizeof text);
+    uint64_t measured = remburai_text_length(file, sizeof file, list, length, full);
+    uint64_t written = remburai_write_text(file, sizeof file, list, length, full, text + 1, room);
+    size_t end = 1 + remburai_text_bytes(written);
+    int kept = text[0] == 0x5A && memcmp(text + end, before, sizeof text - end) == 0;
+    printf("%u %zu ", remburai_refusal(measured), remburai_text_bytes(measured));
+    printf("%u %zu %s\\n", remburai_refusal(written), remburai_text_bytes(written), kept ? "kept" : "changed");
+}
+int main(void) {
+    size_t at, length, room;
+    int full;
+    memset(before, 0x5A, sizeof before);
+    for (at = 0; at < sizeof list; at += sizeof entry)
+        memcpy(list + at, entry, sizeof entry);
+    while (scanf("%zu %d %zu", &length, &full, &room) == 3)
+        print_call(length, full != 0, room);
     return 0;
 }
 """
@@ -68,6 +101,13 @@ class Programs:
         made(["gcc", "-std=c99", "-O2", *WARNINGS, *flags, *INCLUDE, "-o", path, source, self.library])
         return path
 
+    def written(self, name, source):
+        """A program of this source."""
+        path = os.path.join(self.folder, name + ".c")
+        with open(path, "w", encoding="ascii") as file:
+            file.write(source)
+        return self.built(name, path)
+
     def example(self, name, flags=()):
         return self.built(name + "".join(flags), os.path.join(ROOT, "examples", "c", name + ".c"), flags)
 
@@ -97,27 +137,39 @@ def check_list(programs):
 
 def check_answers(programs):
     page = stored("docs", "FORMAT.md").decode()
-    shown = re.findall(r"(?:^    (?:check|search|entry|run)\b.*\n)+", page, re.M)
+    shown = re.findall(r"(?:^    (?:check|search|entry|run|length|text)\b.*\n)+", page, re.M)
     same("the lines of answers", ["    " + line for line in made([programs.example("answers")]).decode().splitlines(True)],
          "".join(shown).splitlines(True))
 
 
+def check_text_of_the_page(programs):
+    page = stored("docs", "FORMAT.md").decode()
+    said = made([programs.example("text")], input=stored("examples", "p.rule")).decode(errors="replace")
+    same("the text on the page", re.findall(r"^The text of the list of P has (\d+) bytes:\n\n((?:    .*\n)+)", page, re.M),
+         [(str(len(said)), "".join("    " + line for line in said.splitlines(True)))])
+
+
 def check_print(programs):
-    program = programs.example("print", AS_REACHLIST)
     names = sorted(name[:-5] for name in os.listdir(STORED) if name.endswith(".rule"))
     same("whether there are stored rule files", names != [], True)
     lines = b"".join(stored(STORED, name + ".out") for name in names).splitlines()
     same("what the stored lines begin with", {line.split()[0] for line in lines}, {b"reach", b"unfinished", b"missing", b"total", b"refused"})
-    for name in names:
-        said, status, faults = call([program], input=stored(STORED, name + ".rule"))
-        wanted = stored(STORED, name + ".out")
-        same(f"what print says of {name}.rule", (said, faults), (wanted, ""))
-        same(f"its exit status of {name}.rule", status, STATUSES.get(wanted.split()[-1].decode(), 3))
+    for example in PRINTING:
+        program = programs.example(example, AS_REACHLIST)
+        for name in names:
+            said, status, faults = call([program], input=stored(STORED, name + ".rule"))
+            wanted = stored(STORED, name + ".out")
+            same(f"what {example} says of {name}.rule", (said, faults), (wanted, ""))
+            same(f"its exit status of {name}.rule", status, STATUSES.get(wanted.split()[-1].decode(), 3))
 
 
 def check_whole_limits(programs):
+    for example in PRINTING:
+        check_whole_limits_of(programs.example(example))
+
+
+def check_whole_limits_of(program):
     """S 241 and a list longer than 32,768 bytes are refused by reachlist alone."""
-    program = programs.example("print")
     same("the last line for s241.rule", call([program], input=stored(STORED, "s241.rule"))[0], stored(STORED, "p.out"))
     said, status, _ = call([program], input=stored(STORED, "list_lacks_entries.rule"))
     first = stored(STORED, "list_lacks_entries.out").rpartition(b"refused")[0]
@@ -128,13 +180,45 @@ def check_whole_limits(programs):
 
 
 def check_end(programs):
-    source = os.path.join(programs.folder, "end.c")
-    with open(source, "w", encoding="ascii") as file:
-        file.write(END_OF_A_LONG_LIST)
-    same("the end of a list slice of 16,777,217 bytes", made([programs.built("end", source)]), b"16777216 0\n")
+    same("the end of a list slice of 16,777,217 bytes", made([programs.written("end", END_OF_A_LONG_LIST)]), b"16777216 0\n")
 
 
-CHECKS = check_header, check_version, check_needs, check_list, check_answers, check_print, check_whole_limits, check_end
+def text_size(length, full):
+    """How long the text of so many bytes of equal entries is, or none where they are no list."""
+    count = length // len(ENTRY)
+    last = "refused 12\n" if full else f"total {count} 0 0 0 {'found' if count else 'none'}\n"
+    return None if length > LIST_LIMIT or length % len(ENTRY) else count * len("reach 6 1 0\n") + len(last)
+
+
+def numbers(data):
+    return ", ".join(map(str, data))
+
+
+def text_line(length, full, room):
+    """What the program of TEXTS has to print."""
+    size = text_size(length, full)
+    if size is None:
+        return "14 0 14 0 kept\n"
+    return f"0 {size} " + (f"0 {size} kept\n" if size <= room else "13 0 kept\n")
+
+
+def check_texts(programs):
+    lengths = [0, 1, 7, 8, 9, 15, 16, 8000, LIST_LIMIT - 8, LIST_LIMIT - 1, LIST_LIMIT, LIST_LIMIT + 1, LIST_LIMIT + 8]
+    calls = []
+    for length in lengths:
+        for full in (0, 1):
+            size = text_size(length, full) or 0
+            calls += [(length, full, room) for room in sorted({0, max(size - 1, 0), size, size + 1, size + 100})]
+    source = TEXTS.replace("FILE", numbers(stored("examples", "p.rule"))).replace("ENTRY", numbers(ENTRY))
+    lines = "".join(f"{length} {full} {room}\n" for length, full, room in calls)
+    said = made([programs.written("texts", source)], input=lines.encode()).decode().splitlines(True)
+    same("how many calls were made", len(said), len(calls))
+    for (length, full, room), line in zip(calls, said):
+        same(f"the answers for {length} bytes, full {full}, a slice of {room}", line, text_line(length, full, room))
+
+
+CHECKS = (check_header, check_version, check_needs, check_list, check_answers, check_text_of_the_page, check_print, check_whole_limits, check_end,
+          check_texts)
 
 
 def main():

@@ -1,10 +1,11 @@
 """Checks docs/FORMAT.md: its dumps are the bytes of examples/p.rule, of an input that the blind side runs and of the list that it gives; the
-steps of that run, the limits, the marks of entries and the answers of the calls for C are those of the blind side. The exit status
-is 1 where anything differs, and where the page lacks what is to be compared."""
+steps of that run, the limits, the marks of entries, the answers of the calls for C and the text of the list are those of the blind side.
+The exit status is 1 where anything differs, and where the page lacks what is to be compared."""
 
 import os
 import re
 import sys
+from functools import partial
 
 sys.dont_write_bytecode = True
 
@@ -12,7 +13,8 @@ from blind.build import con, fn, go, let, target, ty
 from blind.compare import Different, same
 from blind.enumerate import MARKS, search
 from blind.evaluate import Outcome, run
-from blind.rulefile import RANGE, check
+from blind.handed import text_length, write_text
+from blind.rulefile import RANGE, Refused, check
 from make_boundary import file_of_size
 
 ROOT = os.path.dirname(os.path.dirname(os.path.abspath(__file__)))
@@ -188,16 +190,55 @@ def check_answers(page):
     check_numbers(text)
     lines = only("the answers of the calls", blocks(text))
     same("the calls", sorted({line.split()[0].rstrip(",") for line in lines}), ["check", "entry", "run", "search"])
+    check_lines(lines, partial(answer, data))
+
+
+def called(line):
+    """The call that a line is about."""
+    return re.split(r"  +", line.strip())[0]
+
+
+def check_lines(lines, answer_of):
     for line in lines:
-        call = re.split(r"  +", line.strip())[0]
-        number, said = answer(data, call)
+        call = called(line)
+        number, said = answer_of(call)
         same(f"the line of '{call}'", line, f"    {call:<19} {f'0x{number:X}':<12} {said}")
+
+
+# The text.
+
+TEXT_CALLS = ["length", "length, full", "length of 8 bytes", "text, 33 bytes", "text, 64 bytes"]
+
+
+def packed_text(data, listed, call):
+    """What a text call answers for the list of P: a length is that of its front where so many bytes are named, a text goes to such a slice."""
+    number = [int(digits) for digits in re.findall(r"\d+", call)]
+    try:
+        if call.startswith("length"):
+            length = text_length(data, listed[:number[0]] if number else listed, call.endswith("full"))
+        else:
+            length = write_text(data, listed, False, bytearray(number[0]))
+    except Refused as refused:
+        return refused.number, f"refusal {refused.number}, 0 bytes"
+    return 65536 * length, f"refusal 0, {length} bytes"
+
+
+def check_text(page):
+    data, text = stored("examples", "p.rule"), section(page, "The text of a list")
+    listed, lent = search(data, WORDS, 64).record(), bytearray(64)
+    length = write_text(data, listed, False, lent)
+    same("the length of the text", re.findall(r"The text of the list of P has (\d+) bytes", text), [str(length)])
+    shown = only("the text of a list", [block for block in blocks(text) if block[0].startswith("    reach ")])
+    same("the text of the list of P", "".join(line[4:] + "\n" for line in shown), lent[:length].decode())
+    lines = only("the answers of the text calls", [block for block in blocks(text) if block[0].startswith("    length ")])
+    same("the text calls", [called(line) for line in lines], TEXT_CALLS)
+    check_lines(lines, partial(packed_text, data, listed))
 
 
 def main():
     page = stored("docs", "FORMAT.md").decode()
     wrong = 0
-    for part in check_rule_file, check_input, check_list, check_limits, check_answers:
+    for part in check_rule_file, check_input, check_list, check_limits, check_answers, check_text:
         try:
             part(page)
         except Different as different:

@@ -1,5 +1,5 @@
 """Tests `make install`: into a new folder it puts the files that it should, and no others; pkg-config finds header and library there, and
-the C example that is built by what it says prints the list of examples/p.rule; the command says its help and lists a text, and the tool beside it builds
+the C examples that are built by what it says print the list of examples/p.rule; the command says its help and lists a text, and the tool beside it builds
 a rule file; a second `make install` proves and builds nothing; `make uninstall` leaves no file.
 
 It needs make, gcc, pkg-config, and what `make build` needs. The exit status is 1 where anything differs.
@@ -13,7 +13,7 @@ from tempfile import TemporaryDirectory
 sys.dont_write_bytecode = True
 
 from blind.compare import Different, same
-from check_c import ROOT, call, stored
+from check_c import PRINTING, ROOT, call, stored
 
 FILES = {
     "bin/remburai", "include/remburai.h", "lib/libremburai.a", "lib/pkgconfig/remburai.pc", "lib/remburai/rule",
@@ -47,10 +47,11 @@ def wanted():
 def check_program(prefix):
     words = dict(os.environ, PKG_CONFIG_PATH=os.path.join(prefix, "lib", "pkgconfig"))
     flags = made(["pkg-config", "--cflags", "--libs", "remburai"], env=words).decode().split()
-    program = os.path.join(prefix, "print")
-    made(["gcc", "-o", program, os.path.join(ROOT, "examples", "c", "print.c"), *flags])
-    same("what the program prints", made([program], input=stored("examples", "p.rule")), stored("tests", "reachlist", "p.out"))
-    os.remove(program)
+    for name in PRINTING:
+        program = os.path.join(prefix, name)
+        made(["gcc", "-o", program, os.path.join(ROOT, "examples", "c", name + ".c"), *flags])
+        same(f"what {name} prints", made([program], input=stored("examples", "p.rule")), stored("tests", "reachlist", "p.out"))
+        os.remove(program)
 
 
 def check_tools(prefix):

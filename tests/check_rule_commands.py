@@ -185,13 +185,14 @@ def check_show():
 
 # names
 
-LINES = b"reach 6 1 1 _\nmissing 7 1 0\nunfinished 20 0\ntotal 1 1 1 50 found\nrefused 12\n"
-NAMED = b"reach 6  suc (suc _)\nmissing 7  suc zero\nunfinished 20  zero\ntotal 1 1 1 50 found\nrefused 12 full\n"
+LINES = b"reach 6 1 1 _\nmissing 7 1 0\nunfinished 20 0\ntotal 1 1 1 50 found\nrefused 12\nrefused 14\n"
+NAMED = b"reach 6  suc (suc _)\nmissing 7  suc zero\nunfinished 20  zero\ntotal 1 1 1 50 found\nrefused 12 full\nrefused 14 scrap\n"
 OBJECTS = b"""{"kind":"reach","steps":6,"parameters":["suc (suc _)"]}
 {"kind":"missing","steps":7,"parameters":["suc zero"]}
 {"kind":"unfinished","steps":20,"parameters":["zero"]}
 {"reach":1,"unfinished":1,"missing":1,"share":50,"verdict":"found"}
 {"refused":12}
+{"refused":14}
 """
 
 BAD_LINES = [
@@ -205,7 +206,7 @@ BAD_LINES = [
     ("missing 6 _ _", "the entry is too long for the rule"),
 ] + [(line, "this is no line of reachlist") for line in ("reach", "reach x 1", "reached", "missing", "missing x 1", "missed 6 1 1 _", "",
                                                           "total 1 0 0 0 lost", "total 1 0 x 0 found", "totals 1 0 0 0 found", "refused 0",
-                                                          "refused 13", "refused")
+                                                          "refused 15", "refused")
      ] + [(line, f"the total has {words} and not 6: total REACH UNFINISHED MISSING SHARE VERDICT") for line, words in
           (("total 1 0 0 found", "5 words"), ("total 1 0 0 0", "5 words"), ("total 1 0 0 0 0 found", "7 words"), ("total", "1 word"),
            ("total " + "9" * 5000, "2 words"))]
@@ -217,7 +218,7 @@ def check_names():
     command("each kind of line", run("names", "p.txt", stdin=LINES), (0, NAMED, ""))
     status, output, report = run("names", "--json", "p.txt", stdin=LINES)
     command("names --json", (status, report, output), (0, "", OBJECTS))
-    compare("JSON", [json.loads(line).get("verdict") for line in output.splitlines()], [None, None, None, "found", None])
+    compare("JSON", [json.loads(line).get("verdict") for line in output.splitlines()], [None, None, None, "found", None, None])
     command("a depth that the text has not", run("names", "p.txt", stdin=b"reach 6 1 1 1 1 1 _\n"),
             (0, b"reach 6  suc (suc (suc (suc (suc _))))\n", ""))
     for line, message in BAD_LINES:

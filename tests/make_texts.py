@@ -1,24 +1,38 @@
 """Makes the lists that the program printing_vectors prints, with the texts of the blind side.
 
-Its stdin has per case a byte, 1 where refusal 12 cut the list short and else 0, and the list behind its two-byte length, low
-byte first; its stdout has the texts one behind the other. With --check nothing is written, and the exit status is 1 where the
-stored files differ. Either way it is 1 where a wrong total line of `blind.wrong` would show in too few texts.
+Its stdin has two kinds of cases; numbers of more than one byte have the low byte first. A list alone is a byte, 1 where refusal
+12 cut the list short and else 0, and the list behind its two-byte length. A list handed in with its rule file is a byte, 3 where the
+search ended in 12 and else 2, the rule file and the list, each behind its two-byte length, and the length of the text slice in three
+bytes. Before the calls every byte of that slice is `.`.
+
+Its stdout has for a list alone its text. For a list handed in it has two lines, `length` with the answer of the call that gives the
+text's length and `text` with that of the writer, each the length or `refused` and the number; then all bytes of the text slice and a
+line feed.
+
+With --check nothing is written, and the exit status is 1 where the stored files differ. Either way it is 1 where a wrong total line
+of `blind.wrong` would show in too few texts, or a misreading of `blind.misread` in too few of the lists handed in.
 """
 
 import random
 import sys
+from collections import Counter
+from functools import partial
 from itertools import permutations, zip_longest
 
+import handed_lists
 from blind.build import random_program, two
 from blind.compare import same
 from blind.enumerate import MARKS, Entry, Listing, TooMany, printed, search, tally, verdict
 from blind.evaluate import MISSING, REACHED, UNFINISHED
-from blind.wrong import TOTALS, too_few
+from blind.handed import Handed
+from blind.misread import MISREADINGS
+from blind.rulefile import PAGE, Refused
+from blind.wrong import TOTALS, changes, too_few
 from vectors import store
 
 P = bytes.fromhex("545902000100464E01000017000300000001020000010300000101020000010507020000474F0007041400")
 
-ENOUGH = 10  # texts that a wrong total line changes
+ENOUGH = 10  # texts that a wrong total line changes, and lists handed in whose output a misreading changes
 
 CASES = []  # list, cut short, text
 TOTAL_LINES = []  # of each complete list of whole entries their numbers by kind, and the line
@@ -102,20 +116,79 @@ def random_lists(rng, count):
             count -= 1
 
 
+# Lists handed in with their rule files.
+
+def answered(call, *lent):
+    """The answer of a text call: a length, or a refusal."""
+    try:
+        return str(call(*lent))
+    except Refused as refused:
+        return f"refused {refused.number}"
+
+
+def output(handed, rule_file, data, full, room):
+    """What the program prints for a list handed in; `handed` is `Handed` or a misreading of it."""
+    given, lent = handed(rule_file, data, full), bytearray(b"." * room)
+    lines = f"length {answered(given.length)}\ntext {answered(given.write, lent)}\n"
+    return lines.encode() + lent + b"\n"
+
+
+def agreeing(case, made):
+    """Fails where the output is not the one stated with the case."""
+    if case.answer is None:
+        return
+    length, text = (line.decode().split(" ", 1)[1] for line in made.split(b"\n", 2)[:2])
+    number = int(text.split()[1]) if text.startswith("refused") else 0
+    same(f"what the writer answers for {case}", number, case.answer)
+    same(f"whether both calls answer alike for {case}", length == text, number != PAGE)
+    if number:
+        same(f"what a refused call leaves for {case}", made.split(b"\n", 2)[2], b"." * case.room + b"\n")
+
+
+def record(case):
+    """The case in the program's stdin."""
+    return (bytes([2 + case.full]) + two(len(case.rule_file)) + case.rule_file + two(len(case.data)) + case.data
+            + case.room.to_bytes(3, "little"))
+
+
+def handed_in():
+    """The cases, and the output of each."""
+    cases = handed_lists.make()
+    outputs = [output(Handed, *case.asked()) for case in cases]
+    for case, made in zip(cases, outputs):
+        agreeing(case, made)
+    same("text slices longer than the program's", [case.room for case in cases if case.room > handed_lists.MOST_ROOM], [])
+    return cases, outputs
+
+
+def report(cases, misread):
+    print(len(CASES), "lists,", ", ".join(f"{sum(counts[number] > 0 for counts, _ in TOTAL_LINES)} with {end} ones"
+                                          for number, end in enumerate(MARKS)))
+    print(len(cases), "lists handed in with their rule files")
+    for group, number in Counter(case.group for case in cases).items():
+        print(f"{number:6}  {group}")
+    print("outputs that a misreading changes")
+    for error, number in misread.items():
+        print(f"{number:6}  {error}")
+
+
 def main():
     same("the marks of entries", set(MARKS.values()), {b"RE", b"UN", b"MI"})
     examples()
     shapes()
     broken()
     random_lists(random.Random(3), 200)
-    stdin = b"".join(bytes([cut_short]) + two(len(record)) + record for record, cut_short, _ in CASES)
+    cases, outputs = handed_in()
+    asked = [(case.asked(), made) for case, made in zip(cases, outputs)]
+    misread = changes({error: partial(output, handed) for error, handed in MISREADINGS.items()}, asked)
     if not sys.argv[1:]:
-        print(len(CASES), "lists,", ", ".join(f"{sum(counts[number] > 0 for counts, _ in TOTAL_LINES)} with {end} ones"
-                                              for number, end in enumerate(MARKS)))
-    wrong = too_few(TOTALS, TOTAL_LINES, ENOUGH)
+        report(cases, misread)
+    wrong = too_few(TOTALS, TOTAL_LINES, ENOUGH) + [f"changes {number} outputs: {error}" for error, number in misread.items() if number < ENOUGH]
     for fault in wrong:
         print(f"printing_vectors: {fault}", file=sys.stderr)
-    return 1 if wrong else store("printing_vectors", stdin, "".join(text for _, _, text in CASES).encode(), sys.argv[1:])
+    stdin = b"".join(bytes([cut_short]) + two(len(record_)) + record_ for record_, cut_short, _ in CASES) + b"".join(map(record, cases))
+    stdout = "".join(text for _, _, text in CASES).encode() + b"".join(outputs)
+    return 1 if wrong else store("printing_vectors", stdin, stdout, sys.argv[1:])
 
 
 if __name__ == "__main__":

@@ -1,11 +1,12 @@
-//! Where the plain search and the library differ, and where their closed runs do.
+//! Where the plain search and the library differ, and where their closed runs and their texts do.
 use crate::blind::{completions, enumerate, sample, Counts};
 use crate::closed::{input_bytes, run, Ran};
 use crate::machine::Stop;
 use crate::problems::{steps_of, Problem, Stored};
 use crate::program::Program;
 use crate::search::search;
-use remburai::{work_words, Kind, Listed, Outcome, SearchError, Verdict};
+use crate::text::{text_length, write_text};
+use remburai::{work_words, Kind, Listed, Outcome, Refusal, SearchError, Verdict};
 
 /// The library's list of an accepted rule file, in a work slice and a list slice that are large enough.
 pub fn library_list(file: &[u8]) -> Result<(Vec<u8>, Verdict), SearchError> {
@@ -50,7 +51,7 @@ pub fn compare_problem(problem: &Problem, most_inputs: u64) -> Result<bool, Stri
     Ok(true)
 }
 
-/// Compares the lists of a stored case, also one that is cut short. The result is whether the case has a list.
+/// Compares the lists of a stored case, also one that is cut short, and their texts. The result is whether the case has a list.
 pub fn compare_stored(case: &Stored) -> Result<bool, String> {
     let mut work = vec![0; case.words];
     let mut list = vec![0; case.room];
@@ -65,7 +66,9 @@ pub fn compare_stored(case: &Stored) -> Result<bool, String> {
         None => &plain[..front(&plain, case.room)],
     };
     let cut = due.len() < plain.len();
+    let printed = compare_text(&case.file, &list[..length], verdict.is_none())?;
     if &list[..length] != due
+        || !printed
         || cut != verdict.is_none()
         || verdict.is_some_and(|given| given != verdict_of(due))
     {
@@ -85,6 +88,27 @@ fn front(list: &[u8], room: usize) -> usize {
         length += size;
     }
     length
+}
+
+/// Compares the texts of a list that is handed in with an accepted rule file, and their lengths. The result is whether the list fits it.
+pub fn compare_text(file: &[u8], list: &[u8], full: bool) -> Result<bool, String> {
+    let mut plain = vec![];
+    let fits = write_text(file, list, full, &mut plain);
+    let lengths = match fits {
+        true => (Ok(plain.len()), Some(plain.len())),
+        false => (Err(Refusal::BadList), None),
+    };
+    let library = remburai::list_text(file, list, full).map(String::into_bytes);
+    if lengths
+        != (
+            remburai::text_length(file, list, full),
+            text_length(file, list, full),
+        )
+        || library.unwrap_or_default() != plain
+    {
+        return Err(format!("the plain text is another: {file:02x?}"));
+    }
+    Ok(fits)
 }
 
 /// Compares the runs of an accepted rule file on at most so many of its closed inputs, at equal distances in the enumeration. The result is

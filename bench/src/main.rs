@@ -1,11 +1,15 @@
 //! Prints the benchmark's tables. README.md says what they show.
 use bench::blind::Counts;
 use bench::closed::{longest_run, run, ClosedRun};
-use bench::compare::{compare_problem, compare_run, compare_runs, compare_stored, library_list};
-use bench::measure::{measure, measure_runs, Times, ROUNDS};
+use bench::compare::{
+    compare_problem, compare_run, compare_runs, compare_stored, compare_text, library_list,
+};
+use bench::long::LongList;
+use bench::measure::{measure, measure_runs, measure_texts, Times, ROUNDS};
 use bench::problems::{depth_of, problems, steps_of, stored, with_depth, with_unused, Problem};
 use bench::program::Program;
 use bench::search::search;
+use bench::text::text_length;
 use remburai::Verdict;
 use std::process::exit;
 
@@ -25,6 +29,7 @@ fn main() {
     let problems = problems().unwrap_or_else(|error| stop(&error.to_string()));
     compare_lists(&problems);
     let runs = closed_runs(&problems);
+    let lists = long_lists(&problems);
     println!("Times: medians of {ROUNDS} interleaved rounds; at most {MOST_INPUTS} closed inputs are run.\n");
     print_problems(&problems);
     let growing = problems.iter().find(|problem| problem.name == GROWING);
@@ -35,6 +40,7 @@ fn main() {
     let largest = print_sizes(growing);
     print_runs(&runs);
     print_largest(&largest);
+    print_texts(&lists);
 }
 
 fn stop(why: &str) -> ! {
@@ -53,6 +59,24 @@ fn compare_lists(problems: &[Problem]) {
         .filter(|case| compare_stored(case).unwrap_or_else(|why| stop(&why)));
     let (problems, stored) = (problems.len(), compared.count());
     println!("Equal lists: {problems} problems and {stored} stored searches.");
+}
+
+/// The long lists to be measured, their texts compared too.
+fn long_lists(problems: &[Problem]) -> Vec<LongList<'_>> {
+    let mut lists = vec![];
+    for problem in problems {
+        let list = LongList::of(problem).unwrap_or_else(|error| stop(&error.to_string()));
+        lists.extend(list);
+    }
+    for LongList { problem, list } in &lists {
+        match compare_text(&problem.file, list, false) {
+            Ok(true) => {}
+            Ok(false) => stop("a long list does not fit"),
+            Err(why) => stop(&why),
+        }
+    }
+    println!("Equal texts: {} long lists.", lists.len());
+    lists
 }
 
 /// The closed runs to be measured, compared too: without equal runs there are no times.
@@ -227,6 +251,34 @@ fn print_runs(runs: &[ClosedRun]) {
             time_columns(steps as u64, times)
         );
     }
+}
+
+/// The text of a long list: its length, and its writing.
+fn print_texts(lists: &[LongList]) {
+    println!("\n| Text of a long list | Bytes of the list | Entries | Bytes of the text | Length, library, ns a byte | Length, plain, ns a byte | Library / plain | Writing, library, ns a byte | Writing, plain, ns a byte | Library / plain |");
+    println!("|---|--:|--:|--:|--:|--:|--:|--:|--:|--:|");
+    for (LongList { problem, list }, [length, writing]) in lists.iter().zip(measure_texts(lists)) {
+        let bytes = list.len();
+        println!(
+            "| {} | {bytes} | {} | {} | {} | {} |",
+            problem.name,
+            remburai::entries(list).count(),
+            text_length(&problem.file, list, false).expect("it fits"),
+            byte_columns(bytes, &length),
+            byte_columns(bytes, &writing),
+        );
+    }
+}
+
+/// Nanoseconds for each byte of a list, of the library and of the plain side, and their ratio.
+fn byte_columns(bytes: usize, times: &Times) -> String {
+    let each = |seconds: f64| seconds * 1e9 / bytes as f64;
+    format!(
+        "{:.2} | {:.2} | {:.2}",
+        each(times.library),
+        each(times.plain),
+        times.library / times.plain
+    )
 }
 
 fn print_largest(largest: &Checked) {

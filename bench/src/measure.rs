@@ -1,9 +1,11 @@
 //! Times of the library, the plain side and the blind enumeration, in interleaved rounds.
 use crate::blind::{enumerate, Counts};
 use crate::closed::{run, ClosedRun};
+use crate::long::LongList;
 use crate::problems::steps_of;
 use crate::program::Program;
 use crate::search::search;
+use crate::text::{text_length, write_text};
 use remburai::{work_words, Outcome, LIST_LIMIT, STEP_LIMIT};
 use std::hint::black_box;
 use std::time::Instant;
@@ -84,6 +86,53 @@ pub fn measure_runs(runs: &[ClosedRun]) -> Vec<Times> {
     interleaved(&repeated, |(closed, times)| {
         one_round_of_run(closed, *times, &mut library)
     })
+}
+
+/// The text slices of the library and of the plain side, each of which holds every text.
+struct Slices {
+    library: Vec<u8>,
+    plain: Vec<u8>,
+}
+
+/// Measures long lists: in each round every one, and for each the length of its text, then the text, by the library, its check alone, and
+/// plainly.
+pub fn measure_texts(lists: &[LongList]) -> Vec<[Times; 2]> {
+    let most = 4 * LIST_LIMIT + 64;
+    let mut slices = Slices {
+        library: vec![1; most],
+        plain: Vec::with_capacity(most),
+    };
+    let calls: Vec<(&LongList, bool)> = lists
+        .iter()
+        .flat_map(|list| [(list, false), (list, true)])
+        .collect();
+    let times = interleaved(&calls, |(list, writing)| match writing {
+        true => one_round_of_text(list, &mut slices),
+        false => one_round_of_length(list),
+    });
+    times.chunks(2).map(|pair| [pair[0], pair[1]]).collect()
+}
+
+fn one_round_of_length(long: &LongList) -> Times {
+    let (file, list) = (&long.problem.file, &long.list);
+    Times {
+        library: seconds(1, || remburai::text_length(file, list, false)),
+        check: seconds(1, || remburai::check(file)),
+        plain: seconds(1, || text_length(file, list, false)),
+        blind: None,
+    }
+}
+
+fn one_round_of_text(long: &LongList, slices: &mut Slices) -> Times {
+    let (file, list) = (&long.problem.file, &long.list);
+    Times {
+        library: seconds(1, || {
+            remburai::write_text(file, list, false, &mut slices.library)
+        }),
+        check: seconds(1, || remburai::check(file)),
+        plain: seconds(1, || write_text(file, list, false, &mut slices.plain)),
+        blind: None,
+    }
 }
 
 /// Measures every subject once in each round. The results are the medians of each.

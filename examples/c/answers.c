@@ -16,6 +16,7 @@ static const uint8_t file[] = {
 };
 static uint32_t work[REMBURAI_WORK_WORDS(20)]; /* its S is 20 */
 static uint8_t list[64];
+static uint8_t text[64];
 
 static void print_number(const char *call, uint64_t answer) { printf("%-19s 0x%-10" PRIX64 " ", call, answer); }
 
@@ -39,6 +40,20 @@ static void print_entry(const char *call, size_t list_length, size_t number) {
     printf("place %zu, size %zu\n", remburai_entry_place(answer), remburai_entry_size(answer));
 }
 
+static void print_text_answer(const char *call, uint64_t answer) {
+    print_number(call, answer);
+    printf("refusal %u, %zu bytes\n", remburai_refusal(answer), remburai_text_bytes(answer));
+}
+
+/* The text of the list, whose length is 9: its length, then the text itself. */
+static void print_texts(void) {
+    print_text_answer("length", remburai_text_length(file, sizeof file, list, 9, false));
+    print_text_answer("length, full", remburai_text_length(file, sizeof file, list, 9, true));
+    print_text_answer("length of 8 bytes", remburai_text_length(file, sizeof file, list, 8, false));
+    print_text_answer("text, 33 bytes", remburai_write_text(file, sizeof file, list, 9, false, text, 33));
+    print_text_answer("text, 64 bytes", remburai_write_text(file, sizeof file, list, 9, false, text, sizeof text));
+}
+
 int main(void) {
     static const uint8_t two[] = {1, 1, 0}, zero[] = {0}, stranger[] = {2};
     uint64_t answer = remburai_check(file, sizeof file);
@@ -51,5 +66,6 @@ int main(void) {
     print_run("run on 01 01 00", two, sizeof two);
     print_run("run on 00", zero, sizeof zero);
     print_run("run on 02", stranger, sizeof stranger);
+    print_texts();
     return fflush(stdout) != 0 || ferror(stdout);
 }

@@ -1,4 +1,5 @@
-/* Prints the list of the rule file on standard input, line for line as `reachlist` does. From the root of the repository:
+/* Prints the list of the rule file on standard input, line for line as `reachlist` does, and takes the list apart itself for that;
+ * text.c leaves that to the library. From the root of the repository:
  *
  *     rt staticlib remburai
  *     gcc -O2 -Wall -Wextra -I include -o target/print examples/c/print.c target/staticlib/libremburai.a

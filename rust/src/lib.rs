@@ -1,18 +1,19 @@
-//! Safe calls to Remburai, the case finder: the check of a rule file, its search, a run on one closed input, and the entries of a list.
+//! Safe calls to Remburai, the case finder: the check of a rule file, its search, a run on one closed input, the entries of a list, and
+//! the printed text of a list, with its length beforehand.
 //!
 //! The calls stand in a static library whose functions are proved, for every content and every length of the slices: they stop, stay
 //! inside the slices, and give the answer that their definition gives. This crate passes slices to them and takes their answers, one
-//! number each, apart. The calls allocate nothing; [`Rule`] and [`Part`], which read what stands in the bytes, do.
+//! number each, apart. The calls allocate nothing; [`Rule`] and [`Part`], which read what stands in the bytes, and [`list_text`] do.
 //!
-//! Calls share nothing and keep nothing: they may run at the same time in any number of threads, each with a work slice and a list slice
-//! of its own, also on one file. Every type of this crate is [`Send`] and [`Sync`]. A call needs up to 256 KiB of stack.
+//! Calls share nothing and keep nothing: they may run at the same time in any number of threads, each with the slices of its own that it
+//! writes to, also on one file. Every type of this crate is [`Send`] and [`Sync`]. A call needs up to 256 KiB of stack.
 //!
 //! A search stops, but it may take years, and nothing ends it before its answer: what bounds it is the number of partial inputs up to
 //! depth D that S steps can tell apart. So let a caller choose D and S, and run a search of unknown length in a thread or a process that
 //! can be given up. A run takes at most S steps, and reads its whole input, whatever its length.
 //!
 //! ```
-//! use remburai::{check, entries, run, search, work_words, Kind, Outcome, Rule, Verdict};
+//! use remburai::{check, entries, list_text, run, search, work_words, Kind, Outcome, Rule, Verdict};
 //!
 //! let file = b"TY\x02\x00\x01\x00FN\x01\x00\x00\x17\x00\x03\x00\x00\x00\x01\x02\x00\x00\x01\x03\x00\x00\x01\x01\x02\x00\x00\x01\x05\x07\x02\x00\x00GO\x00\x07\x04\x14\x00";
 //! assert_eq!(check(file), Ok(()));
@@ -30,17 +31,23 @@
 //! assert_eq!(entry.to_string(), "reach 6 1 1 _");
 //! assert_eq!(entry.parts(&rule).unwrap()[0].to_string(), "1 1 _");
 //!
+//! // The whole list, as `reachlist` prints it.
+//! let text = list_text(file, &list[..listed.length], false).unwrap();
+//! assert_eq!(text, "reach 6 1 1 _\ntotal 1 0 0 0 found\n");
+//!
 //! assert_eq!(run(file, &[1, 1, 0], &mut work), Ok(Outcome::Reached(6)));
 //! ```
 
 mod list;
 mod refusal;
 mod rule;
+mod text;
 
 pub use list::{entries, Entries, Entry, Kind, Part, Total};
 pub use refusal::Refusal;
 pub use rule::{Goal, Rule};
 use std::fmt;
+pub use text::{list_text, text_length, write_text};
 
 /// The version of this crate, which is that of the library and of its header.
 pub const VERSION: &str = env!("CARGO_PKG_VERSION");
@@ -72,7 +79,7 @@ pub const FILE_LIMIT: usize = 16_384;
 /// The largest step limit S.
 pub const STEP_LIMIT: usize = 4_096;
 
-/// How many bytes of a list slice count.
+/// How many bytes of a list slice count, which is also the most bytes of a list that has a text.
 pub const LIST_LIMIT: usize = 16_777_216;
 
 /// The words of work slice that a search or a run with step limit `steps` needs: 64 × S + 1,024.

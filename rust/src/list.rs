@@ -67,7 +67,7 @@ impl<'l> Entry<'l> {
     }
 
     /// The parameters as trees, one for each parameter of the rule's source. `None` where they are not of the rule's types, or deeper
-    /// than its depth; the entries of the rule's own list always are, and no deeper.
+    /// than its depth, an open part being as deep as its type's least depth; the entries of the rule's own list always are, and no deeper.
     ///
     /// ```
     /// use remburai::{entries, Part, Rule};
@@ -133,7 +133,7 @@ fn part(rule: &Rule, of: u8, room: u8, rest: &mut &[u8]) -> Option<Part> {
     let (&first, behind) = rest.split_first()?;
     *rest = behind;
     if first == OPEN {
-        return Some(Part::Open);
+        return (rule.least_depth(of)? <= room).then_some(Part::Open);
     }
     let fields = row(rule, rule.fields(of, first)?, below, rest)?;
     Some(Part::Bound(first, fields))

@@ -24,15 +24,20 @@ pub enum Refusal {
     DepthTooSmall = 9,
     /// 10, of [`run`](crate::run) only: the bytes are not one closed, fitting value per parameter.
     BadInput = 10,
-    /// 11: the work slice is shorter than [`work_words`](crate::work_words) of S.
+    /// 11, of [`search`](crate::search) and [`run`](crate::run): the work slice is shorter than [`work_words`](crate::work_words) of S.
     WorkTooShort = 11,
     /// 12, of [`search`](crate::search) only: the next entry does not fit the list slice.
     ListFull = 12,
+    /// 13, of [`write_text`](crate::write_text) only: the text slice is shorter than the text.
+    TextTooShort = 13,
+    /// 14, of [`text_length`](crate::text_length) and [`write_text`](crate::write_text): the list has more than
+    /// [`LIST_LIMIT`](crate::LIST_LIMIT) bytes, or is not whole entries that fit the rule file.
+    BadList = 14,
 }
 
 impl Refusal {
     /// All refusals, in the order of their numbers.
-    pub const ALL: [Refusal; 12] = [
+    pub const ALL: [Refusal; 14] = [
         Refusal::Truncated,
         Refusal::UnexpectedMark,
         Refusal::OutOfRange,
@@ -45,9 +50,11 @@ impl Refusal {
         Refusal::BadInput,
         Refusal::WorkTooShort,
         Refusal::ListFull,
+        Refusal::TextTooShort,
+        Refusal::BadList,
     ];
 
-    /// The number of the refusal, 1 to 12.
+    /// The number of the refusal, 1 to 14.
     pub const fn number(self) -> u8 {
         self as u8
     }
@@ -67,6 +74,8 @@ impl Refusal {
             Refusal::BadInput => "input",
             Refusal::WorkTooShort => "bench",
             Refusal::ListFull => "full",
+            Refusal::TextTooShort => "page",
+            Refusal::BadList => "scrap",
         }
     }
 
@@ -89,6 +98,10 @@ impl Refusal {
             Refusal::BadInput => "the bytes are not one closed, fitting value per parameter",
             Refusal::WorkTooShort => "the work slice is too short",
             Refusal::ListFull => "the next entry does not fit the list slice",
+            Refusal::TextTooShort => "the text slice is shorter than the text",
+            Refusal::BadList => {
+                "the list is longer than 16777216 bytes, or not whole entries that fit the rule file"
+            }
         }
     }
 

@@ -26,6 +26,7 @@ pub struct Goal {
 /// assert_eq!(rule.parameters(), [0]);
 /// assert_eq!(rule.fields(0, 1), Some(&[0][..]));
 /// assert_eq!(rule.fields(0, 2), None);
+/// assert_eq!(rule.least_depth(0), Some(1));
 ///
 /// assert_eq!(Rule::read(b"FN"), Err(Refusal::UnexpectedMark));
 /// ```
@@ -33,6 +34,8 @@ pub struct Goal {
 pub struct Rule {
     /// Per type and constructor the types of its fields.
     types: Vec<Vec<Vec<u8>>>,
+    /// The least depth of each type.
+    least: Vec<u8>,
     /// The types of the source's parameters.
     parameters: Vec<u8>,
     goal: Goal,
@@ -60,6 +63,25 @@ impl Rule {
         let constructors = self.types.get(of as usize)?;
         constructors.get(constructor as usize).map(Vec::as_slice)
     }
+
+    /// The least depth of a type, that of its shallowest closed value, where there is such a type. An open part counts as so deep.
+    pub fn least_depth(&self, of: u8) -> Option<u8> {
+        self.least.get(of as usize).copied()
+    }
+}
+
+/// The least depth of each type. Each turn finds those that are one deeper than what the turn before found; every type has one.
+fn least_depths(types: &[Vec<Vec<u8>>]) -> Vec<u8> {
+    let mut least = vec![u8::MAX; types.len()];
+    for _ in types {
+        let depth = |fields: &Vec<u8>| {
+            let deepest = fields.iter().map(|field| least[*field as usize]).max();
+            deepest.unwrap_or(0).saturating_add(1)
+        };
+        let shallowest = |constructors: &Vec<Vec<u8>>| constructors.iter().map(depth).min();
+        least = types.iter().filter_map(shallowest).collect();
+    }
+    least
 }
 
 /// Reads an accepted rule file from its front. Every byte that is asked for is there, since the check has read it.
@@ -101,6 +123,7 @@ impl<'f> Reader<'f> {
         let goal = self.goal();
         let parameters = heads.swap_remove(goal.source as usize);
         Rule {
+            least: least_depths(&types),
             types,
             parameters,
             goal,

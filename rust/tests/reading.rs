@@ -1,4 +1,8 @@
 //! Lists read and printed by the crate: the text of `reachlist` from its own calls, entries as trees, and calls at the same time.
+#[path = "shared/boxes.rs"]
+mod boxes;
+
+use boxes::boxes;
 use remburai::*;
 use std::fmt::Write;
 use std::{fs, thread};
@@ -136,6 +140,18 @@ fn parts_of_another_rule() {
     assert_eq!(parts_of(&[1, 0, 1, 0, 1, 255, 255, 0]), None);
 }
 
+/// An open part is as deep as its type's least depth, that of its shallowest closed value.
+#[test]
+fn open_parts_that_are_too_deep() {
+    let entry = entries(b"RE\x06\x00\x02\x00\x01\xFF").next().unwrap();
+    for (depth, fits) in [(1, false), (2, false), (3, true)] {
+        let rule = Rule::read(&boxes(depth)).unwrap();
+        assert_eq!(entry.parts(&rule).is_some(), fits, "{depth}");
+        let least: Vec<Option<u8>> = (0..4).map(|of| rule.least_depth(of)).collect();
+        assert_eq!(least, [Some(1), Some(2), Some(1), None]);
+    }
+}
+
 #[test]
 fn what_a_rule_file_says() {
     let rule = Rule::read(COLOURS).unwrap();
@@ -209,7 +225,8 @@ fn kinds() {
 #[test]
 fn words() {
     let words: Vec<&str> = Refusal::ALL.iter().map(|why| why.word()).collect();
-    let wanted = "short mark range stranger code misfit tail hollow shallow input bench full";
+    let wanted =
+        "short mark range stranger code misfit tail hollow shallow input bench full page scrap";
     assert_eq!(words.join(" "), wanted);
     let printed = "refused 9 shallow: a source parameter's least depth exceeds D";
     assert_eq!(Refusal::DepthTooSmall.to_string(), printed);

@@ -2,8 +2,8 @@
 //! stack; a call that needs more than the thread has ends the test by a signal.
 //!
 //! What nests: the check of a body, by its expressions, up to the one at nesting 33, which is refused; the reading of a closed input, by
-//! its depth; and the writing of an entry, by its depth and by the parameters and fields before each part: so the eighth parameter, and
-//! the last of six fields at every depth.
+//! its depth; the writing of an entry, by its depth and by the parameters and fields before each part: so the eighth parameter, and
+//! the last of six fields at every depth; and the reading of a list that is handed in, by the depth of its values.
 use remburai::*;
 use std::thread;
 
@@ -105,24 +105,46 @@ fn a_run_on_the_deepest_input() {
     });
 }
 
+/// An entry, 64 deep in the last parameter, with this behind its 63 nodes.
+fn deepest_entry(end: &[u8]) -> Vec<u8> {
+    let node = [1, 255, 255, 255, 255, 255].repeat(DEPTH as usize - 1);
+    let parameters = [&[255; PARAMETERS as usize - 1], &node[..], end].concat();
+    let mut entry = b"RE\x06\x00".to_vec();
+    entry.extend((parameters.len() as u16).to_le_bytes());
+    entry.extend(parameters);
+    entry
+}
+
+/// A node at depth 64, which makes an entry one deeper than it may be.
+const NODE: [u8; 7] = [1, 255, 255, 255, 255, 255, 255];
+
+#[test]
+fn a_text_of_the_deepest_entries() {
+    on_a_small_stack(|| {
+        let file = descent();
+        let entry = deepest_entry(&[0]);
+        let printed = entries(&entry).next().expect("an entry").to_string();
+        let text = list_text(&file, &entry.repeat(3), true);
+        assert_eq!(text, Ok(format!("{printed}\n").repeat(3) + "refused 12\n"));
+        for wrong in [&NODE[..], &[2], &[1; 1000]] {
+            let list = [entry.clone(), deepest_entry(wrong)].concat();
+            assert_eq!(list_text(&file, &list, true), Err(Refusal::BadList));
+        }
+    });
+}
+
 /// The deepest entry as trees, and printed.
 #[test]
 fn the_deepest_parts() {
     on_a_small_stack(|| {
-        let node = [1, 255, 255, 255, 255, 255].repeat(DEPTH as usize - 1);
-        let parameters = [&[255; PARAMETERS as usize - 1], &node[..], &[0]].concat();
-        let mut list = b"RE\x06\x00".to_vec();
-        list.extend((parameters.len() as u16).to_le_bytes());
-        list.extend(&parameters);
+        let list = deepest_entry(&[0]);
         let entry = entries(&list).next().expect("an entry");
         let rule = Rule::read(&descent()).expect("an accepted rule file");
         let parts = entry.parts(&rule).expect("its parameters");
         let printed: String = parts.iter().map(|part| format!(" {part}")).collect();
         assert_eq!(entry.to_string(), format!("reach 6{printed}"));
         // one deeper is none of the rule's
-        let at = list.len() - 1;
-        list.splice(at.., [1, 255, 255, 255, 255, 255, 255]);
-        list[4..6].copy_from_slice(&(parameters.len() as u16 + 6).to_le_bytes());
+        let list = deepest_entry(&NODE);
         assert_eq!(entries(&list).next().expect("an entry").parts(&rule), None);
     });
 }

@@ -1,6 +1,10 @@
-//! The stored cases of the repository, through this crate: each rule file of crates/check_vectors, each input of crates/run_vectors and
-//! each search of crates/search_vectors, with the answers that the blind side gave. Beside each `stdin` its maker in tests/ says what
-//! stands in it.
+//! The stored cases of the repository, through this crate: each rule file of crates/check_vectors, each input of crates/run_vectors, each
+//! search of crates/search_vectors and each list of crates/printing_vectors, with the answers that the blind side gave. Beside each `stdin`
+//! its maker in tests/ says what stands in it.
+#[path = "shared/printing.rs"]
+mod printing;
+
+use printing::printed;
 use remburai::*;
 use std::fs;
 
@@ -137,4 +141,38 @@ fn searches() {
         see_entries(&list[..length]);
     }
     see_lines("search_vectors", lines, 5000);
+}
+
+/// What both calls answer for a list that is handed in with its rule file, and the text slice.
+fn handed_in(file: &[u8], list: &[u8], full: bool, room: usize) -> String {
+    let shown = |answer: Result<usize, Refusal>| match answer {
+        Ok(length) => length.to_string(),
+        Err(why) => format!("refused {}", why.number()),
+    };
+    let mut text = vec![b'.'; room];
+    let length = shown(text_length(file, list, full));
+    let written = shown(write_text(file, list, full, &mut text));
+    let text = String::from_utf8(text).expect("ASCII");
+    format!("length {length}\ntext {written}\n{text}\n")
+}
+
+#[test]
+fn printed_lists() {
+    let mut cases = Cases::of("printing_vectors");
+    let mut text = String::new();
+    let mut handed = 0;
+    while cases.left() {
+        let kind = cases.number(1);
+        let full = kind % 2 == 1;
+        if kind < 2 {
+            text += &printed(&cases.part(), full);
+            continue;
+        }
+        let (file, list) = (cases.part(), cases.part());
+        text += &handed_in(&file, &list, full, cases.number(3));
+        handed += 1;
+    }
+    assert!(500 < handed, "{handed}");
+    let lines = text.lines().map(str::to_string).collect();
+    see_lines("printing_vectors", lines, 5000);
 }

@@ -1,6 +1,6 @@
 """Runs the command, whose path is the one argument, on a terminal, with a search that has no end: the time that it takes is shown from two
-seconds on, anew each second, with what an interrupt does; an interrupt ends it by its signal, and a limit with status 2; where standard
-error is no terminal nothing is shown. The exit status is 1 where anything differs.
+seconds on, anew each second, with what an interrupt does; an interrupt ends it by its signal, with nothing stored, and a limit with status 2;
+where standard error is no terminal nothing is shown. The exit status is 1 where anything differs.
 """
 
 import os
@@ -74,7 +74,14 @@ class Terminal:
 
 
 def interrupted(command, rule):
-    with Terminal([command, "list", rule]) as terminal:
+    """Nothing is stored then, nor left beside the file."""
+    with tempfile.TemporaryDirectory() as folder:
+        interrupt(command, rule, os.path.join(folder, "list"))
+        see(f"there is {os.listdir(folder)}", os.listdir(folder) == [])
+
+
+def interrupt(command, rule, file):
+    with Terminal([command, "list", rule, "--save", file]) as terminal:
         while len(set(shown_times(terminal.text))) < 2 and terminal.read():
             if len(shown_times(terminal.text)) == 1:
                 see("the time is shown before two seconds have passed", terminal.passed() >= 2)

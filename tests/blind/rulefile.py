@@ -6,7 +6,7 @@
 from dataclasses import dataclass
 from functools import lru_cache
 
-SHORT, MARK, RANGE, STRANGER, CODE, MISFIT, TAIL, HOLLOW, SHALLOW, INPUT, BENCH, FULL = range(1, 13)
+SHORT, MARK, RANGE, STRANGER, CODE, MISFIT, TAIL, HOLLOW, SHALLOW, INPUT, BENCH, FULL, PAGE, SCRAP = range(1, 15)
 
 MAX_FILE = 16384
 MAX_TYPES = 32

@@ -1,4 +1,4 @@
-"""Checks the blind side: by hand-worked examples, those of the scope paper and some that it does not show; and on random rules,
+"""Checks the blind side: by hand-worked examples, those of the papers and some that they do not show; and on random rules,
 whose lists are those of narrowing and break no demand, while those that narrowing makes with an error do. The exit status is 1
 where anything is otherwise."""
 
@@ -14,8 +14,9 @@ from blind.compare import Different, same
 from blind.demands import broken
 from blind.enumerate import Entry, Listing, TooMany, all_entries, count_inputs, reachlist, search, tally, verdict
 from blind.evaluate import MISSING, REACHED, UNFINISHED, Outcome, run
+from blind.handed import text_length, write_text
 from blind.narrow import ERRORS, Narrowing
-from blind.rulefile import Program, check, least_depths, read
+from blind.rulefile import Program, Refused, check, least_depths, read
 
 P = bytes.fromhex("54 59 02 00 01 00 46 4E 01 00 00 17 00 03 00 00 00 01 02 00 00 01 "
                   "03 00 00 01 01 02 00 00 01 05 07 02 00 00 47 4F 00 07 04 14 00")
@@ -288,6 +289,124 @@ def missing_beside_others():
     lists(NAT + called + go(depth=3), "found", mi(6, open_, 0), re(7, open_, 1, open_))
 
 
+def answer(call, *lent):
+    """What a text call gives, or the number of its refusal after a minus sign."""
+    try:
+        return call(*lent)
+    except Refused as refused:
+        return -refused.number
+
+
+def shows(rule_file, data, full, *lines):
+    """The list handed in has exactly this text; it fits a slice of just its length, and none that is shorter."""
+    text = "".join(line + "\n" for line in lines).encode()
+    what = f"the text of {data.hex()}, full {full}, for {rule_file.hex()}"
+    same(f"the length of {what}", answer(text_length, rule_file, data, full), len(text))
+    for room in (len(text), len(text) + 5):
+        lent = bytearray(b"." * room)
+        same(f"the answer with {what}", answer(write_text, rule_file, data, full, lent), len(text))
+        same(what, bytes(lent), text + b"." * (room - len(text)))
+    for room in (len(text) - 1, 1, 0):
+        lent = bytearray(b"." * room)
+        same(f"the answer with {what} in {room} bytes", answer(write_text, rule_file, data, full, lent), -13)
+        same(f"the slice after 13, {what} in {room} bytes", bytes(lent), b"." * room)
+
+
+def turns_back(number, rule_file, *lists_):
+    """Both calls refuse each of these lists by this number, whatever the room, and leave it alone."""
+    for data in lists_:
+        for full, room in ((False, 0), (False, 99), (True, 0), (True, 99)):
+            lent = bytearray(b"." * room)
+            same(f"the answers for {data.hex()}, full {full}, {room} bytes, with {rule_file.hex()}",
+                 (answer(text_length, rule_file, data, full), answer(write_text, rule_file, data, full, lent), bytes(lent)),
+                 (-number, -number, b"." * room))
+
+
+def handed_in():
+    """Worked by hand: texts of lists that need not be those of a search."""
+    one, open_ = re(6, 1, 1, 255), 255
+    shows(P, one, False, "reach 6 1 1 _", "total 1 0 0 0 found")
+    shows(P, one, True, "reach 6 1 1 _", "refused 12")
+    same("the length of P's text and of the two lines that may close it", (text_length(P, one, False), text_length(P, b"", False),
+                                                                          text_length(P, b"", True)), (14 + 20, 19, 11))
+    shows(P, b"", False, "total 0 0 0 0 none")
+    shows(P, b"", True, "refused 12")
+    # False, repeated, out of order, of UN with fewer than S steps: the counts and the verdict are those of the list.
+    shows(P, re(3, 0) + mi(20, open_), False, "reach 3 0", "missing 20 _", "total 1 0 1 0 found")
+    shows(P, one * 3, False, *["reach 6 1 1 _"] * 3, "total 3 0 0 0 found")
+    shows(P, un(5, 1, open_) + un(0, open_) + un(20, 0), False, "unfinished 5 1 _", "unfinished 0 _", "unfinished 20 0", "total 0 3 0 100 undecided")
+    shows(P, un(19, open_) + one, True, "unfinished 19 _", "reach 6 1 1 _", "refused 12")
+    shows(P, mi(6, 1, open_), False, "missing 6 1 _", "total 0 0 1 0 none")
+    # P without the alternative for zero beside its target lists these two the other way round.
+    no_zero = NAT + fn((0,), 0, case(0, var(0), con(0, 0), case(0, var(1), None, target(7, con(0, 0))))) + go(depth=4)
+    lists(no_zero, "found", mi(6, 1, 0), one)
+    shows(no_zero, one + mi(6, 1, 0), False, "reach 6 1 1 _", "missing 6 1 0", "total 1 0 1 0 found")
+    # Without parameters an entry has six bytes; with two, the second value begins where the first ends.
+    alone = BOOL + fn((), 0, con(0, 0)) + go()
+    shows(alone, re(0) + un(20) + mi(7), False, "reach 0", "unfinished 20", "missing 7", "total 1 1 1 50 found")
+    numbers = NAT + fn((0, 0), 0, var(0)) + go(depth=3)
+    shows(numbers, re(1, 1, 0, 1, 1, open_) + re(1, open_, 0), False, "reach 1 1 0 1 1 _", "reach 1 _ 0", "total 2 0 0 0 found")
+    turns_back(14, alone, re(0, 0), re(0, open_), re(0)[:5], re(0) + b"R")
+    turns_back(14, numbers, re(1, 0), re(1, 1, 0), re(1, 0, 0, 0), re(1), re(1, 0, 2), re(1, 0, 1, 1, 1, 0), re(1, 1, 1, 1, 0, 0))
+
+
+def scrap():
+    """Worked by hand: each way in which a list may be scrap for P, and the order of the refusals."""
+    one = re(6, 1, 1, 255)
+    for length in range(1, len(one)):
+        turns_back(14, P, one[:length], one + one[:length])
+    turns_back(14, P, b"XX" + one[2:], b"re" + one[2:], one + b"IM" + one[2:], one + b"\0")
+    # The length is stated in byte 4: one too long, at the end and before another entry; one too short; none.
+    turns_back(14, P, one[:4] + b"\4" + one[5:], one[:4] + b"\4" + one[5:] + one, one[:4] + b"\2" + one[5:], one[:4] + b"\0" + one[5:])
+    turns_back(14, P, re(6), re(6, 2), re(6, 1, 2), re(6, 0, 0), re(6, 1, 1, 255, 255), re(6, 1, 1))
+    # D 4 and S 20: four constructors, or three and an open part, are as deep as may be.
+    for values in ((1, 1, 1, 0), (1, 1, 1, 255)):
+        shows(P, mi(20, *values), True, "missing 20 " + " ".join(map(str, values)).replace("255", "_"), "refused 12")
+        turns_back(14, P, mi(20, 1, *values), mi(21, *values), un(21, *values), re(21, *values))
+        turns_back(14, changed(depth=3), mi(20, *values))
+        turns_back(14, changed(steps=19), mi(20, *values))
+    turns_back(14, changed(steps=0), un(1, 255), b"RE\0\1\1\0\0")
+    shows(changed(steps=256), b"RE\0\1\1\0\0", False, "reach 256 0", "total 1 0 0 0 found")
+    # The rule file first, whatever the list and the room.
+    for number, file_ in ((1, P[:-1]), (1, b""), (2, P[6:]), (3, changed(depth=65)), (4, P[:-5] + b"\1" + P[-4:]), (7, P + b"\0"), (8, HOLLOW),
+                          (9, NAT + ty((0,)) + fn((1,), 1, var(0)) + go(depth=1))):
+        turns_back(number, file_, b"", one, b"X")
+
+
+def handed_depths():
+    """Worked by hand: an open part is as deep as its type's least depth, whatever stands above it."""
+    open_ = 255
+    # Types of least depths 3, 2 and 1; type 1 is a box of type 2 or a pair of type 0.
+    three = ty((1,)) + ty((2,), (0, 0)) + ty(()) + fn((0,), 0, var(0))
+    shows(three + go(depth=3), re(1, open_), False, "reach 1 _", "total 1 0 0 0 found")
+    shows(three + go(depth=3), re(1, 0, open_), False, "reach 1 0 _", "total 1 0 0 0 found")
+    shows(three + go(depth=3), re(1, 0, 0, open_), False, "reach 1 0 0 _", "total 1 0 0 0 found")
+    # 0, then a pair, then an open part of type 0: 2 + 3. With the other one closed, 0 0 0, it is 2 + 3 as well.
+    for values, shown in (((0, 1, open_, open_), "0 1 _ _"), ((0, 1, 0, 0, 0, open_), "0 1 0 0 0 _"), ((0, 1, 0, open_, 0, 0, 0), "0 1 0 _ 0 0 0")):
+        turns_back(14, three + go(depth=4), re(1, *values))
+        shows(three + go(depth=5), re(1, *values), False, "reach 1 " + shown, "total 1 0 0 0 found")
+    # A list of boxes, of least depth 1: one open box in it makes 1 + 2, also beside an open rest, which alone makes 1 + 1.
+    boxes = ty((), (1, 0)) + ty((2,)) + ty(()) + fn((0,), 0, var(0))
+    turns_back(14, boxes + go(depth=2), re(1, 1, open_, open_), re(1, 1, open_, 0), re(1, 1, 0, open_, 0), re(1, 1, 0, 0, 0))
+    for values, shown in (((1, open_, open_), "1 _ _"), ((1, open_, 0), "1 _ 0"), ((1, 0, open_, 0), "1 0 _ 0"), ((1, 0, 0, open_), "1 0 0 _")):
+        shows(boxes + go(depth=3), re(1, *values), True, "reach 1 " + shown, "refused 12")
+    turns_back(14, boxes + go(depth=3), re(1, 1, open_, 1, open_, open_))  # 2 + 2
+
+
+def longest_list():
+    """A list of just 16,777,216 bytes is accepted, and one of whole entries that has a byte more, or an entry more, is not."""
+    # Entries of 64 bytes, 262,144 of them. A line has 124 bytes: 7, two for each of 57 constructors, 2 and the line feed; the total line 25.
+    numbers, data = NAT + fn((0,), 0, var(0)) + go(depth=64), re(6, *[1] * 57, 255) * 262144
+    same("the bytes of the longest list", len(data), 16777216)
+    same("the length of the text of the longest list", answer(text_length, numbers, data, False), 262144 * 124 + 25)
+    longer = data[64:] + re(6, *[1] * 58, 255)
+    same("the bytes of a list that is one byte longer", len(longer), 16777217)
+    # Without parameters entries have six bytes: 2,796,203 of them have 16,777,218.
+    for rule_file, list_ in ((numbers, longer), (numbers, data + re(6, 0)), (BOOL + fn((), 0, con(0, 0)) + go(), re(6) * 2796203)):
+        same("the length of the text of a longer list", answer(text_length, rule_file, list_, True), -14)
+        same("the text of a longer list", answer(write_text, rule_file, list_, False, bytearray()), -14)
+
+
 def wrong_lists():
     """Each demand is broken by a list made for it; the rule is P without the alternative for zero beside its target."""
     rule = NAT + fn((0,), 0, case(0, var(0), con(0, 0), case(0, var(1), None, target(7, con(0, 0)))))
@@ -352,6 +471,10 @@ if __name__ == "__main__":
     worked_depths()
     missing_alternatives()
     missing_beside_others()
+    handed_in()
+    scrap()
+    handed_depths()
+    longest_list()
     wrong_lists()
     random_lists()
     print("blind side: all examples as expected")

@@ -44,7 +44,11 @@ TOTALS = {
 }
 
 
+def changes(wrong, cases):
+    """Per error of `wrong` how many cases it changes; a case is what is asked, such as the numbers of its entries, and what is right."""
+    return {error: sum(made(*asked) != right for asked, right in cases) for error, made in wrong.items()}
+
+
 def too_few(wrong, cases, least):
-    """The errors of `wrong` that change fewer than so many cases, each the numbers of its entries and what is right."""
-    changed = {error: sum(made(*numbers) != right for numbers, right in cases) for error, made in wrong.items()}
-    return [f"changes {number} cases: {error}" for error, number in changed.items() if number < least]
+    """The errors of `wrong` that change fewer than so many cases."""
+    return [f"changes {number} cases: {error}" for error, number in changes(wrong, cases).items() if number < least]

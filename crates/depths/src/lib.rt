@@ -19,11 +19,20 @@ pub struct Depths {
     pub of: [u8; 32],
 }
 
-// The least depth of a type; 0 for a number that is no type's.
-fn depth_of(table: Depths, t: usize) -> usize
-    ensures { λ r. ⌜ r ≡ getD (table .of) t 0 ⌝ }
+// A number of the table as a depth.
+fn as_depth(x: u8) -> usize
+    ensures { λ r. ⌜ r ≡ x ⌝ }
+    ensures small { λ r. ⌜ r ≤ 255 ⌝ }
 {
-    if t < 32 { table.of[t] as usize } else { 0 }
+    x as usize
+}
+
+// The least depth of a type; 0 for a number that is no type's.
+pub fn depth_of(table: Depths, t: usize) -> usize
+    ensures { λ r. ⌜ r ≡ getD (table .of) t 0 ⌝ }
+    ensures small { λ r. ⌜ r ≤ 255 ⌝ }
+{
+    if t < 32 { as_depth(table.of[t]) } else { 0 }
 }
 
 // A depth is known for each of the n types that stand from a place on.

@@ -13,8 +13,8 @@ use Rattle.reach.specs.declared.Refusal.{Refusal}
 use Rattle.reach.specs.declared.Refusal.the-variants.{BadInput}
 use Rattle.reach.specs.Syntax.{Types, fieldTypes}
 use Rattle.reach.specs.Parts.{Parts, end, opened, bound}
-use Rattle.reach.specs.Reader.{Got, got, refused, onGot, _>>=_, _>>_, give, byte, atEnd}
-use Rattle.reach.specs.Input.{orBad, rowBy, row}
+use Rattle.reach.specs.Reader.{Got, got, refused, onGot, _>>=_, _>>_, give, orRefuse, byte, atEnd}
+use Rattle.reach.specs.Input.{rowBy, row}
 use Rattle.reach.specs.Places.{bytesAt, typeAt, headAt}
 use Rattle.reach.proofs.Base.{clash, picked}
 use Rattle.lookups.specs.Fields.{fieldsOf, fieldsIn}
@@ -94,14 +94,14 @@ module _ (types : Types) (s : List ℕ) where
       by-row c (refused why) = refl
 
       by-fields : (c k : ℕ) (o : Option (List ℕ))
-          → (orBad o >>= λ us. row types d us >>= λ fs. row types (suc d) ts >>= λ r. give (bound c fs r)) s k
-          ≡ onGot after (λ why. refused why) ((orBad o >>= λ us. row types d us >>= λ fs. give (bound c fs end)) s k)
+          → (orRefuse BadInput o >>= λ us. row types d us >>= λ fs. row types (suc d) ts >>= λ r. give (bound c fs r)) s k
+          ≡ onGot after (λ why. refused why) ((orRefuse BadInput o >>= λ us. row types d us >>= λ fs. give (bound c fs end)) s k)
       by-fields c k none = refl
       by-fields c k (some us) = by-row c (row types d us s k)
 
       by-byte : (g : Got ℕ)
-          → onGot {B = Got Parts} (λ c k. (orBad (fieldTypes types t c) >>= λ us. row types d us >>= λ fs. row types (suc d) ts >>= λ r. give (bound c fs r)) s k) (λ why. refused why) g
-          ≡ onGot after (λ why. refused why) (onGot (λ c k. (orBad (fieldTypes types t c) >>= λ us. row types d us >>= λ fs. give (bound c fs end)) s k) (λ why. refused why) g)
+          → onGot {B = Got Parts} (λ c k. (orRefuse BadInput (fieldTypes types t c) >>= λ us. row types d us >>= λ fs. row types (suc d) ts >>= λ r. give (bound c fs r)) s k) (λ why. refused why) g
+          ≡ onGot after (λ why. refused why) (onGot (λ c k. (orRefuse BadInput (fieldTypes types t c) >>= λ us. row types d us >>= λ fs. give (bound c fs end)) s k) (λ why. refused why) g)
       by-byte (got c k) = by-fields c k (fieldTypes types t c)
       by-byte (refused why) = refl
 

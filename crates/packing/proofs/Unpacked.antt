@@ -7,7 +7,7 @@ use mathlib.Core.List.{List, [], flatMap}
 use mathlib.Core.Option.{Option, none, some, Option·none-ne-some, Option·some-injective}
 use lib.ListN.{length, take, drop}
 use Rattle.reach.specs.declared.Refusal.{Refusal}
-use Rattle.reach.specs.declared.Refusal.the-variants.{Truncated, UnexpectedMark, OutOfRange, UnknownNumber, UnknownCode, TypeMismatch, TrailingBytes, EmptyType, DepthTooSmall, BadInput, WorkTooShort, ListFull}
+use Rattle.reach.specs.declared.Refusal.the-variants.{Truncated, UnexpectedMark, OutOfRange, UnknownNumber, UnknownCode, TypeMismatch, TrailingBytes, EmptyType, DepthTooSmall, BadInput, WorkTooShort, ListFull, TextTooShort, BadList}
 use Rattle.reach.specs.declared.Outcome.{Outcome}
 use Rattle.reach.specs.declared.Outcome.the-variants.{Reached, Ended, Unfinished, Missing}
 use Rattle.reach.specs.declared.Verdict.{Verdict}
@@ -17,10 +17,11 @@ use Rattle.reach.specs.Limits.{listLimit}
 use Rattle.reach.specs.Search.{verdict}
 use Rattle.reach.specs.Lists.{listBytes, roomOf, onFound, entrySpan, entryPart}
 use Rattle.reach.specs.Answers.{Checked, accepted, turnedBack, SearchAnswer, noSearch, complete, cutShort, listed, refusalOf, verdictOf, RunAnswer, noRun, ran}
+use Rattle.reach.specs.Printouts.{TextAnswer, noText, ofLength}
 use Rattle.entries.specs.Spans.{partPlace}
 use Rattle.entries.proofs.Demands.{found-within}
-use Rattle.packing.specs.Packing.{verdictNumber, outcomeNumber, checkNumber, searchNumber, runNumber, partNumber}
-use Rattle.packing.specs.Unpacking.{refusalBits, caseBits, countBits, placeBits, sizeBits, refusalNamed, verdictNamed, outcomeNamed, decodedCheck, checkRead, decodedSearch, searchRead, RunRead, decodedRun, runRead, decodedPart}
+use Rattle.packing.specs.Packing.{verdictNumber, outcomeNumber, checkNumber, searchNumber, runNumber, textNumber, partNumber}
+use Rattle.packing.specs.Unpacking.{refusalBits, caseBits, countBits, placeBits, sizeBits, refusalNamed, verdictNamed, outcomeNamed, decodedCheck, checkRead, decodedSearch, searchRead, RunRead, decodedRun, runRead, TextRead, decodedText, textRead, decodedPart}
 
 -- The parts of a packed number are what was packed: each of the two lower ones fills a byte at most.
 pub record Parted (number low middle count : ℕ) : Type 0 where
@@ -47,6 +48,8 @@ refusal-named DepthTooSmall = (omega arith, refl)
 refusal-named BadInput = (omega arith, refl)
 refusal-named WorkTooShort = (omega arith, refl)
 refusal-named ListFull = (omega arith, refl)
+refusal-named TextTooShort = (omega arith, refl)
+refusal-named BadList = (omega arith, refl)
 
 verdict-named : (v : Verdict) → (verdictNumber v < 256) × (verdictNamed (verdictNumber v) ≡ some v)
 unfolding verdictNamed
@@ -105,6 +108,21 @@ read-one (noRun x) (noRun y) is = ap noRun (Option·some-injective x y (ap (λ (
 read-one (noRun x) (ran o) is = absurd (Option·none-ne-some x (sym (ap (λ (t : RunRead). t .refusal) is)))
 read-one (ran o) (noRun y) is = absurd (Option·none-ne-some y (ap (λ (t : RunRead). t .refusal) is))
 read-one (ran o) (ran u) is = ap ran (Option·some-injective o u (ap (λ (t : RunRead). t .outcome) is))
+
+pub text-reads : (a : TextAnswer) → decodedText (textNumber a) ≡ textRead a
+text-reads (noText why) =
+    let z = refused-parted why in
+    rw (z .low-is, z .count-is, refusal-named why .1)
+text-reads (ofLength n) =
+    let z = parted (textNumber (ofLength n)) 0 0 n (omega arith) (omega arith) (omega arith) in
+    rw (z .low-is, z .count-is, none-named .0)
+
+-- and off a text's number
+pub text-read-one : (a b : TextAnswer) → textRead a ≡ textRead b → a ≡ b
+text-read-one (noText x) (noText y) is = ap noText (Option·some-injective x y (ap (λ (t : TextRead). t .refusal) is))
+text-read-one (noText x) (ofLength n) is = absurd (Option·none-ne-some x (sym (ap (λ (t : TextRead). t .refusal) is)))
+text-read-one (ofLength n) (noText y) is = absurd (Option·none-ne-some y (ap (λ (t : TextRead). t .refusal) is))
+text-read-one (ofLength m) (ofLength n) is = ap ofLength (ap (λ (t : TextRead). t .bytes) is)
 
 module _ (l : List ℕ) (k : ℕ) where
   -- of the number for a span, and of the part of the list that it is

@@ -1,7 +1,7 @@
--- The number that each call for C answers with. Bits 0 to 7 are the number of the refusal, or 0; bits 8 to 15 are the number of the verdict or of
--- the outcome, or 0 where none is given; from bit 16 on stands the length of the list or the count of the steps. The number for an entry has its
--- place in bits 0 to 31 and its size from bit 32 on.
--- Rests on reach's Words, Answers, Search and Lists.
+-- The number that each call for C answers with. Bits 0 to 7 are the number of the refusal, or 0; bits 8 to 15 are the number of the verdict or of the outcome,
+-- or 0 where none is given; from bit 16 on stands the length of the list or of the text, or the count of the steps. The number for an entry has its place in
+-- bits 0 to 31 and its size from bit 32 on.
+-- Rests on reach's Words, Answers, Search, Lists and Printouts.
 use Prim.Native.Nat.{ℕ, _+_, _*_, _≤_}
 use mathlib.Core.Path.{_≡_}
 use mathlib.Core.List.{List}
@@ -16,6 +16,7 @@ use Rattle.reach.specs.Limits.{listLimit}
 use Rattle.reach.specs.Search.{verdict}
 use Rattle.reach.specs.Lists.{listBytes, roomOf, onFound, entrySpan, entryPart}
 use Rattle.reach.specs.Answers.{Checked, accepted, turnedBack, SearchAnswer, noSearch, complete, cutShort, RunAnswer, noRun, ran}
+use Rattle.reach.specs.Printouts.{TextAnswer, noText, ofLength}
 
 -- the number of a verdict
 abbrev pub verdictNumber : Verdict → ℕ
@@ -45,6 +46,11 @@ searchNumber (cutShort es) = numberOf ListFull + 65536 * length (listBytes es)
 abbrev pub runNumber : RunAnswer → ℕ
 runNumber (noRun why) = numberOf why
 runNumber (ran o) = 256 * outcomeNumber o + 65536 * stepsOf o
+
+-- the text of a list, its length or itself: a refusal of 1 to 9, 13 or 14; or its length
+abbrev pub textNumber : TextAnswer → ℕ
+textNumber (noText why) = numberOf why
+textNumber (ofLength n) = 65536 * n
 
 -- the entry of a given number: its place and its size; where there is none, the list's end and no byte
 unfoldable pub partNumber : List ℕ → ℕ → ℕ

@@ -1,18 +1,19 @@
 -- What a caller in C reads off the number that a call answered with: the parts of an answer, as the functions at the end of include/remburai.h take
 -- them, and the cases that their numbers name there. And what the definition's answer says, for the theorems that the two are the same.
--- Rests on reach's enums, Answers and Lists.
+-- Rests on reach's enums, Answers, Lists and Printouts.
 use Prim.Native.Nat.{ℕ, _/_, _%_}
-use mathlib.Core.List.{List, [], _∷_}
+use mathlib.Core.List.{[], _∷_}
 use mathlib.Core.Option.{Option, none, some}
 use lib.ListN.{length, getD}
 use Rattle.reach.specs.declared.Refusal.{Refusal}
-use Rattle.reach.specs.declared.Refusal.the-variants.{Truncated, UnexpectedMark, OutOfRange, UnknownNumber, UnknownCode, TypeMismatch, TrailingBytes, EmptyType, DepthTooSmall, BadInput, WorkTooShort, ListFull}
+use Rattle.reach.specs.declared.Refusal.the-variants.{Truncated, UnexpectedMark, OutOfRange, UnknownNumber, UnknownCode, TypeMismatch, TrailingBytes, EmptyType, DepthTooSmall, BadInput, WorkTooShort, ListFull, TextTooShort, BadList}
 use Rattle.reach.specs.declared.Outcome.{Outcome}
 use Rattle.reach.specs.declared.Outcome.the-variants.{Reached, Ended, Unfinished, Missing}
 use Rattle.reach.specs.declared.Verdict.{Verdict}
 use Rattle.reach.specs.declared.Verdict.the-variants.{Found, Undecided, None}
 use Rattle.reach.specs.Lists.{listBytes}
 use Rattle.reach.specs.Answers.{Checked, accepted, turnedBack, SearchAnswer, listed, refusalOf, verdictOf, RunAnswer, noRun, ran}
+use Rattle.reach.specs.Printouts.{TextAnswer, noText, ofLength}
 
 -- The parts of a number.
 
@@ -24,7 +25,7 @@ refusalBits number = number % 256
 abbrev pub caseBits : ℕ → ℕ
 caseBits number = number / 256 % 256
 
--- from bit 16 on: remburai_list_length, remburai_steps
+-- from bit 16 on: remburai_list_length, remburai_steps, remburai_text_bytes
 abbrev pub countBits : ℕ → ℕ
 countBits number = number / 65536
 
@@ -41,7 +42,7 @@ sizeBits number = number / 4294967296
 unfoldable pub refusalNamed : ℕ → Option Refusal
 refusalNamed n =
     getD
-    (none ∷ some Truncated ∷ some UnexpectedMark ∷ some OutOfRange ∷ some UnknownNumber ∷ some UnknownCode ∷ some TypeMismatch ∷ some TrailingBytes ∷ some EmptyType ∷ some DepthTooSmall ∷ some BadInput ∷ some WorkTooShort ∷ some ListFull ∷ [])
+    (none ∷ some Truncated ∷ some UnexpectedMark ∷ some OutOfRange ∷ some UnknownNumber ∷ some UnknownCode ∷ some TypeMismatch ∷ some TrailingBytes ∷ some EmptyType ∷ some DepthTooSmall ∷ some BadInput ∷ some WorkTooShort ∷ some ListFull ∷ some TextTooShort ∷ some BadList ∷ [])
     n
     none
 
@@ -84,6 +85,18 @@ decodedRun number = record { refusal = refusalNamed (refusalBits number); outcom
 abbrev pub runRead : RunAnswer → RunRead
 runRead (noRun why) = record { refusal = some why; outcome = none }
 runRead (ran o) = record { refusal = none; outcome = some o }
+
+-- The text of a list: its refusal, or its length.
+pub record TextRead : Type 0 where
+  pub refusal : Option Refusal
+  pub bytes : ℕ
+
+abbrev pub decodedText : ℕ → TextRead
+decodedText number = record { refusal = refusalNamed (refusalBits number); bytes = countBits number }
+
+abbrev pub textRead : TextAnswer → TextRead
+textRead (noText why) = record { refusal = some why; bytes = 0 }
+textRead (ofLength n) = record { refusal = none; bytes = n }
 
 -- The part of an entry: its place and its size.
 abbrev pub decodedPart : ℕ → ℕ × ℕ

@@ -83,6 +83,14 @@ pub fn list_text(list: &[u8], full: bool, text: &mut [u8]) -> usize
     put_list(full, &list[..end], text)
 }
 
+// The length of the text of a list: what is written to a slice without a byte.
+pub fn list_length(list: &[u8], full: bool) -> usize
+    ensures { λ r. ⌜ r ≡ length (listText full (now (list .entry))) ⌝ }
+{
+    let mut none = [0u8; 0];
+    list_text(list, full, &mut none)
+}
+
 // Writes the line of a refusal to the front of a slice, and answers with its length.
 pub fn refusal_text(why: Refusal, text: &mut [u8]) -> usize
     ensures { λ r. ⌜ Fronts (now (text .entry)) (refusalLine why) (now (text .exit)) r ⌝ }

@@ -3,9 +3,9 @@
 -- depth. Demands takes these over to the list that a search returns.
 -- Rests on Completing, Slots, Depths, Entries and Cover for a search from any state, and on Limits and Answers for files.
 use Prim.Native.Nat.{ℕ, _<_}
-use mathlib.Core.Path.{_≡_, refl, sym, _∙_, ap, subst}
+use mathlib.Core.Path.{_≡_, refl, ap, subst}
 use mathlib.Core.Logic.{_↔_, _≢_}
-use mathlib.Core.List.{List, [], _∷_}
+use mathlib.Core.List.{List}
 use mathlib.Core.Option.{none, some, Option·some-injective, Option·none-ne-some, Option·some-ne-none}
 use lib.ListN.{length, getElem?}
 use native.Mathlib.Omega.{arith}
@@ -62,7 +62,7 @@ module _ (file : List ℕ) (p : Program) (h : check file ≡ accepted p) where
   found-fit (by-step w d) f = found-fit d f
   found-fit (by-fork {i = i} {s = s} q g w m d) f = found-fit d (bind-fit (p .types) (sourceSlots p) i (q .place) g f (waits-free p i s q w) m)
 
-  entry-fit : (e : Entry) → e ∈ entries p → Fit (p .types) (sourceSlots p) (e .input)
+  pub entry-fit : (e : Entry) → e ∈ entries p → Fit (p .types) (sourceSlots p) (e .input)
   entry-fit e m = found-fit (entry-found p e m) start-fit
 
   -- every entry has the source's types

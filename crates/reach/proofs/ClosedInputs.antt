@@ -2,25 +2,25 @@
 -- within the depth, and then it is that input.
 -- A place of the bytes is spoken of by the bytes from there on, `drop i s`.
 -- Rests on Depths for the depth of a row, and on Limits for what a reader finds.
-use Prim.Native.Nat.{ℕ, zero, suc, _≤_, _<_, zero-le}
+use Prim.Native.Nat.{ℕ, zero, suc, _≤_, zero-le}
 use mathlib.Core.Path.{_≡_, refl, ap, subst}
 use mathlib.Core.List.{List, [], _∷_, _++_, append-assoc, append-nil}
 use mathlib.Core.Logic.{_↔_}
-use mathlib.Core.Option.{Option, none, some}
+use mathlib.Core.Option.{none, some}
 use native.Mathlib.Omega.{arith}
 use lib.ListN.{length, drop, length-drop, drop-of-length-le}
-use lib.Seq.{drop-cons}
 use lib.Dec.{ltb}
-use borrow.Author.Tests.{ltb-true, ltb-false, lt-ltb, le-ltb}
+use borrow.Author.Tests.{ltb-false, le-ltb}
 use Rattle.reach.specs.declared.Refusal.the-variants.{BadInput}
 use Rattle.reach.specs.Syntax.{Types, Program, fieldTypes, sourceTypes}
 use Rattle.reach.specs.Parts.{Parts, end, opened, bound, Closed, depth, prefix}
 use Rattle.reach.specs.Types.{Typed, sourceSlots, Fits, WithinDepth}
-use Rattle.reach.specs.Reader.{Got, got, refused, onGot, Reader, _>>=_, _>>_, give, byte, atEnd}
-use Rattle.reach.specs.Input.{orBad, rowBy, row, inputOf}
+use Rattle.reach.specs.Reader.{Got, got, refused, onGot, Reader, _>>=_, _>>_, give, orRefuse, byte, atEnd}
+use Rattle.reach.specs.Input.{rowBy, row, inputOf}
 use Rattle.reach.proofs.Base.{clash, picked}
 use Rattle.reach.proofs.Depths.{fits-depth}
 use Rattle.reach.proofs.Limits.{IfFound, if-found-then}
+use Rattle.reach.proofs.Reading.{byte-finds, looked-finds, Found, byte-there}
 
 -- What a reader of rows looks for: a row that is closed, of these types, and at most so deep.
 record ClosedRow (types : Types) (d : ℕ) (us : List ℕ) (j : Parts) : Type 0 where
@@ -41,15 +41,6 @@ within-row p j = (
 
 -- From the reader to the bytes: what it finds is such a row, and the bytes begin with the row's prefix form.
 
-byte-finds : (s : List ℕ) (i : ℕ) → IfFound (λ c next. drop i s ≡ c ∷ drop next s) (byte s i)
-unfolding byte
-byte-finds s i =
-    picked (IfFound (λ c next. drop i s ≡ c ∷ drop next s)) (ltb i (length s)) (λ more. drop-cons s i 0 (ltb-true i (length s) more)) (λ over. tt)
-
-orBad-finds : (o : Option (List ℕ)) (s : List ℕ) (i : ℕ) → IfFound (λ us next. (o ≡ some us) × (i ≡ next)) (orBad o s i)
-orBad-finds none s i = tt
-orBad-finds (some us) s i = (refl, refl)
-
 -- what is found for these types stands in the bytes
 abbrev FindsRows : Types → ℕ → (List ℕ → Reader Parts) → List ℕ → Type 0
 FindsRows types d m s = (us : List ℕ) (i : ℕ) → IfFound (λ j next. ClosedRow types d us j × (drop i s ≡ prefix j ++ drop next s)) (m us s i)
@@ -64,12 +55,12 @@ unfolding rowBy prefix depth
 rowBy-finds types d m s below [] i = (no-row types (suc d), refl)
 rowBy-finds types d m s below (t ∷ ts) i =
     if-found-then _ _ _ (byte s i) (byte-finds s i)
-    (λ c k first. if-found-then _ _ _ (orBad (fieldTypes types t c) s k) (orBad-finds (fieldTypes types t c) s k)
+    (λ c k first. if-found-then _ _ _ (orRefuse BadInput (fieldTypes types t c) s k) (looked-finds BadInput (fieldTypes types t c) s k)
     (λ us l has. if-found-then _ _ _ (m us s l) (below us l)
     (λ fs h inner. if-found-then _ _ _ (rowBy types m ts s h) (rowBy-finds types d m s below ts h)
     (λ r n outer. (
       record { closed = (inner .0 .closed, outer .0 .closed); typed = (us, has .0, inner .0 .typed, outer .0 .typed); shallow = omega arith },
-      cc (append-assoc (prefix fs) (prefix r) (drop n s)),
+      cc (first .stand, append-assoc (prefix fs) (prefix r) (drop n s)),
     )))))
 
 row-finds : (types : Types) (d : ℕ) (s : List ℕ) → FindsRows types d (row types d) s
@@ -80,25 +71,14 @@ row-finds types (suc d) s us i = rowBy-finds types d (row types d) s (row-finds 
 
 -- From the bytes to the reader: where they begin with the prefix form of such a row, it finds that row.
 
-byte-there : (s : List ℕ) (i c : ℕ) (rest : List ℕ) → drop i s ≡ c ∷ rest → (byte s i ≡ got c (suc i)) × (drop (suc i) s ≡ rest)
-unfolding byte
-byte-there s i c rest e =
-    let more : i < length s = omega (arith, ap length e, length-drop i s) in
-    let first = drop-cons s i 0 more in
-    (rw (lt-ltb i (length s) more) (cc), cc)
-
--- the reader finds the row at a place, and the rest of the bytes stands behind it
-abbrev There : Reader Parts → List ℕ → ℕ → Parts → List ℕ → Type 0
-There m s i j rest = (next : ℕ) × (m s i ≡ got j next) × (drop next s ≡ rest)
-
 -- what stands in the bytes for these types is found
 abbrev MeetsRows : Types → ℕ → (List ℕ → Reader Parts) → List ℕ → Type 0
 MeetsRows types d m s =
-    (us : List ℕ) (i : ℕ) (j : Parts) (rest : List ℕ) → ClosedRow types d us j → drop i s ≡ prefix j ++ rest → There (m us) s i j rest
+    (us : List ℕ) (i : ℕ) (j : Parts) (rest : List ℕ) → ClosedRow types d us j → drop i s ≡ prefix j ++ rest → Found (m us) s i j rest
 
 end-there :
     (types : Types) (d : ℕ) (s : List ℕ) (i : ℕ) (j : Parts) (rest : List ℕ) → ClosedRow types d [] j → drop i s ≡ prefix j ++ rest
-    → There (give end) s i j rest
+    → Found (give end) s i j rest
 unfolding prefix
 end-there types d s i end rest row e = (i, refl, e)
 end-there types d s i (opened r) rest row e = absurd (row .typed)

@@ -9,6 +9,7 @@ use mathlib.Core.Logic.{_↔_, _≢_}
 use mathlib.Core.List.{List, _∷_, [], _++_}
 use mathlib.Core.Option.{none, some}
 use lib.ListN.{length, getD, getElem?}
+use Rattle.reach.specs.declared.Refusal.{Refusal}
 use Rattle.reach.specs.declared.Refusal.the-variants.{WorkTooShort}
 use Rattle.reach.specs.declared.Verdict.the-variants.{None}
 use Rattle.reach.specs.Base.{_∈_}
@@ -22,7 +23,10 @@ use Rattle.reach.specs.States.{MissingAfter}
 use Rattle.reach.specs.Moves.{Walk, move, owedMoves, finished}
 use Rattle.reach.specs.Input.{inputOf}
 use Rattle.reach.specs.Lists.{listBytes, roomOf}
-use Rattle.reach.specs.Answers.{accepted, check, noSearch, complete, cutShort, searchAnswer, listed, refusalOf, verdictOf}
+use Rattle.reach.specs.Answers.{accepted, check, SearchAnswer, noSearch, complete, cutShort, searchAnswer, listed, refusalOf, verdictOf}
+use Rattle.reach.specs.Text.{text}
+use Rattle.reach.specs.Handed.{IsList, handed}
+use Rattle.reach.specs.Printouts.{wasCut, printout, printoutOf}
 use Rattle.reach.proofs.LeastDepths as LeastDepths
 use Rattle.reach.proofs.Evaluation.{run-spent, run-ends}
 use Rattle.reach.proofs.Missing as Missing
@@ -30,6 +34,8 @@ use Rattle.reach.proofs.Moves as Moves
 use Rattle.reach.proofs.EntryLength.{entry-within}
 use Rattle.reach.proofs.ClosedInputs as ClosedInputs
 use Rattle.reach.proofs.Answers.{Means, search-means, listed-in, complete-is, short-work}
+use Rattle.reach.proofs.Handed as Handed
+use Rattle.reach.proofs.Printouts as Printouts
 use Rattle.reach.proofs.Accepted.{entries-true, entries-cover, entries-apart, entries-reopen, entries-inhabited, none-answer}
 
 -- Demand 2: "Every listed entry is true: each closed input that completes it within the depth ends as the entry says, reached or unfinished,
@@ -129,3 +135,19 @@ pub full-prefix : (file : List ℕ) (work list : ℕ) (p : Program) → check fi
     → (next : Entry) × (rest : List Entry) × (entries p ≡ es ++ (next ∷ rest)) × (length (listBytes es) ≤ roomOf list)
     × (roomOf list < length (listBytes (es ++ (next ∷ []))))
 full-prefix file work list p h es a = (subst (Means p work list) a (search-means file work list p h)) .1
+
+-- 02, Slip 2, refusal 14: a list of "whole entries of known kinds, with parameters of the rule file's types and depths (an open part is as deep as its type's
+-- least depth) and at most S steps". Bytes are read as entries exactly where they are the bytes of these entries, and each of them fits.
+pub list-exactly : (file : List ℕ) (p : Program) → check file ≡ accepted p
+    → (list : List ℕ) → ((i : ℕ) → getD list i 0 < 256) → (es : List Entry) → (handed p list ≡ some es) ↔ IsList p list es
+list-exactly file p h list bytes es = Handed.handed-exactly file p h list bytes es
+
+-- 02, Slip 2: every list that a search wrote, complete or cut short, is one, and its printed text is that of the search's answer
+pub searched-list : (file : List ℕ) (work list : ℕ) (p : Program) → check file ≡ accepted p
+    → IsList p (listBytes (listed (searchAnswer file work list))) (listed (searchAnswer file work list))
+searched-list file work list p h = Handed.listed-handed file p h work list
+
+pub searched-printout : (file : List ℕ) (work list : ℕ) (p : Program) → check file ≡ accepted p
+    → (a : SearchAnswer) → searchAnswer file work list ≡ a → ((why : Refusal) → a ≢ noSearch why)
+    → printoutOf file (listBytes (listed a)) (wasCut a) ≡ printout (text a)
+searched-printout file work list p h a is ran = Printouts.printout-searched file work list p h a is ran

@@ -24,6 +24,7 @@ use Rattle.reach.specs.Answers.{accepted, turnedBack, check}
 use Rattle.reach.specs.Encoding.{encode, encodeAll, encodeAlternatives, ByteAt, BytesAt, Stands, StandsAll, StandsAlternatives, countAlternatives, Arity, ArityAll, ArityAlternatives, nesting, nestingAll, nestingAlternatives, Skip, skippedAll, skippedAlternatives, skippedCall, skippedConstruct, skippedCase, skippedBy, skipped}
 use Rattle.reach.proofs.Base.{clash}
 use Rattle.reach.proofs.Limits.{IfFound, if-found-then}
+use Rattle.reach.proofs.Reading.{Reads, reads-none, reads-then, byte-finds}
 
 -- Bytes that stand at a place.
 
@@ -128,28 +129,8 @@ module _ (s : List ℕ) (i : ℕ) where
 
 -- What a reader finds, stands there.
 
--- the bytes from i up to next are these
-record Reads (s : List ℕ) (i : ℕ) (bytes : List ℕ) (next : ℕ) : Type 0 where
-  stand : drop i s ≡ bytes ++ drop next s
-  behind : next ≡ i + length bytes
-
-reads-none : {s : List ℕ} {i : ℕ} → Reads s i [] i
-reads-none = record { stand = refl; behind = omega arith }
-
-reads-then : {s : List ℕ} {i k n : ℕ} {bs cs : List ℕ} → Reads s i bs k → Reads s k cs n → Reads s i (bs ++ cs) n
-reads-then {s} {i} {k} {n} {bs} {cs} first second =
-    record { stand = cc (first .stand, second .stand, append-assoc bs cs (drop n s)); behind = omega (arith, length-append bs cs) }
-
 reads-as : {s : List ℕ} {i k b c : ℕ} → Reads s i (b ∷ []) k → b ≡ c → Reads s i (c ∷ []) k
 reads-as {s} {i} {k} first is = subst (λ (b : ℕ). Reads s i (b ∷ []) k) is first
-
-byte-finds : (s : List ℕ) (i : ℕ) → IfFound (λ b next. Reads s i (b ∷ []) next) (byte s i)
-unfolding byte
-byte-finds s i = go (ltb i (length s)) refl
-  where
-    go : (t : Bool) → ltb i (length s) ≡ t → IfFound (λ b next. Reads s i (b ∷ []) next) (pick t (got (getD s i 0) (suc i)) (refused Truncated))
-    go true t = record { stand = drop-cons s i 0 (ltb-true i (length s) t); behind = omega arith }
-    go false t = tt
 
 -- what is found after a test that was demanded
 demand-then :
@@ -188,7 +169,7 @@ module _ (d : Declarations) (n : ℕ) (s : List ℕ) (sub : Below) (below : Find
   operands-find (t ∷ ts) i =
       if-found-then _ _ _ (sub view t s i) (below view t i)
       (λ e k first. if-found-then _ _ _ (operandsOf sub view ts s k) (operands-find ts k)
-      (λ es l others. (reads-then (first .0) (others .0), (first .1, others .1), omega arith, ap suc (others .3))))
+      (λ es l others. (reads-then _ _ (first .0) (others .0), (first .1, others .1), omega arith, ap suc (others .3))))
 
   alternatives-find : (t : ℕ) (cs : List (List ℕ)) (i : ℕ) → IfFound (FoundAlternatives d n s (length cs) i) (alternatives sub view t cs s i)
   unfolding alternatives encode nesting countAlternatives
@@ -198,11 +179,11 @@ module _ (d : Declarations) (n : ℕ) (s : List ℕ) (sub : Below) (below : Find
       (λ b k first. demand-then _ _ (leb b 1) _ k
       (λ small. pick-finds _ (eqb b 0) _ _ s k
       (λ is. if-found-then _ _ _ (alternatives sub view t cs s k) (alternatives-find t cs k)
-      (λ alts l others. (reads-then (reads-as first (eqb-true b 0 is)) (others .0), others .1, others .2, ap suc (others .3))))
+      (λ alts l others. (reads-then _ _ (reads-as first (eqb-true b 0 is)) (others .0), others .1, others .2, ap suc (others .3))))
       (λ not. if-found-then _ _ _ (sub (view ++ us) t s k) (below (view ++ us) t k)
       (λ e l second. if-found-then _ _ _ (alternatives sub view t cs s l) (alternatives-find t cs l)
       (λ alts j others. (
-        reads-then (reads-as first (omega (arith, eqb-false b 0 not, leb-true b 1 small))) (reads-then (second .0) (others .0)),
+        reads-then _ _ (reads-as first (omega (arith, eqb-false b 0 not, leb-true b 1 small))) (reads-then _ _ (second .0) (others .0)),
         (second .1, others .1),
         omega arith,
         ap suc (others .3),
@@ -230,7 +211,7 @@ module _
         (λ v l number. demand-then _ _ (ltb v (length view)) _ l
         (λ known. limits-then _ _ l
         (λ room. demand-then _ _ (eqb (getD view v 0) t) _ l
-        (λ typed. (reads-then code number, tt, omega arith)))))
+        (λ typed. (reads-then _ _ code number, tt, omega arith)))))
 
     call-finds : (k : ℕ) → Reads s i (1 ∷ []) k → IfFound (Found d m s i) (callExpr d nested sub view t s k)
     unfolding callExpr callOf encode nesting
@@ -242,14 +223,14 @@ module _
             limits-then _ _ l
             (λ room. demand-then _ _ (eqb (h .result) t) _ l
             (λ typed. if-found-then _ _ _ (operandsOf sub view (h .parameters) s l) (operands-find d n s sub below view (h .parameters) l)
-            (λ es j others. (reads-then code (reads-then number (others .0)), (h, is, others .3, others .1), omega arith))))
+            (λ es j others. (reads-then _ _ code (reads-then _ _ number (others .0)), (h, is, others .3, others .1), omega arith))))
 
     construct-finds : (k : ℕ) → Reads s i (2 ∷ []) k → IfFound (Found d m s i) (constructExpr d nested sub view t s k)
     unfolding constructExpr constructOf encode nesting
     construct-finds k code =
         if-found-then _ _ _ (byte s k) (byte-finds s k)
         (λ u l type. if-found-then _ _ _ (byte s l) (byte-finds s l)
-        (λ c j number. go u c j (reads-then type number) (fieldTypes (d .types) u c) refl))
+        (λ c j number. go u c j (reads-then _ _ type number) (fieldTypes (d .types) u c) refl))
       where
         go : (u c j : ℕ) → Reads s k (u ∷ c ∷ []) j → (x : Option (List ℕ)) → fieldTypes (d .types) u c ≡ x → IfFound (Found d m s i) (constructOf d nested sub view t u c x s j)
         go u c j numbers none is = tt
@@ -257,7 +238,7 @@ module _
             limits-then _ _ j
             (λ room. demand-then _ _ (eqb u t) _ j
             (λ typed. if-found-then _ _ _ (operandsOf sub view us s j) (operands-find d n s sub below view us j)
-            (λ es h others. (reads-then code (reads-then numbers (others .0)), (us, is, others .3, others .1), omega arith))))
+            (λ es h others. (reads-then _ _ code (reads-then _ _ numbers (others .0)), (us, is, others .3, others .1), omega arith))))
 
     case-finds : (k : ℕ) → Reads s i (3 ∷ []) k → IfFound (Found d m s i) (caseExpr d nested sub view t s k)
     unfolding caseExpr caseOf encode nesting
@@ -270,7 +251,7 @@ module _
             (λ room. if-found-then _ _ _ (sub view u s l) (below view u l)
             (λ e j first. if-found-then _ _ _ (alternatives sub view t cs s j) (alternatives-find d n s sub below view t cs j)
             (λ alts h others. (
-              reads-then code (reads-then number (reads-then (first .0) (others .0))),
+              reads-then _ _ code (reads-then _ _ number (reads-then _ _ (first .0) (others .0))),
               (cs, is, others .3, first .1, others .1),
               omega arith,
             ))))
@@ -284,7 +265,7 @@ module _
         (λ room. if-found-then _ _ _ (sub view u s l) (below view u l)
         (λ e j first. if-found-then _ _ _ (sub (view ++ (u ∷ [])) t s j) (below (view ++ (u ∷ [])) t j)
         (λ b h second. (
-          reads-then code (reads-then number (reads-then (first .0) (second .0))),
+          reads-then _ _ code (reads-then _ _ number (reads-then _ _ (first .0) (second .0))),
           (ltb-true u (length (d .types)) known, first .1, second .1),
           omega arith,
         ))))))
@@ -295,7 +276,7 @@ module _
         if-found-then _ _ _ (byte s k) (byte-finds s k)
         (λ l j number. limits-then _ _ j
         (λ room. if-found-then _ _ _ (sub view t s j) (below view t j)
-        (λ e h inner. (reads-then code (reads-then number (inner .0)), inner .1, omega arith))))
+        (λ e h inner. (reads-then _ _ code (reads-then _ _ number (inner .0)), inner .1, omega arith))))
 
     expressionBy-finds : IfFound (Found d m s i) (expressionBy d nested sub view t s i)
     unfolding expressionBy

@@ -12,11 +12,13 @@ pub mod Entries
 pub mod Cover
 pub mod Moves
 pub mod Limits
+pub mod Reading
 pub mod Stages
 pub mod Refusals
 pub mod EntryLength
 pub mod Lists
 pub mod ClosedInputs
+pub mod Partial
 pub mod Answers
 pub mod Places
 pub mod Numbers
@@ -26,6 +28,9 @@ pub mod Reached
 pub mod Encoding
 pub mod Conditions
 pub mod Accepted
-pub mod Demands
 pub mod ReadBack
 pub mod Text
+pub mod Handed
+pub mod HandedEntry
+pub mod Printouts
+pub mod Demands

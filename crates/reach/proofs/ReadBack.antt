@@ -22,28 +22,51 @@ use Rattle.reach.specs.declared.Kind.the-variants.{RE, UN, MI}
 use Rattle.reach.specs.Search.{Entry, entries}
 use Rattle.reach.specs.Lists.{wordBytes, kindBytes, entryBytes, listBytes, onFound, roomOf, written, isMark, kindOf, knownMark, kindAt, entrySize, entrySpan, entryPart, Decoded, sayingOf, decoded}
 use Rattle.reach.specs.Answers.{accepted, check, SearchAnswer, noSearch, complete, cutShort, searchAnswer, listed}
-use Rattle.reach.proofs.Base.{picked}
+use Rattle.reach.proofs.Base.{clash, picked}
 use Rattle.reach.proofs.Limits.{accepted-keeps}
 use Rattle.reach.proofs.EntryLength.{entry-within}
 use Rattle.reach.proofs.Answers.{Means, search-means, listed-in}
 
 -- What the definitions say of any bytes.
 
--- an entry that stands at a place ends inside the list
-pub size-inside : (l : List ℕ) (i n : ℕ) → entrySize l i ≡ some n → i + n ≤ length l
-unfolding entrySize
-size-inside l i n = picked (λ (o : Option ℕ). o ≡ some n → i + n ≤ length l) (headed && whole) there (λ t h. absurd (Option·none-ne-some n h))
+-- an entry that stands at a place has a whole header, a known mark and its size from the header, and ends inside the list
+pub size-told : (l : List ℕ) (i n : ℕ) → entrySize l i ≡ some n
+    → (kind : Kind) × (i + 6 ≤ length l) × (kindOf (getD l i 0) (getD l (i + 1) 0) ≡ some kind) × (n ≡ 6 + wordAt l (i + 4)) × (i + n ≤ length l)
+unfolding entrySize knownMark
+size-told l i n = picked Told (headed && whole) there (λ t h. absurd (Option·none-ne-some n h))
   where
+    known : Bool
+    known = onFound false (λ k. true) (kindOf (getD l i 0) (getD l (i + 1) 0))
+
     headed : Bool
-    headed = leb (i + 6) (length l) && knownMark (getD l i 0) (getD l (i + 1) 0)
+    headed = leb (i + 6) (length l) && known
 
     whole : Bool
     whole = leb (i + 6 + wordAt l (i + 4)) (length l)
 
-    there : headed && whole ≡ true → _≡_ {A = Option ℕ} (some (6 + wordAt l (i + 4))) (some n) → i + n ≤ length l
+    Told : Option ℕ → Type 0
+    Told o =
+        o ≡ some n → (kind : Kind) × (i + 6 ≤ length l) × (kindOf (getD l i 0) (getD l (i + 1) 0) ≡ some kind) × (n ≡ 6 + wordAt l (i + 4)) × (i + n ≤ length l)
+
+    of-kind : (o : Option Kind) → onFound false (λ k. true) o ≡ true → (kind : Kind) × (o ≡ some kind)
+    of-kind none t = absurd (clash (let z = t in cc))
+    of-kind (some k) t = (k, refl)
+
+    there : headed && whole ≡ true → Told (some (6 + wordAt l (i + 4)))
     there t h =
-        let size = Option·some-injective (6 + wordAt l (i + 4)) n h in
-        omega (arith, leb-true (i + 6 + wordAt l (i + 4)) (length l) (((and-eq-true-iff headed whole) .0 t) .1))
+        let outer = (and-eq-true-iff headed whole) .0 t in
+        let inner = (and-eq-true-iff (leb (i + 6) (length l)) known) .0 (outer .0) in
+        let size : 6 + wordAt l (i + 4) ≡ n = Option·some-injective (6 + wordAt l (i + 4)) n h in
+        let (kind, is) = of-kind (kindOf (getD l i 0) (getD l (i + 1) 0)) (inner .1) in (
+          kind,
+          leb-true (i + 6) (length l) (inner .0),
+          is,
+          sym size,
+          omega (arith, size, leb-true (i + 6 + wordAt l (i + 4)) (length l) (outer .1)),
+        )
+
+pub size-inside : (l : List ℕ) (i n : ℕ) → entrySize l i ≡ some n → i + n ≤ length l
+size-inside l i n h = size-told l i n h .4
 
 -- the walk from entry to entry: where no entry stands, none is found
 pub span-no-entry : (l : List ℕ) (k i : ℕ) → entrySize l i ≡ none → entrySpan l k i ≡ none
@@ -141,7 +164,7 @@ size-behind before l =
 -- The bytes of an entry.
 
 -- a number below 65536 is read back from its two bytes
-two-bytes : (n : ℕ) → n < 65536 → n % 256 + 256 * (n / 256 % 256) ≡ n
+pub two-bytes : (n : ℕ) → n < 65536 → n % 256 + 256 * (n / 256 % 256) ≡ n
 two-bytes n h = omega arith
 
 -- six bytes of header and what they announce are an entry, whatever stands behind it

@@ -52,11 +52,11 @@ kind-some RE s = omega arith
 kind-some UN s = omega arith
 kind-some MI s = omega arith
 
-entry-some : (e : Entry) → 1 ≤ length (entryBytes e)
+pub entry-some : (e : Entry) → 1 ≤ length (entryBytes e)
 unfolding entryBytes
 entry-some e = kind-some (e .kind) _
 
-list-some : (es : List Entry) → length es ≤ length (listBytes es)
+pub list-some : (es : List Entry) → length es ≤ length (listBytes es)
 unfolding listBytes flatMap
 list-some [] = omega arith
 list-some (e ∷ es) = omega (arith, entry-some e, list-some es, length-append (entryBytes e) (flatMap entryBytes es))

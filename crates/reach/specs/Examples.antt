@@ -1,13 +1,15 @@
 -- The starred examples of 01 as one table. The checker computes each row from the bytes of P, with its label, D and S changed, and finds what
 -- stands beside it: the lines of the list and the verdict, or the end of a closed run. A second table has what P cannot show, missing
--- alternatives, a third buffers that are just long enough and one too short, and a fourth what `reachlist` prints.
+-- alternatives, a third buffers that are just long enough and one too short, a fourth what `reachlist` prints, and a fifth lists that are handed in with their
+-- rule file, by 02, Slip 2.
 -- Rests on the definitions alone.
 use Prim.Native.Nat.{ℕ, _+_, _*_}
 use mathlib.Core.Path.{_≡_, refl}
+use mathlib.Core.Bool.{Bool, true, false}
 use mathlib.Core.List
 use mathlib.Core.List.{List, [], _∷_, map}
 use mathlib.Core.Option.{Option, none, some, Option·map}
-use Rattle.reach.specs.declared.Refusal.the-variants.{WorkTooShort}
+use Rattle.reach.specs.declared.Refusal.the-variants.{Truncated, WorkTooShort, TextTooShort, BadList}
 use Rattle.reach.specs.declared.Kind.{Kind}
 use Rattle.reach.specs.declared.Kind.the-variants.{RE, UN, MI}
 use Rattle.reach.specs.declared.Verdict.{Verdict}
@@ -29,6 +31,10 @@ use Rattle.reach.specs.Lists.{listBytes}
 use Rattle.reach.specs.Answers
 use Rattle.reach.specs.Text
 use Rattle.reach.specs.Text.{decimal, share, text}
+use Rattle.reach.specs.Partial
+use Rattle.reach.specs.Handed
+use Rattle.reach.specs.Printouts
+use Rattle.reach.specs.Printouts.{TextAnswer, noText, ofLength, printoutOf, lengthAnswer, writeAnswer}
 use Rattle.reach.specs.Answers.{RunAnswer, noRun, ran, searchAnswer, listed, refusalOf, verdictOf, runAnswer}
 
 -- P with this label, D and S; P itself has 7, 4 and 20. (S is below 256.)
@@ -45,12 +51,15 @@ abbrev pub shown : Entry → Line
 shown e = (e .kind, e .steps, prefix (e .input))
 
 -- What a row asks: the search of a file, the bytes of its list, its printed text, or the closed run of a file on an input; and, where the buffers are not those
--- of `reachlist`, with which.
+-- of `reachlist`, with which. Or the length of the text of a list that is handed in with its file, and whether its search ended in 12; or what the writer
+-- answers, with a text slice of so many bytes.
 pub data Asked : Type 0 where
   search-of : List ℕ → Asked
   bytes-of : List ℕ → Asked
   text-of : List ℕ → Asked
   run-of : List ℕ → List ℕ → Asked
+  length-of : List ℕ → List ℕ → Bool → Asked
+  write-of : List ℕ → List ℕ → Bool → ℕ → Asked
   -- with a work slice of so many words
   _with-work_ : Asked → ℕ → Asked
   -- with a list slice of so many bytes
@@ -59,11 +68,12 @@ pub data Asked : Type 0 where
 infixl 80 _with-work_
 infixl 80 _with-list_
 -- What stands beside it: of a search the lines of its list, with its verdict, or with the number of its refusal and no verdict; bytes; or the
--- answer of the run.
+-- answer of the run or of the call.
 pub data Answer : Type 0 where
   searched : List Line → Option Verdict → Option ℕ → Answer
   bytes : List ℕ → Answer
   answers : RunAnswer → Answer
+  tells : TextAnswer → Answer
 
 abbrev pub lists : List Line → Verdict → Answer
 lists lines v = searched lines (some v) none
@@ -79,6 +89,8 @@ given work list (search-of file) =
 given work list (bytes-of file) = bytes (listBytes (listed (searchAnswer file work list)))
 given work list (text-of file) = bytes (text (searchAnswer file work list))
 given work list (run-of file input) = answers (runAnswer file input work)
+given work list (length-of file l full) = tells (lengthAnswer (printoutOf file l full))
+given work list (write-of file l full room) = tells (writeAnswer room (printoutOf file l full))
 given work list (a with-work n) = given n list a
 given work list (a with-list n) = given work n a
 
@@ -206,6 +218,33 @@ printed =
     ∷ text-of [] ⇒ bytes (0x72 ∷ 0x65 ∷ 0x66 ∷ 0x75 ∷ 0x73 ∷ 0x65 ∷ 0x64 ∷ 0x20 ∷ 0x31 ∷ 0x0a ∷ [])
     ∷ []
 
+-- P's list, behind it these bytes; and an unfinished entry of 5 steps
+abbrev pub p-list : List ℕ → List ℕ
+p-list more = 0x52 ∷ 0x45 ∷ 0x06 ∷ 0x00 ∷ 0x03 ∷ 0x00 ∷ 0x01 ∷ 0x01 ∷ more
+
+abbrev pub given-up : List ℕ
+given-up = 0x55 ∷ 0x4e ∷ 0x05 ∷ 0x00 ∷ 0x01 ∷ 0x00 ∷ 0xff ∷ []
+
+-- Lists handed in with P. Its own has a text of 34 bytes, of 25 where the search ended in 12. It fits D 3 and S 6, and no less: below two constructors stands
+-- an open part, whose type's least depth is 1. A byte too few or too many is 14 too; an entry that is false, unfinished with 5 steps where S is 20, is not. The
+-- file's refusal comes first, then 14, then 13.
+abbrev pub handed-in : List Row
+handed-in =
+    length-of (p-with 7 4 20) (p-list (○ ∷ [])) false ⇒ tells (ofLength 34)
+    ∷ length-of (p-with 7 4 20) (p-list (○ ∷ [])) true ⇒ tells (ofLength 25)
+    ∷ length-of (p-with 7 3 6) (p-list (○ ∷ [])) false ⇒ tells (ofLength 34)
+    ∷ length-of (p-with 7 2 6) (p-list (○ ∷ [])) false ⇒ tells (noText BadList)
+    ∷ length-of (p-with 7 3 5) (p-list (○ ∷ [])) false ⇒ tells (noText BadList)
+    ∷ length-of (p-with 7 4 20) (p-list []) false ⇒ tells (noText BadList)
+    ∷ length-of (p-with 7 4 20) (p-list (○ ∷ 0 ∷ [])) false ⇒ tells (noText BadList)
+    ∷ length-of (p-with 7 4 20) given-up false ⇒ tells (ofLength 41)
+    ∷ length-of (p-with 7 4 20) [] false ⇒ tells (ofLength 19)
+    ∷ write-of (p-with 7 4 20) (p-list (○ ∷ [])) false 34 ⇒ tells (ofLength 34)
+    ∷ write-of (p-with 7 4 20) (p-list (○ ∷ [])) false 33 ⇒ tells (noText TextTooShort)
+    ∷ write-of (p-with 7 4 20) (p-list []) false 0 ⇒ tells (noText BadList)
+    ∷ write-of [] (p-list []) false 0 ⇒ tells (noText Truncated)
+    ∷ []
+
 -- all the definitions that an answer is made of: to unfold this is to unfold them
 definitions : Unit {0}
 unfolding
@@ -225,11 +264,14 @@ unfolding
     RuleFile.expressionBy RuleFile.expression RuleFile.bodyOf RuleFile.functionsOf RuleFile.programOf RuleFile.noEmptyType
     RuleFile.deepEnough RuleFile.sizeInLimit RuleFile.ruleFile
     Input.rowBy Input.row Input.inputOf
-    Lists.wordBytes Lists.kindBytes Lists.entryBytes Lists.listBytes Lists.cut Lists.roomOf
+    Lists.wordBytes Lists.kindBytes Lists.entryBytes Lists.listBytes Lists.cut Lists.roomOf Lists.isMark Lists.kindOf
     Answers.check Answers.cutAnswer Answers.searchChecked Answers.searchAnswer Answers.listed Answers.refusalOf Answers.verdictOf Answers.outcomeOf
     Answers.runInput Answers.runChecked Answers.runAnswer
     Text.spaced Text.lineFrom Text.digitsBy Text.decimal Text.kindWord Text.partWord Text.lineSaying Text.share Text.totalLine
     Text.refusalLine Text.lastLine Text.textOf Text.text
+    Partial.valuesBy Partial.valueFrom Partial.partial Partial.slotted
+    Handed.kindMark Handed.spanning Handed.entryBy Handed.entriesBy Handed.handed
+    Printouts.printoutChecked Printouts.printoutOf Printouts.lengthAnswer Printouts.writeAnswer
     List.flatMap List.zipWith
 definitions = tt
 
@@ -252,6 +294,11 @@ just-enough = refl
 pub printed-text : AsExpected printed
 unfolding definitions
 printed-text = refl
+
+-- lists that are handed in with their rule file
+pub handed-lists : AsExpected handed-in
+unfolding definitions
+handed-lists = refl
 
 -- numbers of one digit and more, and the share of 0 of 0, of 1 of 3 and of 2 of 3
 pub decimals : map decimal (0 ∷ 9 ∷ 10 ∷ 4096 ∷ [])

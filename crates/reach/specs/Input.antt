@@ -6,18 +6,14 @@ use mathlib.Core.Option.{Option, none, some}
 use Rattle.reach.specs.declared.Refusal.the-variants.{BadInput}
 use Rattle.reach.specs.Syntax.{Types, Program, fieldTypes, sourceTypes}
 use Rattle.reach.specs.Parts.{Parts, end, bound}
-use Rattle.reach.specs.Reader.{onGot, Reader, _>>=_, _>>_, give, refuse, byte, atEnd}
-
-abbrev pub orBad : Option (List ℕ) → Reader (List ℕ)
-orBad none = refuse BadInput
-orBad (some us) = give us
+use Rattle.reach.specs.Reader.{onGot, Reader, _>>=_, _>>_, give, refuse, orRefuse, byte, atEnd}
 
 -- a value for each of these types, whose fields the other reader reads
 unfoldable pub rowBy : Types → (List ℕ → Reader Parts) → List ℕ → Reader Parts
 rowBy types fields [] = give end
 rowBy types fields (t ∷ ts) = do
   c ← byte
-  us ← orBad (fieldTypes types t c)
+  us ← orRefuse BadInput (fieldTypes types t c)
   fs ← fields us
   rest ← rowBy types fields ts
   give (bound c fs rest)

@@ -11,9 +11,12 @@ pub mod Reader
 pub mod RuleFile
 pub mod Conditions
 pub mod Input
+pub mod Partial
 pub mod Lists
+pub mod Handed
 pub mod Answers
 pub mod Text
+pub mod Printouts
 pub mod Examples
 pub mod Encoding
 pub mod Places

@@ -3,6 +3,7 @@
 use Prim.Native.Nat.{ℕ, zero, suc, _+_, _*_}
 use mathlib.Core.Bool.{Bool}
 use mathlib.Core.List.{List, [], _∷_}
+use mathlib.Core.Option.{Option, none, some}
 use lib.ListN.{length, getD}
 use lib.Dec.{ltb, leb}
 use Rattle.reach.specs.Base.{pick}
@@ -37,6 +38,11 @@ give a = λ s here. got a here
 
 abbrev pub refuse : {A : Type 0} → Refusal → Reader A
 refuse why = λ s here. refused why
+
+-- what was looked up, or the refusal where there is none
+abbrev pub orRefuse : {A : Type 0} → Refusal → Option A → Reader A
+orRefuse why none = refuse why
+orRefuse why (some a) = give a
 
 -- the refusal, unless the test passes
 abbrev pub demand : Bool → Refusal → Reader (Unit {0})

@@ -3,7 +3,7 @@
 use Prim.Native.Nat.{ℕ}
 use mathlib.Core.List.{List, [], _∷_}
 use Rattle.reach.specs.declared.Refusal.{Refusal}
-use Rattle.reach.specs.declared.Refusal.the-variants.{Truncated, UnexpectedMark, OutOfRange, UnknownNumber, UnknownCode, TypeMismatch, TrailingBytes, EmptyType, DepthTooSmall, BadInput, WorkTooShort, ListFull}
+use Rattle.reach.specs.declared.Refusal.the-variants.{Truncated, UnexpectedMark, OutOfRange, UnknownNumber, UnknownCode, TypeMismatch, TrailingBytes, EmptyType, DepthTooSmall, BadInput, WorkTooShort, ListFull, TextTooShort, BadList}
 use Rattle.reach.specs.declared.Outcome.{Outcome}
 use Rattle.reach.specs.declared.Outcome.the-variants.{Reached, Ended, Unfinished, Missing}
 use Rattle.reach.specs.declared.Verdict.{Verdict}
@@ -23,6 +23,8 @@ numberOf DepthTooSmall = 9
 numberOf BadInput = 10
 numberOf WorkTooShort = 11
 numberOf ListFull = 12
+numberOf TextTooShort = 13
+numberOf BadList = 14
 
 -- the steps that a run took
 abbrev pub stepsOf : Outcome → ℕ

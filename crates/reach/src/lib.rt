@@ -28,6 +28,10 @@ pub enum Refusal {
     WorkTooShort,
     // 12, "full"
     ListFull,
+    // 13, "page"
+    TextTooShort,
+    // 14, "scrap"
+    BadList,
 }
 
 // How the evaluation of a closed input ends, with the steps that it took.

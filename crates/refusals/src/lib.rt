@@ -20,5 +20,7 @@ pub fn number(why: Refusal) -> u64
         Refusal::BadInput => 10,
         Refusal::WorkTooShort => 11,
         Refusal::ListFull => 12,
+        Refusal::TextTooShort => 13,
+        Refusal::BadList => 14,
     }
 }

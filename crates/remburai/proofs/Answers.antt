@@ -1,19 +1,21 @@
 -- The number of an answer, by the enum that the call inside gave; and the bounds that keep it below 2 to the 64th.
--- Rests on specs/Packing, on search's Called (the list stands in the bytes that count) and on reach's ReadBack (the part of an entry).
-use Prim.Native.Nat.{ℕ, _+_, _*_, _≤_}
+-- Rests on specs/Packing, on search's Called (the list stands in the bytes that count), on reach's ReadBack (the part of an entry) and on printout's Demands
+-- (the longest text).
+use Prim.Native.Nat.{ℕ, _+_, _*_, _≤_, _<_}
 use native.Mathlib.Omega.{arith}
-use mathlib.Core.Path.{_≡_, refl, sym, ap, subst, _∙_}
+use mathlib.Core.Path.{_≡_, refl, sym, ap, _∙_}
+use mathlib.Core.Bool.{Bool}
 use mathlib.Core.List.{List}
-use mathlib.Core.Option.{Option, none, some}
-use lib.ListN.{length, take, drop, length-take}
+use lib.ListN.{length, getD, take, length-take}
 use Rattle.reach.specs.declared.Refusal.{Refusal}
 use Rattle.reach.specs.declared.Refusal.the-variants.{ListFull}
 use Rattle.reach.specs.declared.Outcome.{Outcome}
 use Rattle.reach.specs.declared.Verdict.{Verdict}
 use Rattle.reach.specs.Words.{numberOf, stepsOf}
 use Rattle.reach.specs.Limits.{listLimit}
-use Rattle.reach.specs.Lists.{roomOf, onFound, entrySpan, entryPart}
+use Rattle.reach.specs.Lists.{roomOf, entrySpan}
 use Rattle.reach.specs.Answers as Answers
+use Rattle.reach.specs.Printouts.{TextAnswer, noText, ofLength}
 use Rattle.reach.proofs.Base.{clash}
 use Rattle.reach.proofs.ReadBack.{span-counted, part-counted, span-inside}
 use Rattle.rulefile.specs.declared.Checked.the-variants as Checked
@@ -28,7 +30,13 @@ use Rattle.closed.specs.Answering as Closed
 use Rattle.entries.specs.declared.Span.{Span}
 use Rattle.entries.specs.declared.Span.the-variants as span
 use Rattle.entries.specs.Spans.{spanOf}
-use Rattle.packing.specs.Packing.{verdictNumber, outcomeNumber, checkNumber, searchNumber, runNumber, partNumber, PartAt}
+use Rattle.printout.specs.declared.Answer.{Answer as Told}
+use Rattle.printout.specs.declared.Answer.the-variants as Told
+use Rattle.printout.specs.Answering as Printout
+use Rattle.printout.proofs.Demands.{length-exact, length-most, write-exact}
+use Rattle.packing.specs.Packing.{verdictNumber, outcomeNumber, checkNumber, searchNumber, runNumber, textNumber, partNumber, PartAt}
+use Rattle.remburai.specs.Answering.{numberIn}
+use Rattle.remburai.specs.Answering as Calls
 
 -- The check.
 
@@ -138,3 +146,23 @@ module _ (l : List ℕ) (k end : ℕ) {r : Span} (room : end ≡ roomOf (length 
         inside = omega (arith, found-inside e, end-small l end room .1);
         part-is = rw (part-counted l k, ← room, there);
       }
+
+-- The text of a list.
+
+-- the number is that of the definition's answer
+pub text-number : (a : TextAnswer) (r : Told) → r ≡ Printout.answerOf a → numberIn r ≡ textNumber a
+text-number (noText why) r is = ap numberIn is
+text-number (ofLength n) r is = ap numberIn is
+
+-- a text has at most four times the bytes of a list, of which there are at most 16,777,216, and 64 more
+module _ (file list : List ℕ) (bytes : (i : ℕ) → getD list i 0 < 256) (full : Bool) where
+  pub length-text-small : (r : Told) → Printout.Measures file list full r → Calls.lengthIn r ≤ 4 * listLimit + 64
+  length-text-small (Told.Refused why) call = omega arith
+  length-text-small (Told.Length n) call =
+      let fits = (length-exact file list bytes full (Told.Length n) call n) .0 refl in
+      omega (arith, length-most file list bytes full (Told.Length n) call n refl, fits .3 .in-limit)
+
+  pub write-text-small : (before after : List ℕ) (r : Told) → Printout.Writes file list full before after r → Calls.lengthIn r ≤ 4 * listLimit + 64
+  write-text-small before after (Told.Refused why) call = omega arith
+  write-text-small before after (Told.Length n) call =
+      length-text-small (Told.Length n) ((write-exact file list bytes full before after (Told.Length n) call n) .0 refl .0)

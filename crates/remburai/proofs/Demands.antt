@@ -3,25 +3,42 @@
 -- in it fits the types that a caller reads it into (`..-fits`): 32 bits for a length, 16 for steps.
 -- 01, "The forms we expect": "For an answer that is an enum, a definition gives this paper's number and values for each of its cases, and the promises use
 -- that definition."
--- Rests on packing's Unpacked; for the bounds on search's Called, closed's Demands and reach's Limits.
-use Prim.Native.Nat.{ℕ, _≤_}
+-- Rests on packing's Unpacked; for the bounds on search's Called, closed's Demands, printout's Demands and reach's Limits.
+use Prim.Native.Nat.{ℕ, _+_, _*_, _≤_, _<_}
 use native.Mathlib.Omega.{arith}
 use mathlib.Core.Path.{_≡_, refl, sym, ap, _∙_}
+use mathlib.Core.Bool.{Bool}
 use mathlib.Core.List.{List}
-use lib.ListN.{length}
-use Rattle.reach.specs.Limits.{listLimit, stepLimit}
-use Rattle.reach.specs.Lists.{roomOf, entryPart}
-use Rattle.reach.specs.Answers.{Checked, accepted, turnedBack, check, SearchAnswer, searchAnswer, RunAnswer, noRun, ran, runAnswer}
+use mathlib.Core.Logic.{_⊎_, inl, inr, _≢_}
+use mathlib.Core.Option.{none, Option·none-ne-some, Option·some-injective}
+use lib.ListN.{length, getD, take}
+use lib.Dec.{eqb}
+use Rattle.reach.specs.declared.Refusal.{Refusal}
+use Rattle.reach.specs.declared.Refusal.the-variants.{WorkTooShort, ListFull}
+use Rattle.reach.specs.Words.{numberOf}
+use Rattle.reach.specs.Syntax.{Program}
+use Rattle.reach.specs.Limits.{workWords, listLimit, stepLimit}
+use Rattle.reach.specs.Lists.{listBytes, roomOf, entryPart}
+use Rattle.reach.specs.Answers.{Checked, accepted, turnedBack, check, SearchAnswer, noSearch, complete, cutShort, searchAnswer, listed, refusalOf, RunAnswer, noRun, ran, runAnswer}
+use Rattle.reach.specs.Text as Text
+use Rattle.reach.specs.Printouts.{wasCut, Printout, TextAnswer, noText, ofLength, printoutOf, lengthAnswer, writeAnswer}
 use Rattle.reach.proofs.Base.{clash}
 use Rattle.reach.proofs.Limits.{accepted-keeps}
-use Rattle.search.proofs.Called.{listed-room}
+use Rattle.search.proofs.Called.{listed-room, written-take, refused-when, complete-when, full-when}
+use Rattle.search.specs.Answering as Search
 use Rattle.closed.specs.Answering.{answerOf}
 use Rattle.closed.proofs.Demands.{refused-file, steps-spent}
+use Rattle.printout.specs.declared.Answer.{Answer as Told}
+use Rattle.printout.specs.declared.Answer.the-variants as Told
+use Rattle.printout.specs.Answering as Calls
+use Rattle.printout.proofs.Demands.{searched-length, searched-text}
 use Rattle.entries.specs.Spans.{partPlace}
-use Rattle.packing.specs.Packing.{checkNumber, searchNumber, runNumber, partNumber}
-use Rattle.packing.specs.Unpacking.{countBits, decodedCheck, checkRead, SearchRead, decodedSearch, searchRead, decodedRun, runRead, decodedPart}
-use Rattle.remburai.specs.Answering.{Checks, Searches, Runs, Finds}
-use Rattle.packing.proofs.Unpacked.{refused-parted, ran-parted, check-reads, search-reads, run-reads, read-one, part-reads}
+use Rattle.packing.specs.Packing.{checkNumber, searchNumber, runNumber, textNumber, partNumber}
+use Rattle.packing.specs.Unpacking.{refusalBits, countBits, decodedCheck, checkRead, SearchRead, decodedSearch, searchRead, decodedRun, runRead, TextRead, decodedText, textRead, refusalNamed, decodedPart}
+use Rattle.remburai.specs.Answering as Answered
+use Rattle.remburai.proofs.Answers.{length-text-small, write-text-small}
+use Rattle.remburai.specs.Answering.{Checks, Searches, Runs, Finds, Measures, Writes}
+use Rattle.packing.proofs.Unpacked.{refused-parted, ran-parted, check-reads, search-reads, run-reads, read-one, text-reads, text-read-one, part-reads}
 
 -- The check. `Checks file r` is the contract of `remburai_check`: the call answered r. Of the other calls likewise.
 
@@ -79,3 +96,118 @@ entry-decodes list number r call = rw (call .number-is) (part-reads list number)
 pub entry-one : (a b : List ℕ) (j k : ℕ) → partNumber a j ≡ partNumber b k
     → _≡_ {A = ℕ × ℕ} (partPlace a j, length (entryPart a j)) (partPlace b k, length (entryPart b k))
 entry-one a b j k same = sym (part-reads a j) ∙ ap decodedPart same ∙ part-reads b k
+
+-- The text of a list: its refusal, or its length.
+
+pub text-length-decodes : (file list : List ℕ) (full : Bool) (r : ℕ) → Measures file list full r → decodedText r ≡ textRead (lengthAnswer (printoutOf file list full))
+text-length-decodes file list full r call = rw (call .number-is) (text-reads (lengthAnswer (printoutOf file list full)))
+
+pub write-text-decodes : (file list : List ℕ) (full : Bool) (text text′ : List ℕ) (r : ℕ)
+    → Writes file list full text text′ r → decodedText r ≡ textRead (writeAnswer (length text) (printoutOf file list full))
+write-text-decodes file list full text text′ r call = rw (call .number-is) (text-reads (writeAnswer (length text) (printoutOf file list full)))
+
+-- nothing else is in the answer, so the number says it whole
+pub text-one : (a b : TextAnswer) → textNumber a ≡ textNumber b → a ≡ b
+text-one a b same = text-read-one a b (sym (text-reads a) ∙ ap decodedText same ∙ text-reads b)
+
+-- the length is at most four times the 16,777,216 bytes that a list may have, and 64 more
+module _ (file list : List ℕ) (bytes : (i : ℕ) → getD list i 0 < 256) (full : Bool) (r : ℕ) where
+  -- the length in an answer of the definition is that in what the call behind this one answered
+  counted : (a : TextAnswer) → textRead a .bytes ≡ Answered.lengthIn (Calls.answerOf a)
+  counted (noText why) = refl
+  counted (ofLength n) = refl
+
+  pub text-length-fits : Measures file list full r → countBits r ≤ 4 * listLimit + 64
+  text-length-fits call =
+      let a = lengthAnswer (printoutOf file list full) in
+      let many : countBits r ≡ textRead a .bytes = ap (λ (t : TextRead). t .bytes) (text-length-decodes file list full r call) in
+      omega (arith, many, counted a, length-text-small file list bytes full (Calls.answerOf a) (record { answer-is = refl }))
+
+  pub write-text-fits : (text text′ : List ℕ) → Writes file list full text text′ r → countBits r ≤ 4 * listLimit + 64
+  write-text-fits text text′ call =
+      let a = writeAnswer (length text) (printoutOf file list full) in
+      let many : countBits r ≡ textRead a .bytes = ap (λ (t : TextRead). t .bytes) (write-text-decodes file list full text text′ r call) in
+      omega (arith, many, counted a, write-text-small file list bytes full text text′ (Calls.answerOf a) (record { answer-is = refl; text-is = call .text-is }))
+
+-- 02, Slip 2, of a caller in C: the search answered a, without a refusal or with 12. Its list, the first bytes of the slice, handed back with the same file:
+-- the calls give the length of what `reachlist` prints for that answer, and the text.
+module _ (file work work′ list list′ : List ℕ) (a : ℕ) (call : Searches file work work′ list list′ a)
+    (lists : (refusalBits a ≡ 0) ⊎ (refusalBits a ≡ numberOf ListFull)) where
+  abbrev answer : SearchAnswer
+  answer = searchAnswer file (length work) (length list)
+
+  list-stands : take (countBits a) list′ ≡ listBytes (listed answer)
+  list-stands =
+      let many : countBits a ≡ length (listBytes (listed answer)) = ap (λ (s : SearchRead). s .bytes) (search-decodes file work work′ list list′ a call) in
+      rw (many, call .leaves .list-is) (written-take (listed answer) list)
+
+  -- what the number says of the answer
+  record Ended (s : SearchAnswer) : Type 0 where
+    program : Program
+    checked : check file ≡ accepted program
+    listing : (why : Refusal) → s ≢ noSearch why
+    cut : eqb (refusalBits a) (numberOf ListFull) ≡ wasCut s
+
+  named : refusalNamed (refusalBits a) ≡ refusalOf answer
+  named = ap (λ (s : SearchRead). s .refusal) (search-decodes file work work′ list list′ a call)
+
+  -- no search is refused by 12 without a list
+  never-so : ¬ (answer ≡ noSearch ListFull)
+  never-so is = by-cause ((refused-when file (length work) (length list) ListFull) .0 (ap Search.answerOf is))
+    where
+      by-cause : ((numberOf ListFull ≤ 9) × (check file ≡ turnedBack ListFull))
+          ⊎ ((ListFull ≡ WorkTooShort) × ((p : Program) × (check file ≡ accepted p) × (length work < workWords (p .steps)))) → ⊥
+      by-cause (inl (low, by)) = omega (arith, low)
+      by-cause (inr (same, h)) = clash (cc)
+
+  ended : (s : SearchAnswer) → answer ≡ s → Ended s
+  unfolding refusalNamed refusalOf
+  ended (noSearch why) is = absurd (by-number lists)
+    where
+      by-number : ((refusalBits a ≡ 0) ⊎ (refusalBits a ≡ numberOf ListFull)) → ⊥
+      by-number (inl z) = Option·none-ne-some why (rw z at named ∙ ap refusalOf is)
+      by-number (inr z) = never-so (is ∙ ap noSearch (sym (Option·some-injective ListFull why (rw z at named ∙ ap refusalOf is))))
+  ended (complete es) is = by-number lists
+    where
+      by-number : ((refusalBits a ≡ 0) ⊎ (refusalBits a ≡ numberOf ListFull)) → Ended (complete es)
+      by-number (inl z) =
+          let h = (complete-when file (length work) (length list) _ _) .0 (ap Search.answerOf is) in
+          record { program = h .0; checked = h .1; listing = λ why no. clash (cc); cut = rw z refl }
+      by-number (inr z) = absurd (Option·none-ne-some ListFull (sym (rw z at named ∙ ap refusalOf is)))
+  ended (cutShort es) is = by-number lists
+    where
+      by-number : ((refusalBits a ≡ 0) ⊎ (refusalBits a ≡ numberOf ListFull)) → Ended (cutShort es)
+      by-number (inl z) = absurd (Option·none-ne-some ListFull (rw z at named ∙ ap refusalOf is))
+      by-number (inr z) =
+          let h = (full-when file (length work) (length list) _) .0 (ap Search.answerOf is) in
+          record { program = h .0; checked = h .4; listing = λ why no. clash (cc); cut = rw z refl }
+
+  -- the number of a length
+  told-length : (x : TextAnswer) (n : ℕ) → Calls.answerOf x ≡ Told.Length n → textRead x ≡ record { refusal = none; bytes = n }
+  told-length (noText why) n is = absurd (clash (cc))
+  told-length (ofLength m) n is = let same : m ≡ n = cc in rw same refl
+
+  abbrev cut : Bool
+  cut = eqb (refusalBits a) (numberOf ListFull)
+
+  -- what is printed of that list
+  abbrev shown : Printout
+  shown = printoutOf file (listBytes (listed answer)) (wasCut answer)
+
+  pub searched-measured : (r : ℕ) → Measures file (take (countBits a) list′) cut r → decodedText r ≡ record { refusal = none; bytes = length (Text.text answer) }
+  searched-measured r measured =
+      let e = ended answer refl in
+      let is = searched-length file (length work) (length list) (e .program) (e .checked) answer refl (e .listing) (Calls.answerOf (lengthAnswer shown)) (record { answer-is = refl }) in
+      text-length-decodes file (take (countBits a) list′) cut r measured ∙ rw (list-stands, e .cut) (told-length (lengthAnswer shown) _ is)
+
+  pub searched-written : (text text′ : List ℕ) (r : ℕ) → Writes file (take (countBits a) list′) cut text text′ r → length (Text.text answer) ≤ length text
+      → (decodedText r ≡ record { refusal = none; bytes = length (Text.text answer) }) × (take (countBits r) text′ ≡ Text.text answer)
+  searched-written text text′ r wrote room =
+      let e = ended answer refl in
+      let (is, stands) =
+      searched-text file (length work) (length list) (e .program) (e .checked) answer refl (e .listing) text text′ (Calls.answerOf (writeAnswer (length text) shown))
+      (record { answer-is = refl; text-is = rw (list-stands, e .cut) at (wrote .text-is) }) room in
+      let reads : decodedText r ≡ record { refusal = none; bytes = length (Text.text answer) } =
+      write-text-decodes file (take (countBits a) list′) cut text text′ r wrote ∙ rw (list-stands, e .cut) (told-length (writeAnswer (length text) shown) _ is) in
+      let many : countBits r ≡ length (Text.text answer) = ap (λ (t : TextRead). t .bytes) reads in
+      (reads, rw many stands)

@@ -1,13 +1,17 @@
 -- What the calls for C promise, and all that they promise: the number that they answer with, and the slices as the call behind them leaves them.
--- Rests on reach's Answers, on packing's Packing, and on Answering of search and closed.
+-- Rests on reach's Answers and Printouts, on packing's Packing, and on Answering of search and closed.
 use Prim.Native.Nat.{ℕ}
 use mathlib.Core.Path.{_≡_}
+use mathlib.Core.Bool.{Bool}
 use mathlib.Core.List.{List}
 use lib.ListN.{length}
 use Rattle.reach.specs.Answers.{check, searchAnswer, runAnswer}
+use Rattle.reach.specs.Printouts.{TextAnswer, noText, ofLength, printoutOf, lengthAnswer, writeAnswer, textSlice}
 use Rattle.search.specs.Answering.{Searched}
 use Rattle.closed.specs.Answering.{HasRun}
-use Rattle.packing.specs.Packing.{checkNumber, searchNumber, runNumber, partNumber, PartAt}
+use Rattle.printout.specs.declared.Answer.{Answer}
+use Rattle.printout.specs.declared.Answer.the-variants as Answer
+use Rattle.packing.specs.Packing.{checkNumber, searchNumber, runNumber, textNumber, partNumber, PartAt}
 
 -- `remburai_check` of this file answered r
 pub record Checks (file : List ℕ) (r : ℕ) : Type 0 where
@@ -27,3 +31,24 @@ pub record Runs (file input work work′ : List ℕ) (r : ℕ) : Type 0 where
 pub record Finds (list : List ℕ) (number r : ℕ) : Type 0 where
   pub number-is : r ≡ partNumber list number
   pub part-is : PartAt list number r
+
+-- what a call about a text answered, as the definition has it, its length and its number
+abbrev pub told : Answer → TextAnswer
+told (Answer.Refused why) = noText why
+told (Answer.Length n) = ofLength n
+
+abbrev pub lengthIn : Answer → ℕ
+lengthIn (Answer.Refused why) = 0
+lengthIn (Answer.Length n) = n
+
+abbrev pub numberIn : Answer → ℕ
+numberIn r = textNumber (told r)
+
+-- `remburai_text_length` answered r for a list that was handed in with its file; `full` says that the search ended in 12
+pub record Measures (file list : List ℕ) (full : Bool) (r : ℕ) : Type 0 where
+  pub number-is : r ≡ textNumber (lengthAnswer (printoutOf file list full))
+
+-- `remburai_write_text` answered r; the slice that held `text` holds `text′`
+pub record Writes (file list : List ℕ) (full : Bool) (text text′ : List ℕ) (r : ℕ) : Type 0 where
+  pub number-is : r ≡ textNumber (writeAnswer (length text) (printoutOf file list full))
+  pub text-is : text′ ≡ textSlice text (printoutOf file list full)

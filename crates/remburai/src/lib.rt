@@ -1,7 +1,9 @@
-// The calls for C and Rust: the check of a rule file, its search, a closed run, and where an entry of a list stands. Each answers with
-// one number, which specs/Packing.antt of crate packing defines, and promises what specs/Answering.antt says; include/remburai.h has the
-// numbers for C. Rests on crates rulefile, search, closed, entries and packing.
-ghost use Rattle.remburai.specs.Answering.{Checks, Searches, Runs, Finds};
+// The calls for C and Rust: the check of a rule file, its search, a closed run, where an entry of a list stands, and the printed text of a
+// list. Each answers with one number, which specs/Packing.antt of crate packing defines, and promises what specs/Answering.antt says;
+// include/remburai.h has the numbers for C. Rests on crates rulefile, search, closed, entries, printout and packing.
+ghost use mathlib.Core.Path.{_≡_};
+ghost use Prim.Native.Nat.{_≤_};
+ghost use Rattle.remburai.specs.Answering.{Checks, Searches, Runs, Finds, Measures, Writes, lengthIn, numberIn};
 use entries::Span;
 use entries::room;
 use entries::span_of;
@@ -58,4 +60,36 @@ pub extern "C" fn remburai_entry(list: &[u8], number: usize) -> u64
         Span::At(at, n) => (at as u64) + 4294967296 * (n as u64),
         Span::NoEntry => end as u64,
     }
+}
+
+// The number of what is said of a text.
+fn text_number(answer: printout::Answer) -> u64
+    requires { ⌜ lengthIn answer ≤ 4294967295 ⌝ }
+    ensures { λ r. ⌜ r ≡ numberIn answer ⌝ }
+{
+    match answer {
+        printout::Answer::Refused(why) => number(why),
+        printout::Answer::Length(n) => 65536 * (n as u64),
+    }
+}
+
+// The length of the printed text of a list, which is handed in with its rule file. `full` says that the search ended in 12.
+#[no_mangle]
+pub extern "C" fn remburai_text_length<'a>(file: &'a [u8], list: &'a [u8], full: bool) -> u64
+    ensures { λ r. ⌜ Measures (now (file .entry)) (now (list .entry)) full r ⌝ }
+{
+    text_number(printout::text_length(file, list, full))
+}
+
+// Writes that text to the front of a slice.
+#[no_mangle]
+pub extern "C" fn remburai_write_text<'a>(
+    file: &'a [u8],
+    list: &'a [u8],
+    full: bool,
+    text: &mut [u8],
+) -> u64
+    ensures { λ r. ⌜ Writes (now (file .entry)) (now (list .entry)) full (now (text .entry)) (now (text .exit)) r ⌝ }
+{
+    text_number(printout::write_text(file, list, full, text))
 }

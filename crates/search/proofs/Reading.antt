@@ -1,6 +1,6 @@
 -- The bytes of a list determine its entries: a partial input of the source's types is determined by its prefix form, so that an entry is determined by
 -- what is read back of it.
--- Rests on specs/Answering, on reach's ReadBack for the bytes of a list, on its Limits (a constructor's number is not 0xFF) and on its Accepted and EntryLength
+-- Rests on specs/Answering, on reach's ReadBack for the bytes of a list, on its Handed (a constructor's number is not 0xFF) and on its Accepted and EntryLength
 -- (an entry has the source's types).
 use Prim.Native.Nat.{ℕ, zero, suc, _≤_, _<_}
 use native.Mathlib.Omega.{arith}
@@ -8,7 +8,7 @@ use mathlib.Core.Path.{_≡_, refl, sym, ap, subst, _∙_}
 use mathlib.Core.Logic.{_⊎_, inl, inr, _↔_}
 use mathlib.Core.List.{List, [], _∷_, _++_, append-assoc, append-nil}
 use mathlib.Core.Option.{Option, none, some, Option·none-ne-some}
-use lib.ListN.{length, getD, getElem?}
+use lib.ListN.{length, getElem?}
 use Rattle.reach.specs.Base.{_∈_}
 use Rattle.reach.specs.Limits.{listLimit}
 use Rattle.reach.specs.Syntax.{Types, Program, fieldTypes, sourceTypes}
@@ -18,10 +18,10 @@ use Rattle.reach.specs.Search.{Entry, entries}
 use Rattle.reach.specs.Lists.{entryBytes, listBytes, entryPart, Decoded, decoded}
 use Rattle.reach.specs.Answers.{accepted, check}
 use Rattle.reach.proofs.Base.{clash, nth-member}
-use Rattle.reach.proofs.WellTyped.{at-getD}
 use Rattle.reach.proofs.Limits.{accepted-keeps}
 use Rattle.reach.proofs.Accepted.{entry-typed}
 use Rattle.reach.proofs.EntryLength.{entry-within}
+use Rattle.reach.proofs.Handed.{few}
 use Rattle.reach.proofs.ReadBack.{decoded-entry, entry-read-back, beyond-end}
 use Rattle.listing.proofs.Bytes.{entry-length}
 use Rattle.search.specs.Answering.{ReadsAs}
@@ -70,14 +70,9 @@ same-entry e f k s i =
     z
 
 module _ (file : List ℕ) (p : Program) (h : check file ≡ accepted p) where
-  -- the constructors of a type are at most 16
-  number-low : (t c : ℕ) (us : List ℕ) → fieldTypes (p .types) t c ≡ some us → c < 255
-  unfolding fieldTypes
-  number-low t c us is = omega (arith, (at-getD (getD (p .types) t []) c [] us is) .0, (accepted-keeps file p h) .constructors-limit t)
-
   -- partial inputs of the source's types that have one prefix form are one
   pub prefix-unique : (i j : Parts) → Typed (p .types) (sourceTypes p) i → Typed (p .types) (sourceTypes p) j → prefix i ≡ prefix j → i ≡ j
-  prefix-unique i j a b is = (row-unique (p .types) number-low (sourceTypes p) i j [] [] a b (ap (λ (l : List ℕ). l ++ []) is)) .0
+  prefix-unique i j a b is = (row-unique (p .types) (few file p h) (sourceTypes p) i j [] [] a b (ap (λ (l : List ℕ). l ++ []) is)) .0
 
   -- its steps fit their two bytes
   entry-steps : (e : Entry) → e ∈ entries p → e .steps < 65536

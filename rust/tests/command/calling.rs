@@ -100,13 +100,21 @@ pub fn call_with(words: &[&str], input: &[u8]) -> Called {
     Called::of(child.wait_with_output().expect("the command"))
 }
 
-/// A file of the test's own, removed at its end.
+/// A file or a folder of the test's own, removed at its end.
 pub struct Scratch(pub PathBuf);
 
 impl Scratch {
     pub fn file(name: &str, bytes: &[u8]) -> Scratch {
         let path = PathBuf::from(env!("CARGO_TARGET_TMPDIR")).join(name);
         std::fs::write(&path, bytes).expect("a file");
+        Scratch(path)
+    }
+
+    /// A folder, empty at first.
+    pub fn folder(name: &str) -> Scratch {
+        let path = PathBuf::from(env!("CARGO_TARGET_TMPDIR")).join(name);
+        let _ = std::fs::remove_dir_all(&path);
+        std::fs::create_dir(&path).expect("a folder");
         Scratch(path)
     }
 
@@ -117,6 +125,9 @@ impl Scratch {
 
 impl Drop for Scratch {
     fn drop(&mut self) {
-        let _ = std::fs::remove_file(&self.0);
+        let _ = match self.0.is_dir() {
+            true => std::fs::remove_dir_all(&self.0),
+            false => std::fs::remove_file(&self.0),
+        };
     }
 }

@@ -2,9 +2,9 @@
 use crate::calling::{call, path, Scratch};
 use crate::rules::{stored, too_many_entries, Stored};
 
-const WORDS: [&str; 12] = [
+const WORDS: [&str; 14] = [
     "short", "mark", "range", "stranger", "code", "misfit", "tail", "hollow", "shallow", "input",
-    "bench", "full",
+    "bench", "full", "page", "scrap",
 ];
 
 fn see(printed: &[&str], number: usize) {

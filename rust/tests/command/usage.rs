@@ -1,7 +1,7 @@
 //! Help, and faults of use.
 use crate::calling::{call, path};
 
-const COMMANDS: [&str; 4] = ["list", "entry", "run", "check"];
+const COMMANDS: [&str; 5] = ["list", "entry", "run", "check", "print"];
 
 #[test]
 fn help() {
@@ -48,7 +48,7 @@ fn version() {
 
 #[test]
 fn options_for_every_command_are_in_its_help() {
-    for (name, options) in [("list", 5), ("run", 2), ("check", 2)] {
+    for (name, options) in [("list", 6), ("run", 2), ("check", 2), ("print", 4)] {
         let page = call(&[name, "--help"]).printed;
         assert_eq!(
             page.lines().filter(|line| line.starts_with("  --")).count(),
@@ -59,7 +59,7 @@ fn options_for_every_command_are_in_its_help() {
 }
 
 /// Words with what is said of them; P is a rule file.
-const FAULTS: [(&str, &str); 21] = [
+const FAULTS: [(&str, &str); 32] = [
     ("lists P", "there is no command \"lists\""),
     ("list", "the rule is missing"),
     ("list P P", "one rule is needed"),
@@ -84,6 +84,17 @@ const FAULTS: [(&str, &str); 21] = [
     ("list P --raw=1", "there is no option --raw=1 here"),
     ("run P 0 --limit 3", "there is no option --limit here"),
     ("check -- --raw", "--raw: No such file or directory"),
+    ("print P", "a rule and a stored list are needed"),
+    ("print P P P", "a rule and a stored list are needed"),
+    ("print - -", "cannot both be standard input"),
+    ("print P no-list", "no-list: No such file or directory"),
+    ("print P P --raw", "there is no option --raw here"),
+    ("print P P --full=1", "there is no option --full=1 here"),
+    ("list P --full", "there is no option --full here"),
+    ("list P --length", "there is no option --length here"),
+    ("list P --save", "--save needs a value"),
+    ("list P --save -", "--save needs the name of a file"),
+    ("entry P 0 --save=x", "there is no option --save=x here"),
 ];
 
 #[test]

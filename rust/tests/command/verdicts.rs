@@ -156,7 +156,8 @@ fn runs() {
         run(&["0"], 1),
         "ended off target after 3 steps, within depth 4, 20 steps."
     );
-    let open = "unfinished after 5 steps, within depth 3, 5 steps: whether the input reaches the target, \
+    let open =
+        "unfinished after 5 steps, within depth 3, 5 steps: whether the input reaches the target, \
                 or runs into a missing alternative, is not known; a larger --steps may tell.";
     assert_eq!(run(&["1 1 0", "--steps", "5", "--depth", "3"], 2), open);
     assert_eq!(

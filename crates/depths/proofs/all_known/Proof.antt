@@ -27,7 +27,7 @@ returns c =
       ← c .before .before .before .before .loop .inv .0,
       bytes-more _ _ _ (c .before .before .before .loop-test .taken),
       ← c .before .before .byte-or-zero .ensures,
-      ← c .before .depth-of .ensures,
+      ← c .before .depth-of .ensures .0,
       le-ltb 0 (c .before .depth-of .result) (omega arith),
     )
 
@@ -38,7 +38,7 @@ loop-again c = (
     ← c .before .before .before .before .loop .inv .0,
     bytes-more _ _ _ (c .before .before .before .loop-test .taken),
     ← c .before .before .byte-or-zero .ensures,
-    ← c .before .depth-of .ensures,
+    ← c .before .depth-of .ensures .0,
     lt-ltb 0 (c .before .depth-of .result) (omega arith),
   ),
   omega arith,

@@ -27,7 +27,7 @@ returns c =
       ← c .before .before .before .before .loop .inv .0,
       bytes-more _ _ _ (c .before .before .before .loop-test .taken),
       ← c .before .before .byte-or-zero .ensures,
-      ← c .before .depth-of .ensures,
+      ← c .before .depth-of .ensures .0,
       le-ltb 0 (c .before .depth-of .result) (omega arith),
     )
 
@@ -38,7 +38,7 @@ returns-2 c =
       ← c .before .before .before .before .before .loop .inv .0,
       bytes-more _ _ _ (c .before .before .before .before .loop-test .taken),
       ← c .before .before .before .byte-or-zero .ensures,
-      ← c .before .before .depth-of .ensures,
+      ← c .before .before .depth-of .ensures .0,
       lt-ltb 0 (c .before .before .depth-of .result) (omega arith),
       lt-leb _ _ (c .if2 .taken),
     )
@@ -50,7 +50,7 @@ loop-again c = (
     ← c .before .before .before .before .before .loop .inv .0,
     bytes-more _ _ _ (c .before .before .before .before .loop-test .taken),
     ← c .before .before .before .byte-or-zero .ensures,
-    ← c .before .before .depth-of .ensures,
+    ← c .before .before .depth-of .ensures .0,
     lt-ltb 0 (c .before .before .depth-of .result) (omega arith),
     le-leb _ _ (c .if2 .left),
   ),

@@ -11,7 +11,7 @@ returns-2 : tie.Need-returns-2
 returns-2 c =
     let array = c .before .args .t1 .of in
     let long : length array ≡ 32 = search needs in
-    sym (List·getD-eq-default {A = ℕ} array 0 (omega arith))
+    (sym (List·getD-eq-default {A = ℕ} array 0 (omega arith)), omega arith)
 
 pub depth-of-spec : {M : Type 1} → statement M
 depth-of-spec = tie.close (tie.spec (λ c. search needs) (λ c. search needs) (λ c. search needs) returns-2)

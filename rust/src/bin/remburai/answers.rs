@@ -1,12 +1,15 @@
-//! The answers to the four commands.
-use crate::arguments::{whole, Command, Request};
-use crate::lines::{tell, write_entries, write_refusal, write_total};
+//! The answers to the five commands.
+use crate::arguments::{whole, Command, Form, Request};
+use crate::lines::{explain, tell, write_entries, write_refusal, write_text, write_total};
 use crate::searching::{searched, Searched};
 use crate::standard::{say, Output};
 use crate::status::{fault, Status, Stop};
+use crate::storing;
 use crate::subject::Subject;
 use crate::wording;
-use remburai::{entries, entry, run, work_words, SearchError};
+use remburai::{entries, entry, run, text_length, work_words, SearchError};
+use std::ffi::OsStr;
+use std::path::Path;
 
 /// Writes the answer to a request.
 pub fn answer(request: &Request, out: &mut Output) -> Result<Status, Stop> {
@@ -15,11 +18,17 @@ pub fn answer(request: &Request, out: &mut Output) -> Result<Status, Stop> {
         Command::Entry => one_entry(request, &subject, out),
         Command::Run => outcome(request, &subject, out),
         Command::Check => accepted(&subject, out),
+        Command::Print => print(request, &subject, out),
     });
+    with_refusal(request.form, given, out)
+}
+
+/// Writes the refusal where there is no other answer.
+fn with_refusal(form: Form, given: Result<Status, Stop>, out: &mut Output) -> Result<Status, Stop> {
     let Err(Stop::Refused(why)) = given else {
         return given;
     };
-    write_refusal(request.form, why, out)?;
+    write_refusal(form, why, out)?;
     Ok(Status::Refused)
 }
 
@@ -29,10 +38,35 @@ fn accepted(subject: &Subject, out: &mut Output) -> Result<Status, Stop> {
     Ok(Status::Yes)
 }
 
+/// The list, stored where that is asked for. Where it cannot be stored is seen before the search; if it fails after it, the answer is
+/// written all the same, and then the fault.
 fn list(request: &Request, subject: &Subject, out: &mut Output) -> Result<Status, Stop> {
+    let name = request.save.as_deref();
+    name.map_or(Ok(()), storing::see_place)?;
     let Some(found) = search(request, subject)? else {
         return Ok(Status::Open);
     };
+    let saved = name.map_or(Ok(()), |name| save(name, &found));
+    let written = listed(request, subject, &found, out);
+    let written = with_refusal(request.form, written, out);
+    let Err(Stop::Fault(unsaved)) = saved else {
+        return written;
+    };
+    let written = written.and_then(|_| out.flush());
+    say(unsaved);
+    written.map(|()| Status::Fault)
+}
+
+/// The answer that a search has given.
+fn listed(
+    request: &Request,
+    subject: &Subject,
+    found: &Searched,
+    out: &mut Output,
+) -> Result<Status, Stop> {
+    if request.form == Form::Raw {
+        return raw_list(subject, found, out);
+    }
     write_entries(request.form, subject, found.list(), out)?;
     match found.answer {
         Ok(listed) => {
@@ -40,8 +74,53 @@ fn list(request: &Request, subject: &Subject, out: &mut Output) -> Result<Status
             write_total(request.form, &total, subject.rule.goal(), out)?;
             Ok(listed.verdict.into())
         }
-        Err(why) => cut_short(why, &found, request, subject, out),
+        Err(why) => cut_short(why, found, request, subject, out),
     }
+}
+
+/// The list as `reachlist` prints it, in the library's own text. What else there is to say goes to standard error.
+fn raw_list(subject: &Subject, found: &Searched, out: &mut Output) -> Result<Status, Stop> {
+    write_text(subject, found.list(), found.full()?, out)?;
+    let goal = subject.rule.goal();
+    match found.answer {
+        Ok(listed) => {
+            say(format_args!("{} {}", listed.verdict, wording::within(goal)));
+            Ok(listed.verdict.into())
+        }
+        Err(why) => {
+            say(wording::cut_short(entries(found.list()).count(), goal));
+            explain(Form::Raw, why.refusal(), out)?;
+            Ok(Status::Refused)
+        }
+    }
+}
+
+/// Stores the list of a search, also one that is cut short. Without a list nothing is stored.
+fn save(name: &OsStr, found: &Searched) -> Result<(), Stop> {
+    let Ok(full) = found.full() else {
+        return Ok(());
+    };
+    storing::save(name, found.list())?;
+    if full {
+        let path = Path::new(name).display();
+        say(format_args!(
+            "{path} has the entries that fit; remburai print needs --full for it"
+        ));
+    }
+    Ok(())
+}
+
+/// The text of a stored list, or its length.
+fn print(request: &Request, subject: &Subject, out: &mut Output) -> Result<Status, Stop> {
+    let list = storing::read(&request.more[0])?;
+    if request.length {
+        let length = text_length(&subject.file, &list, request.full);
+        out.line(length.map_err(Stop::Refused)?)?;
+        return Ok(Status::Yes);
+    }
+    write_text(subject, &list, request.full, out)?;
+    say(wording::handed_in(subject.rule.goal()));
+    Ok(Status::Yes)
 }
 
 /// The search of the rule, or nothing where the limit has passed.
@@ -66,11 +145,8 @@ fn cut_short(
     out: &mut Output,
 ) -> Result<Status, Stop> {
     if let SearchError::Full { .. } = why {
-        let within = wording::within(subject.rule.goal());
         let count = entries(found.list()).count();
-        let sentence = format!(
-            "No verdict {within}: the list is full after {count} entries, and there are more."
-        );
+        let sentence = wording::cut_short(count, subject.rule.goal());
         tell(request.form, &sentence, out)?;
     }
     Err(Stop::Refused(why.refusal()))

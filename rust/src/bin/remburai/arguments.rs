@@ -14,6 +14,7 @@ pub enum Command {
     Entry,
     Run,
     Check,
+    Print,
 }
 
 impl Command {
@@ -23,6 +24,7 @@ impl Command {
             "entry" => Some(Command::Entry),
             "run" => Some(Command::Run),
             "check" => Some(Command::Check),
+            "print" => Some(Command::Print),
             _ => None,
         }
     }
@@ -38,6 +40,15 @@ impl Command {
             Command::Entry => include_str!("help/entry.txt"),
             Command::Run => include_str!("help/run.txt"),
             Command::Check => include_str!("help/check.txt"),
+            Command::Print => include_str!("help/print.txt"),
+        }
+    }
+
+    /// How its answer is written if no option says it. A stored list has the raw form only.
+    fn form(self) -> Form {
+        match self {
+            Command::Print => Form::Raw,
+            _ => Form::People,
         }
     }
 }
@@ -57,9 +68,15 @@ pub struct Request {
     pub depth: Option<u8>,
     pub steps: Option<u16>,
     pub limit: Option<Duration>,
+    /// Where the list is to be stored.
+    pub save: Option<OsString>,
+    /// Whether the search of the stored list ended in refusal 12.
+    pub full: bool,
+    /// Whether the length of the text is asked for, and not the text.
+    pub length: bool,
     /// The rule, by its path, or `-`.
     pub rule: OsString,
-    /// What stands behind the rule: the input of a run, the number of an entry.
+    /// What stands behind the rule: the input of a run, the number of an entry, the path of a stored list.
     pub more: Vec<OsString>,
 }
 
@@ -109,10 +126,13 @@ impl Words {
     fn of(command: Command, left: IntoIter<OsString>) -> Words {
         let request = Request {
             command,
-            form: Form::People,
+            form: command.form(),
             depth: None,
             steps: None,
             limit: None,
+            save: None,
+            full: false,
+            length: false,
             rule: OsString::new(),
             more: vec![],
         };
@@ -142,13 +162,21 @@ impl Words {
             Some((name, value)) => (name, Some(value.to_string())),
             None => (option, None),
         };
-        let searches = self.request.command.searches();
+        let command = self.request.command;
+        let searches = command.searches();
         match name {
             "--depth" => self.request.depth = Some(self.number(name, value, 1, DEPTH_LIMIT)? as u8),
             "--steps" => self.request.steps = Some(self.number(name, value, 0, STEP_LIMIT)? as u16),
             "--limit" if searches => self.request.limit = Some(self.seconds(name, value)?),
             "--raw" if searches && value.is_none() => self.form(Form::Raw)?,
             "--json" if searches && value.is_none() => self.form(Form::Json)?,
+            "--save" if command == Command::List => {
+                self.request.save = Some(self.file(name, value)?)
+            }
+            "--full" if command == Command::Print && value.is_none() => self.request.full = true,
+            "--length" if command == Command::Print && value.is_none() => {
+                self.request.length = true
+            }
             _ => return Err(wrong(format_args!("there is no option {option} here"))),
         }
         Ok(())
@@ -163,14 +191,23 @@ impl Words {
     }
 
     /// The value of an option: behind its `=`, or the next word.
-    fn value(&mut self, name: &str, given: Option<String>) -> Result<String, Stop> {
-        let next = || {
-            self.left
-                .next()
-                .map(|word| word.to_string_lossy().into_owned())
-        };
-        let value = given.or_else(next);
+    fn word(&mut self, name: &str, given: Option<String>) -> Result<OsString, Stop> {
+        let value = given.map(OsString::from).or_else(|| self.left.next());
         value.ok_or_else(|| wrong(format_args!("{name} needs a value")))
+    }
+
+    fn value(&mut self, name: &str, given: Option<String>) -> Result<String, Stop> {
+        let word = self.word(name, given)?;
+        Ok(word.to_string_lossy().into_owned())
+    }
+
+    /// The name of a file to be written, which standard output is not.
+    fn file(&mut self, name: &str, given: Option<String>) -> Result<OsString, Stop> {
+        let word = self.word(name, given)?;
+        match word.to_str() {
+            Some("" | "-") => Err(wrong(format_args!("{name} needs the name of a file"))),
+            _ => Ok(word),
+        }
     }
 
     fn number(
@@ -211,17 +248,24 @@ impl Words {
         let more = self.places.split_off(1);
         let few = match self.request.command {
             Command::List | Command::Check => more.is_empty(),
-            Command::Entry => more.len() == 1,
+            Command::Entry | Command::Print => more.len() == 1,
             Command::Run => true,
         };
         if !few {
             return Err(wrong(match self.request.command {
                 Command::Entry => "a rule and the number of an entry are needed, and nothing else",
+                Command::Print => "a rule and a stored list are needed, and nothing else",
                 _ => "one rule is needed, and nothing else",
             }));
         }
         self.request.rule = self.places.remove(0);
         self.request.more = more;
+        if self.request.command == Command::Print
+            && self.request.rule == "-"
+            && self.request.more[0] == "-"
+        {
+            return Err(wrong("the rule and the list cannot both be standard input"));
+        }
         Ok(self.request)
     }
 }

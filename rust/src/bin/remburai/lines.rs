@@ -4,7 +4,7 @@ use crate::standard::{say, Output};
 use crate::status::Stop;
 use crate::subject::Subject;
 use crate::wording;
-use remburai::{entries, Entry, Goal, Part, Refusal, Rule, Total};
+use remburai::{entries, list_text, Entry, Goal, Part, Refusal, Rule, Total};
 
 /// Writes entries, by names where the rule has a text.
 pub fn write_entries(
@@ -54,7 +54,7 @@ fn object(entry: &Entry, rule: &Rule) -> String {
     )
 }
 
-/// Writes the total of a complete list, and what it stands for.
+/// Writes the total of a complete list, and what it stands for. In the raw form it is the last line of the list's text.
 pub fn write_total(form: Form, total: &Total, goal: Goal, out: &mut Output) -> Result<(), Stop> {
     let Total {
         reach,
@@ -63,19 +63,26 @@ pub fn write_total(form: Form, total: &Total, goal: Goal, out: &mut Output) -> R
         verdict,
     } = total;
     let (share, depth, steps) = (total.share(), goal.depth, goal.steps);
-    match form {
-        Form::Json => out.line(format_args!(
+    if form == Form::Json {
+        return out.line(format_args!(
             "{{\"reach\":{reach},\"unfinished\":{unfinished},\"missing\":{missing},\"share\":{share},\"verdict\":\"{verdict}\",\"depth\":{depth},\"steps\":{steps}}}"
-        )),
-        Form::Raw => {
-            out.line(total)?;
-            tell(form, &format!("{verdict} {}", wording::within(goal)), out)
-        }
-        Form::People => {
-            out.line(total)?;
-            wording::verdict(total, goal).iter().try_for_each(|line| out.line(line))
-        }
+        ));
     }
+    out.line(total)?;
+    wording::verdict(total, goal)
+        .iter()
+        .try_for_each(|line| out.line(line))
+}
+
+/// Writes the text of a list, as `reachlist` prints it.
+pub fn write_text(
+    subject: &Subject,
+    list: &[u8],
+    full: bool,
+    out: &mut Output,
+) -> Result<(), Stop> {
+    let text = list_text(&subject.file, list, full).map_err(Stop::Refused)?;
+    out.bytes(text.as_bytes())
 }
 
 /// Writes a refusal, with what to do.
@@ -86,6 +93,11 @@ pub fn write_refusal(form: Form, why: Refusal, out: &mut Output) -> Result<(), S
         Form::Raw => out.line(format_args!("refused {number}"))?,
         Form::Json => out.line(format_args!("{{\"refused\":{number},\"word\":\"{word}\"}}"))?,
     }
+    explain(form, why, out)
+}
+
+/// Writes what a refusal says, and what to do about it.
+pub fn explain(form: Form, why: Refusal, out: &mut Output) -> Result<(), Stop> {
     tell(form, &why.to_string(), out)?;
     tell(form, &format!("What to do: {}.", wording::advice(why)), out)
 }

@@ -1,14 +1,16 @@
-//! The command for people: a rule's list, one of its entries, a run on one input, and the check, by the proved calls of the library.
+//! The command for people: a rule's list, one of its entries, a run on one input, the check, and the text of a stored list, by the proved
+//! calls of the library.
 //!
 //! `arguments` reads the command line and `subject` the rule, by `text` and tools/rule where it is a text. `answers` gives the answer: by
-//! `searching` where it takes a search, in the sentences of `wording` and the lines of `lines`, written by `standard`. How it ends is said
-//! in `status`.
+//! `searching` where it takes a search, by `storing` where a list is stored or was, in the sentences of `wording` and the lines of `lines`,
+//! written by `standard`. How it ends is said in `status`.
 mod answers;
 mod arguments;
 mod lines;
 mod searching;
 mod standard;
 mod status;
+mod storing;
 mod subject;
 mod text;
 mod wording;
@@ -29,7 +31,7 @@ fn done() -> Result<Status, Stop> {
         }
         Asked::Answer(request) => answers::answer(&request, &mut out)?,
     };
-    out.finish()?;
+    out.flush()?;
     Ok(status)
 }
 

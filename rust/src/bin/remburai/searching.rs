@@ -27,6 +27,15 @@ impl Searched {
             Err(SearchError::Refused(_)) => &[],
         }
     }
+
+    /// Whether the list is cut short, refusal 12. With any other refusal there is no list.
+    pub fn full(&self) -> Result<bool, Stop> {
+        match self.answer {
+            Ok(_) => Ok(false),
+            Err(SearchError::Full { .. }) => Ok(true),
+            Err(SearchError::Refused(why)) => Err(Stop::Refused(why)),
+        }
+    }
 }
 
 /// Searches a rule file of step limit `steps`. Nothing where the search has no answer within the limit; it then goes on until the command

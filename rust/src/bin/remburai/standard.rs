@@ -65,7 +65,7 @@ impl Output {
     }
 
     /// Writes what is still held back.
-    pub fn finish(mut self) -> Result<(), Stop> {
+    pub fn flush(&mut self) -> Result<(), Stop> {
         self.to.flush().map_err(unwritten)
     }
 }

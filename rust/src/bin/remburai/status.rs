@@ -5,7 +5,7 @@ use std::fmt::Display;
 /// The exit statuses; help/remburai.txt says the same.
 #[derive(Clone, Copy)]
 pub enum Status {
-    /// Found, accepted or reached; the entry asked for.
+    /// Found, accepted or reached; the entry asked for; a stored list printed.
     Yes = 0,
     /// None, ended or missing; no such entry.
     No = 1,
@@ -39,7 +39,7 @@ impl From<Outcome> for Status {
 
 /// Why there is no answer.
 pub enum Stop {
-    /// The rule is refused.
+    /// The rule, or the list, is refused.
     Refused(Refusal),
     /// A fault, and what is to be said of it.
     Fault(String),

@@ -77,6 +77,18 @@ fn more_steps(goal: Goal) -> String {
     }
 }
 
+/// What a list that is cut short after so many entries stands for.
+pub fn cut_short(count: usize, goal: Goal) -> String {
+    let within = within(goal);
+    format!("No verdict {within}: the list is full after {count} entries, and there are more.")
+}
+
+/// What the text of a list that is handed in stands for.
+pub fn handed_in(goal: Goal) -> String {
+    let within = within(goal);
+    format!("what is printed speaks for the rule only if its search {within} returned this list")
+}
+
 /// What the outcome of a run stands for.
 pub fn outcome(outcome: Outcome, goal: Goal) -> String {
     let within = within(goal);
@@ -122,5 +134,9 @@ pub fn advice(why: Refusal) -> &'static str {
         }
         Refusal::WorkTooShort => "lend more words",
         Refusal::ListFull => "lower D or S, or give a smaller --depth or --steps",
+        Refusal::TextTooShort => "lend as many bytes as the text has",
+        Refusal::BadList => {
+            "give the list that remburai list --save has stored for this rule, with the --depth and the --steps of that search"
+        }
     }
 }

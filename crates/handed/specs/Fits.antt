@@ -1,0 +1,55 @@
+-- Entries of a list that is handed in, as reach's Handed reads them, the types being those at the places of a checked file.
+-- Rests on reach's Handed, Partial and Places, on partials' Values and on the enum of src/lib.rt.
+use Prim.Native.Nat.{ℕ}
+use mathlib.Core.Path.{_≡_}
+use mathlib.Core.Bool.{Bool, true, false}
+use mathlib.Core.List.{List, map}
+use lib.ListN.{getD}
+use Rattle.reach.specs.declared.Refusal.{Refusal}
+use Rattle.reach.specs.Limits.{depthLimit}
+use Rattle.reach.specs.Parts.{Parts}
+use Rattle.reach.specs.Syntax.{Program, sourceTypes}
+use Rattle.reach.specs.Types.{slots, leastDepths}
+use Rattle.reach.specs.Search.{Entry}
+use Rattle.reach.specs.Reader.{Got, got, refused, Reader}
+use Rattle.reach.specs.Partial.{slotted}
+use Rattle.reach.specs.Lists.{onFound}
+use Rattle.reach.specs.Answers.{accepted, check}
+use Rattle.reach.specs.Handed.{entryBy, handed}
+use Rattle.reach.specs.Places.{typeAt, headAt}
+use Rattle.partials.specs.Values.{valueAt}
+use Rattle.handed.specs.declared.Behind.{Behind}
+use Rattle.handed.specs.declared.Behind.the-variants as Behind
+
+-- a reading, with its value and its reason forgotten
+abbrev pub placeOf : {A : Type 0} → Got A → Behind
+placeOf (got a next) = Behind.At next
+placeOf (refused why) = Behind.Bad
+
+-- a value for each of these types, each at most so deep
+abbrev pub slotsAt : List ℕ → List ℕ → List ℕ → ℕ → List ℕ → Reader Parts
+slotsAt file types table depth ts = slotted (valueAt file types table depthLimit) (slots ts depth)
+
+-- an entry of a source's list
+abbrev pub entryAt : List ℕ → List ℕ → List ℕ → List ℕ → ℕ → ℕ → ℕ → Reader Entry
+entryAt file types functions table source depth steps =
+    entryBy (map (typeAt file) types) table (slots ((headAt file (getD functions source 0)) .parameters) depth) steps
+
+-- it was read up to this place, or not
+abbrev pub Told : Got Entry → ℕ → Bool → Type 0
+Told g next true = (e : Entry) × (g ≡ got e next)
+Told g next false = (why : Refusal) × (g ≡ refused why)
+
+-- The tables and the goal are those of an accepted file.
+pub record Given (file types functions table : List ℕ) (source depth steps : ℕ) (p : Program) : Type 0 where
+  pub checked : check file ≡ accepted p
+  pub types-there : p .types ≡ map (typeAt file) types
+  pub source-there : sourceTypes p ≡ (headAt file (getD functions source 0)) .parameters
+  pub depth-is : p .depth ≡ depth
+  pub steps-are : p .steps ≡ steps
+  pub table-is : (t : ℕ) → getD (leastDepths (p .types)) t 0 ≡ getD table t 0
+
+-- refusal 14 is not given: the list is read as entries
+abbrev pub FitsList : List ℕ → List ℕ → List ℕ → List ℕ → ℕ → ℕ → ℕ → List ℕ → Bool → Type 0
+FitsList file types functions table source depth steps list r =
+    (p : Program) → Given file types functions table source depth steps p → r ≡ onFound false (λ es. true) (handed p list)
