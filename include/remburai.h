@@ -33,18 +33,20 @@ extern "C" {
 
 /* The version of this file and of the library beside it. */
 #define REMBURAI_VERSION_MAJOR 0
-#define REMBURAI_VERSION_MINOR 3
+#define REMBURAI_VERSION_MINOR 4
 #define REMBURAI_VERSION_PATCH 0
-#define REMBURAI_VERSION "0.3.0"
+#define REMBURAI_VERSION "0.4.0"
 
 /* Every call answers with one number; the functions under "The parts of an answer" take it apart.
  *
  *                          bits 0 to 7     bits 8 to 15    from bit 16 on
  *   remburai_check         the refusal     0               0
  *   remburai_search        the refusal     the verdict     the length of the list, in bytes
- *   remburai_run           the refusal     the outcome     the steps
  *   remburai_text_length   the refusal     0               the length of the text, in bytes; 0 with a refusal
  *   remburai_write_text    the refusal     0               the length of the text, in bytes; 0 with a refusal
+ *
+ *                          bits 0 to 7     bits 8 to 15    bits 16 to 31   bits 32 to 39
+ *   remburai_run           the refusal     the outcome     the steps       the depth of the input
  *
  *                          bits 0 to 31                    from bit 32 on
  *   remburai_entry         the place in the list           the size, in bytes
@@ -99,10 +101,13 @@ uint64_t remburai_search(const uint8_t *file, size_t file_length,
                          uint32_t *work, size_t work_length,
                          uint8_t *list, size_t list_length);
 
-/* The run on one closed input. Without a refusal: the outcome, and the steps that it took, at most S. With 1 to 11: nothing else, and
- * no word is changed. The words from REMBURAI_WORK_WORDS(S) on are as before; do not count on what the words before them hold.
- * The whole input is read, whatever the run looks at, 5 to 13 ns a byte, and of each part that a case looks at all fields but the last are
- * read again, to find where they end (docs/COSTS.md). */
+/* The run on one closed input. Without a refusal: the outcome, the steps that it took, at most S, and how deep the input goes, that is the
+ * depth of its deepest parameter, at most D, and 0 without parameters. A constructor without fields is 1 deep, with fields 1 more than its
+ * deepest field. With 1 to 11: nothing else, all of these are 0, and no word is changed. The words from REMBURAI_WORK_WORDS(S) on are as
+ * before; do not count on what the words before them hold.
+ * An input that fits is read as a whole, whatever the run looks at, 3 to 7 ns a byte, and of each part that a case looks at all fields but
+ * the last are read again, to find where they end (docs/COSTS.md). One that is refused by 10 is read up to its first fault. A
+ * value that is too deep is known to be so at its end, or where it goes deeper than 64, the largest D. */
 uint64_t remburai_run(const uint8_t *file, size_t file_length,
                       const uint8_t *input, size_t input_length,
                       uint32_t *work, size_t work_length);
@@ -140,7 +145,8 @@ static inline unsigned remburai_refusal(uint64_t answer) { return (unsigned)(ans
 static inline unsigned remburai_verdict(uint64_t answer) { return (unsigned)(answer >> 8 & 0xFF); }
 static inline unsigned remburai_outcome(uint64_t answer) { return (unsigned)(answer >> 8 & 0xFF); }
 static inline size_t remburai_list_length(uint64_t answer) { return (size_t)(answer >> 16); }
-static inline unsigned remburai_steps(uint64_t answer) { return (unsigned)(answer >> 16); }
+static inline unsigned remburai_steps(uint64_t answer) { return (unsigned)(answer >> 16 & 0xFFFF); }
+static inline unsigned remburai_depth(uint64_t answer) { return (unsigned)(answer >> 32 & 0xFF); }
 static inline size_t remburai_text_bytes(uint64_t answer) { return (size_t)(answer >> 16); }
 static inline size_t remburai_entry_place(uint64_t answer) { return (size_t)(answer & 0xFFFFFFFF); }
 static inline size_t remburai_entry_size(uint64_t answer) { return (size_t)(answer >> 32); }

@@ -3,8 +3,9 @@
 The header is compiled by itself as C99, C11 and C++, with all warnings as errors. `list` prints its line, `answers` the lines of
 docs/FORMAT.md, and `print` and `text`, built with the slices of reachlist, what is stored in tests/reachlist, with the exit status of the
 verdict; with the library's whole limits they refuse by neither 11 nor 12 what reachlist does. The list's end is where the header says. The
-text of a list fits a slice of just its length, a shorter slice and a list that is too long are refused, and no other byte is changed. The
-version is one in header and Rust crate, and the library asks for memset and nothing else.
+text of a list fits a slice of just its length, a shorter slice and a list that is too long are refused, and no other byte is changed. A run
+answers with its steps and with the depth of the input, 0 without parameters and 0 where it is refused, also on an input of a million bytes.
+The version is one in header and Rust crate, and the library asks for memset and nothing else.
 
 It needs gcc, g++ and nm. The exit status is 1 where anything differs, and where there is nothing to compare.
 """
@@ -17,6 +18,7 @@ from tempfile import TemporaryDirectory
 
 sys.dont_write_bytecode = True
 
+from blind.build import call as calling, case, con, fn, go, target, ty, var
 from blind.compare import Different, same
 
 ROOT = os.path.dirname(os.path.dirname(os.path.abspath(__file__)))
@@ -67,6 +69,40 @@ int main(void) {
         memcpy(list + at, entry, sizeof entry);
     while (scanf("%zu %d %zu", &length, &full, &room) == 3)
         print_call(length, full != 0, room);
+    return 0;
+}
+"""
+
+# Standard input has per run the rule file and the input, each behind its length in four bytes, low byte first. Printed are the parts of the
+# answer, and whether a refusal has changed the work slice.
+RUNS = """
+#include <stdio.h>
+#include <string.h>
+#include "remburai.h"
+static uint8_t file[REMBURAI_FILE_LIMIT], input[1 << 20];
+static uint32_t work[REMBURAI_WORK_MOST], before[REMBURAI_WORK_MOST];
+static size_t read_part(uint8_t *to) {
+    size_t length = 0;
+    int at;
+    for (at = 0; at < 4; at++)
+        length += (size_t)getchar() << 8 * at;
+    return fread(to, 1, length, stdin);
+}
+static void print_run(size_t file_length, size_t input_length) {
+    memcpy(work, before, sizeof work);
+    uint64_t answer = remburai_run(file, file_length, input, input_length, work, REMBURAI_WORK_MOST);
+    int kept = remburai_refusal(answer) == 0 || memcmp(work, before, sizeof work) == 0;
+    printf("%u %u ", remburai_refusal(answer), remburai_outcome(answer));
+    printf("%u %u %s\\n", remburai_steps(answer), remburai_depth(answer), kept ? "kept" : "changed");
+}
+int main(void) {
+    int next;
+    memset(before, 0x5A, sizeof before);
+    while ((next = getchar()) != EOF) {
+        ungetc(next, stdin);
+        size_t length = read_part(file);
+        print_run(length, read_part(input));
+    }
     return 0;
 }
 """
@@ -217,8 +253,42 @@ def check_texts(programs):
         same(f"the answers for {length} bytes, full {full}, a slice of {room}", line, text_line(length, full, room))
 
 
+# How deep the numbers of an input are, one for each parameter, and D.
+DEPTHS = [
+    ([], 1), ([], 64), ([1], 1), ([2], 1), ([3], 4), ([4], 4), ([5], 4), ([63], 64), ([64], 64), ([65], 64), ([64], 63), ([1000000], 64), ([1000000], 1),
+    ([2, 5, 3], 5), ([2, 5, 3], 4), ([5, 2, 3], 5), ([2, 3, 5], 5), ([1, 1, 1], 1), ([64] * 8, 64), ([1] * 7 + [64], 64), ([64] + [1] * 7, 64),
+    ([64] * 7 + [65], 64), ([65] + [64] * 7, 64), ([1, 1000000], 64),
+]
+
+
+def descending(parameters, depth):
+    """A rule file whose source function walks its last parameter, a number, down to zero, its target: 5 steps for each constructor. Without
+    parameters it is at the target at once."""
+    down = fn((0,), 0, case(0, var(0), target(7, con(0, 0)), calling(0, var(1))))
+    source = calling(0, var(parameters - 1)) if parameters else target(7, con(0, 0))
+    return ty((), (0,)) + down + fn((0,) * parameters, 0, source) + go(1, 7, depth, 4096)
+
+
+def run_line(depths, most):
+    """What the program of RUNS has to print for numbers of these depths."""
+    return "10 0 0 0 kept\n" if max(depths, default=0) > most else f"0 1 {5 * depths[-1] if depths else 0} {max(depths, default=0)} kept\n"
+
+
+def check_runs(programs):
+    """Each run, and the same with a byte more."""
+    calls = []
+    for depths, most in DEPTHS:
+        rule, closed = descending(len(depths), most), b"".join(b"\1" * (depth - 1) + b"\0" for depth in depths)
+        calls += [(rule, closed, run_line(depths, most)), (rule, closed + b"\0", "10 0 0 0 kept\n")]
+    data = b"".join(len(part).to_bytes(4, "little") + part for rule, closed, _ in calls for part in (rule, closed))
+    said = made([programs.written("runs", RUNS)], input=data).decode().splitlines(True)
+    same("how many runs were made", len(said), len(calls))
+    for number, ((rule, closed, wanted), line) in enumerate(zip(calls, said)):
+        same(f"the answer to run {number}, {len(closed)} bytes of input with D {rule[-3]}", line, wanted)
+
+
 CHECKS = (check_header, check_version, check_needs, check_list, check_answers, check_text_of_the_page, check_print, check_whole_limits, check_end,
-          check_texts)
+          check_texts, check_runs)
 
 
 def main():

@@ -1,5 +1,6 @@
 """Checks docs/FORMAT.md: its dumps are the bytes of examples/p.rule, of an input that the blind side runs and of the list that it gives; the
-steps of that run, the limits, the marks of entries, the answers of the calls for C and the text of the list are those of the blind side.
+depth of that input, the steps of its run, the limits, the marks of entries, the answers of the calls for C and the text of the list are those
+of the blind side.
 The exit status is 1 where anything differs, and where the page lacks what is to be compared."""
 
 import os
@@ -12,7 +13,7 @@ sys.dont_write_bytecode = True
 from blind.build import con, fn, go, let, target, ty
 from blind.compare import Different, same
 from blind.enumerate import MARKS, search
-from blind.evaluate import Outcome, run
+from blind.evaluate import run
 from blind.handed import text_length, write_text
 from blind.rulefile import RANGE, Refused, check
 from make_boundary import file_of_size
@@ -79,13 +80,14 @@ def check_input(page):
     """The steps of the run are numbered, and those that look at the input name the byte: in a number, the field is the next one."""
     text = section(page, "A closed input")
     data = dump(text)
-    outcome = run(stored("examples", "p.rule"), data, WORDS)
-    same(f"whether P runs on {data.hex(' ')}", isinstance(outcome, Outcome), True)
-    same("how the run ends", (outcome.end, re.findall(r"reaches the target after (\d+) steps", text)), ("reached", [str(outcome.steps)]))
+    ran = run(stored("examples", "p.rule"), data, WORDS)
+    same(f"whether P refuses {data.hex(' ')}", isinstance(ran, int), False)
+    same("how deep the input is", re.findall(r"Its depth is (\d+)", text), [str(ran.depth)])
+    same("how the run ends", (ran.end, re.findall(r"reaches the target after (\d+) steps", text)), ("reached", [str(ran.steps)]))
     steps = only("the steps of a run", [block for block in blocks(text) if block[0].startswith("    1  ")])
-    same("the numbers of the steps", [line.split()[0] for line in steps], [str(number + 1) for number in range(outcome.steps)])
+    same("the numbers of the steps", [line.split()[0] for line in steps], [str(number + 1) for number in range(ran.steps)])
     looked = [(number, int(byte)) for number, line in enumerate(steps, 1) for byte in re.findall(r"the input's byte (\d+)$", line)]
-    same("the steps that look at the input", looked, [(wait.steps, len(wait.place) - 1) for wait in outcome.waits])
+    same("the steps that look at the input", looked, [(wait.steps, len(wait.place) - 1) for wait in ran.waits])
 
 
 def check_list(page):
@@ -155,10 +157,11 @@ def packed_search(data, room):
 
 
 def packed_run(data, closed):
-    outcome = run(data, bytes.fromhex(closed), WORDS)
-    if not isinstance(outcome, Outcome):
-        return outcome, f"refusal {outcome}, no outcome, 0 steps"
-    return 256 * OUTCOMES[outcome.end] + 65536 * outcome.steps, f"refusal 0, {outcome.end}, {outcome.steps} steps"
+    ran = run(data, bytes.fromhex(closed), WORDS)
+    if isinstance(ran, int):
+        return ran, f"refusal {ran}, no outcome, 0 steps, depth 0"
+    number = 256 * OUTCOMES[ran.end] + 65536 * ran.steps + 2 ** 32 * ran.depth
+    return number, f"refusal 0, {ran.end}, {ran.steps} steps, depth {ran.depth}"
 
 
 def packed_entry(data, number):

@@ -328,7 +328,7 @@ def check_input():
     status, data, _ = run("input", "relay.txt", "byte hC h3 (byte h8 h9 end)")
     command("an É in UTF-8", (status, data), (0, bytes([1, 12, 3, 1, 8, 9, 0])))
     outcome = closed_run(stored("examples", "relay.rule"), data, 16384)
-    compare("what becomes of it", (outcome.end, outcome.steps), (REACHED, 64))
+    compare("what becomes of it", (outcome.end, outcome.steps, outcome.depth), (REACHED, 64, 3))
 
 
 # Processes of their own.

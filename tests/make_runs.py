@@ -1,35 +1,47 @@
 """Makes the closed runs that the program run_vectors runs, with the answers of the blind evaluator.
 
-Its stdin has per case the rule file and the input, each behind its two-byte length, low byte first, and the words of the
-work slice in four bytes; its stdout has per case a line: `reached`, `ended`, `unfinished` or `missing` and the steps, or
-`refused` and the number. With --check nothing is written, and the exit status is 1 where the stored files differ. Either
-way it is 1 where the set has too few of a kind of answer (`LEAST`).
+Its stdin has per case the rule file behind its two-byte length; a pattern behind its two-byte length; how often the pattern
+stands, in four bytes; the rest of the input behind its two-byte length; and the words of the work slice in four bytes. All
+numbers have the low byte first. The input is the pattern so often, one after the other, and then the rest; it has at most
+1,048,576 bytes. Where nothing is repeated, the pattern is empty and stands 0 times.
+
+Its stdout has per case a line: `reached`, `ended`, `unfinished` or `missing`, the steps and the largest depth of the
+parameters, 0 without parameters; or `refused` and the number.
+
+With --check nothing is written, and the exit status is 1 where the stored files differ. Either way it is 1 where the set has
+too few of a kind of answer (`LEAST`), or a misreading of `blind.misdepth` would show in too few answers.
 """
 
 import random
 import sys
 from collections import Counter
+from functools import lru_cache, partial
+from itertools import islice
 
+import closed_inputs
 import rules
 from blind.build import call, case, con, fn, go, random_program, target, two, ty, var
 from blind.compare import same
-from blind.evaluate import MISSING, UNFINISHED, run
-from blind.rulefile import check
+from blind.evaluate import MISSING, UNFINISHED, Answer, ClosedInput, run
+from blind.misdepth import ORDER, READINGS, SHOWN, figure
+from blind.rulefile import BENCH, Program, check
+from closed_inputs import MOST_BYTES, SPARE, Case
 from vectors import store
 
 P = bytes.fromhex("545902000100464E01000017000300000001020000010300000101020000010507020000474F0007041400")
-SPARE = 300000  # words of a work slice that is long enough for every step limit
 
-CASES = []  # rule file, input, words
+ENOUGH, MANY = 10, 100  # answers that a misreading changes at least, and up to which they are counted
+SHORT = 330  # bytes of the inputs on which misreadings are tried, but for those of the order of refusals
+
+CASES = []
 
 
 def add(rule_file, data, words=SPARE):
-    CASES.append((rule_file, bytes(data), words))
+    CASES.append(Case(rule_file, b"", 0, bytes(data), words))
 
 
-def line(rule_file, data, words):
-    answer = run(rule_file, data, words)
-    return f"refused {answer}\n" if isinstance(answer, int) else f"{answer.end} {answer.steps}\n"
+def line(answer):
+    return f"refused {answer}\n" if isinstance(answer, int) else f"{answer.end} {answer.steps} {answer.depth}\n"
 
 
 def examples():
@@ -81,9 +93,9 @@ def missing_runs():
     for rule, data, found in MISSING_ON:
         for steps in sorted({0, 1, found - 1, found, found + 1, 4096}):
             add(rule + go(0, 7, 64, steps), data)
-        same(f"the lines of a run that finds by step {found} what is missing",
-             [line(rule + go(0, 7, 64, steps), bytes(data), SPARE) for steps in (found - 1, found)],
-             [f"{UNFINISHED} {found - 1}\n", f"{MISSING} {found}\n"])
+        answers = [run(rule + go(0, 7, 64, steps), bytes(data), SPARE) for steps in (found - 1, found)]
+        same(f"the runs that find by step {found} what is missing", [(answer.end, answer.steps) for answer in answers],
+             [(UNFINISHED, found - 1), (MISSING, found)])
 
 
 def random_value(rng, program, type_, depth):
@@ -124,25 +136,98 @@ class Depths:
         self.depths = least_depths(program.types)
 
 
+# What the set must hold.
+
+@lru_cache(maxsize=None)
+def checked(rule_file):
+    return check(rule_file)
+
+
+def size(case_):
+    """The bytes of the input."""
+    return len(case_.pattern) * case_.count + len(case_.rest)
+
+
+def agreeing(case_, answer):
+    """Fails where the answer is not the one known beforehand."""
+    same(f"the answer for {case_.rule_file.hex()}, {case_.pattern.hex()} {case_.count} times and {case_.rest.hex()[:200]}",
+         line(answer)[-len(case_.known) - 1:], case_.known + "\n")
+
+
+def changes(wrong, cases):
+    """Per misreading how many cases it changes, as far as they are counted; a case is what is asked and what is right."""
+    return {error: sum(1 for _ in islice((asked for asked, right in cases if made(*asked) != right), MANY)) for error, made in wrong.items()}
+
+
+def misread(cases, answers):
+    """Per misreading the number of answers that it changes. Where the answer is 11, a depth would not show."""
+    short = [(checked(case_.rule_file), case_.data(), answer) for case_, answer in zip(cases, answers)
+             if size(case_) <= SHORT and answer != BENCH]
+    accepted = [(program, data, answer) for program, data, answer in short if isinstance(answer, Answer)]
+    read = [((program, data), figure(ClosedInput, program, data)) for program, data, _ in short if isinstance(program, Program)]
+    shown = [((program, [depth for _, depth in ClosedInput(program, data).parameters()], answer), answer.depth)
+             for program, data, answer in accepted]
+    refused = [((case_.rule_file, case_.data(), case_.words), answer) for case_, answer in zip(cases, answers) if isinstance(answer, int)]
+    return {**changes({error: partial(figure, closed) for error, closed in READINGS.items()}, read),
+            **changes(SHOWN, shown), **changes(ORDER, refused)}
+
+
 # How many answers of each kind the set has at least.
-LEAST = {"reached": 100, "ended": 100, "unfinished": 100, "missing": 60, "refused 10": 10, "refused 11": 2}
+LEAST = {"reached": 250, "ended": 250, "unfinished": 300, "missing": 250, **{f"refused {number}": 8 for number in range(1, 10)},
+         "refused 10": 500, "refused 11": 30, "depth 0": 100, "depth 1": 200, "depth 2": 100, "depth 63": 40, "depth 64": 40,
+         "ends with depths": 4 * 64, "long inputs": 100, "long inputs that fit": 1, "longest": 50}
 
 
-def main():
+def counts(cases, answers):
+    """What the set holds."""
+    ends = Counter(f"refused {answer}" if isinstance(answer, int) else answer.end for answer in answers)
+    depths = Counter(f"depth {answer.depth}" for answer in answers if isinstance(answer, Answer))
+    sizes = list(map(size, cases))
+    same("the length of the longest input", max(sizes), MOST_BYTES)
+    return ends + depths + Counter({
+        "ends with depths": len({(answer.end, answer.depth) for answer in answers if isinstance(answer, Answer) and answer.depth}),
+        "long inputs": sum(bytes_ > 65535 for bytes_ in sizes),
+        "long inputs that fit": sum(bytes_ > 65535 and isinstance(answer, Answer) for bytes_, answer in zip(sizes, answers)),
+        "longest": sizes.count(MOST_BYTES)})
+
+
+def record(case_):
+    """The case in the program's stdin."""
+    return (two(len(case_.rule_file)) + case_.rule_file + two(len(case_.pattern)) + case_.pattern + case_.count.to_bytes(4, "little")
+            + two(len(case_.rest)) + case_.rest + case_.words.to_bytes(4, "little"))
+
+
+def report(cases, counted, wrong):
+    print(len(cases), "cases:", ", ".join(f"{word} {counted[word]}" for word in LEAST))
+    print("answers that a misreading changes")
+    for error, number in wrong.items():
+        print(f"{number:6}  {error}")
+
+
+def make():
+    """All cases, and their answers."""
     examples()
     long_runs()
     missing_runs()
     random_runs(random.Random(2), 600)
-    stdin = b"".join(two(len(rule)) + rule + two(len(data)) + data + words.to_bytes(4, "little")
-                     for rule, data, words in CASES)
-    lines = [line(*case_) for case_ in CASES]
-    counted = Counter(l.strip() if l.startswith("refused") else l.split()[0] for l in lines)
+    cases = CASES + closed_inputs.make()
+    answers = [run(case_.rule_file, case_.data(), case_.words) for case_ in cases]
+    for case_, answer in zip(cases, answers):
+        agreeing(case_, answer)
+    return cases, answers
+
+
+def main():
+    cases, answers = make()
+    counted, wrong = counts(cases, answers), misread(cases, answers)
     if not sys.argv[1:]:
-        print(len(CASES), "cases:", ", ".join(f"{word} {number}" for word, number in sorted(counted.items())))
-    lacking = [word for word, least in LEAST.items() if counted[word] < least]
-    for word in lacking:
-        print(f"run_vectors: too few: {word}", file=sys.stderr)
-    return 1 if lacking else store("run_vectors", stdin, "".join(lines).encode(), sys.argv[1:])
+        report(cases, counted, wrong)
+    lacking = ([f"too few: {word}" for word, least in LEAST.items() if counted[word] < least]
+               + [f"changes {number} answers: {error}" for error, number in wrong.items() if number < ENOUGH])
+    for fault in lacking:
+        print(f"run_vectors: {fault}", file=sys.stderr)
+    stdin, stdout = b"".join(map(record, cases)), "".join(map(line, answers))
+    return 1 if lacking else store("run_vectors", stdin, stdout.encode(), sys.argv[1:])
 
 
 if __name__ == "__main__":

@@ -6,22 +6,24 @@ use crate::problems::Problem;
 use crate::program::Program;
 use std::cmp::Reverse;
 
-/// How a run stops, and its steps.
+/// How a run stops, its steps, and the depth of its input.
 pub struct Ran {
     pub stop: Stop,
     pub steps: usize,
+    pub depth: usize,
 }
 
-/// Runs an accepted rule file on a closed input that fits it, both from their bytes.
-pub fn run(file: &[u8], input: &[u8]) -> Ran {
+/// Runs an accepted rule file on a closed input, both from their bytes; none where the input does not fit it.
+pub fn run(file: &[u8], input: &[u8]) -> Option<Ran> {
     let program = Program::read(file);
     let mut machine = Machine::new(&program);
-    read_input(&program, &mut machine, input);
+    let depth = read_input(&program, &mut machine, input)?;
     let stop = machine.run();
-    Ran {
+    Some(Ran {
         stop,
         steps: machine.steps,
-    }
+        depth,
+    })
 }
 
 /// The bytes of the closed input of a rank in the order of enumeration.

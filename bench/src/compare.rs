@@ -120,32 +120,41 @@ pub fn compare_runs(file: &[u8], most: u64) -> Result<u64, String> {
         return Ok(0);
     }
     for rank in sample(&counts, most) {
-        compare_run(file, &input_bytes(&program, &counts, rank))?;
+        let input = input_bytes(&program, &counts, rank);
+        if !compare_run(file, &input)? {
+            return Err(format!(
+                "an input does not fit: {file:02x?} on {input:02x?}"
+            ));
+        }
     }
     Ok(counts.inputs.min(most))
 }
 
-/// Compares the runs of a rule file on one closed input: outcome and steps.
-pub fn compare_run(file: &[u8], input: &[u8]) -> Result<(), String> {
+/// Compares the runs of an accepted rule file on one closed input: outcome, steps and the depth of the input, or that the input does not fit.
+/// The result is whether it fits.
+pub fn compare_run(file: &[u8], input: &[u8]) -> Result<bool, String> {
     let mut work = vec![0; work_words(steps_of(file))];
     let library = remburai::run(file, input, &mut work);
-    let plain = outcome(&run(file, input));
-    if library != Ok(plain) {
+    let plain = run(file, input).map(in_words).ok_or(Refusal::BadInput);
+    if library != plain {
+        let shown = &input[..input.len().min(1000)];
         return Err(format!(
-            "the library's run is {library:?}, the plain one {plain:?}: {file:02x?} on {input:02x?}"
+            "the library's run is {library:?}, the plain one {plain:?}: {file:02x?} on {shown:02x?}"
         ));
     }
-    Ok(())
+    Ok(plain.is_ok())
 }
 
-/// How a plain run ends, in the library's words.
-fn outcome(ran: &Ran) -> Outcome {
+/// What a plain run gives, in the library's words.
+fn in_words(ran: Ran) -> remburai::Ran {
     let steps = ran.steps as u16;
-    match ran.stop {
+    let outcome = match ran.stop {
         Stop::Reached => Outcome::Reached(steps),
         Stop::Ended => Outcome::Ended(steps),
         Stop::Unfinished => Outcome::Unfinished(steps),
         Stop::Missing => Outcome::Missing(steps),
         Stop::Waits(_) => unreachable!("a closed input has no open part"),
-    }
+    };
+    let depth = ran.depth as u8;
+    remburai::Ran { outcome, depth }
 }

@@ -94,9 +94,11 @@ fn closed_runs(problems: &[Problem]) -> Vec<ClosedRun<'_>> {
 /// Compares the closed run that is measured and a sample of the same problem. The result is the number of inputs in the sample.
 fn compared_inputs(closed: &ClosedRun) -> u64 {
     let file = &closed.problem.file;
-    compare_run(file, &closed.input)
-        .and_then(|()| compare_runs(file, MOST_COMPARED))
-        .unwrap_or_else(|why| stop(&why))
+    match compare_run(file, &closed.input) {
+        Ok(true) => compare_runs(file, MOST_COMPARED).unwrap_or_else(|why| stop(&why)),
+        Ok(false) => stop("the input of a closed run does not fit"),
+        Err(why) => stop(&why),
+    }
 }
 
 fn print_problems(problems: &[Problem]) {
@@ -241,7 +243,7 @@ fn print_runs(runs: &[ClosedRun]) {
     println!("|---|--:|--:|--:|--:|--:|--:|--:|--:|");
     for (ClosedRun { problem, input }, times) in runs.iter().zip(&times) {
         let file = &problem.file;
-        let steps = run(file, input).steps;
+        let steps = run(file, input).expect("it fits").steps;
         println!(
             "| {} | {} | {} | {steps} | {:.3} | {}",
             problem.name,

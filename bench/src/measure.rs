@@ -6,7 +6,7 @@ use crate::problems::steps_of;
 use crate::program::Program;
 use crate::search::search;
 use crate::text::{text_length, write_text};
-use remburai::{work_words, Outcome, LIST_LIMIT, STEP_LIMIT};
+use remburai::{work_words, Ran, LIST_LIMIT, STEP_LIMIT};
 use std::hint::black_box;
 use std::time::Instant;
 
@@ -47,10 +47,10 @@ impl Library {
             .length
     }
 
-    fn run(&mut self, file: &[u8], input: &[u8]) -> Outcome {
+    fn run(&mut self, file: &[u8], input: &[u8]) -> Ran {
         let words = work_words(steps_of(file));
-        let outcome = remburai::run(file, input, &mut self.work[..words]);
-        outcome.expect("an accepted rule file and an input that fits it")
+        let ran = remburai::run(file, input, &mut self.work[..words]);
+        ran.expect("an accepted rule file and an input that fits it")
     }
 }
 

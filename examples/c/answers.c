@@ -31,7 +31,8 @@ static void print_run(const char *call, const uint8_t *input, size_t input_lengt
     static const char *const outcomes[] = {"no outcome", "reached", "ended", "unfinished", "missing"};
     uint64_t answer = remburai_run(file, sizeof file, input, input_length, work, sizeof work / sizeof *work);
     print_number(call, answer);
-    printf("refusal %u, %s, %u steps\n", remburai_refusal(answer), outcomes[remburai_outcome(answer)], remburai_steps(answer));
+    printf("refusal %u, %s, ", remburai_refusal(answer), outcomes[remburai_outcome(answer)]);
+    printf("%u steps, depth %u\n", remburai_steps(answer), remburai_depth(answer));
 }
 
 static void print_entry(const char *call, size_t list_length, size_t number) {

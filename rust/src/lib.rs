@@ -10,7 +10,8 @@
 //!
 //! A search stops, but it may take years, and nothing ends it before its answer: what bounds it is the number of partial inputs up to
 //! depth D that S steps can tell apart. So let a caller choose D and S, and run a search of unknown length in a thread or a process that
-//! can be given up. A run takes at most S steps, and reads its whole input, whatever its length.
+//! can be given up. A run takes at most S steps, and reads the whole of an input that fits, whatever its length. One that does not fit is
+//! read up to its first fault. A value that is too deep is known to be so at its end, or where it goes deeper than 64.
 //!
 //! ```
 //! use remburai::{check, entries, list_text, run, search, work_words, Kind, Outcome, Rule, Verdict};
@@ -35,7 +36,10 @@
 //! let text = list_text(file, &list[..listed.length], false).unwrap();
 //! assert_eq!(text, "reach 6 1 1 _\ntotal 1 0 0 0 found\n");
 //!
-//! assert_eq!(run(file, &[1, 1, 0], &mut work), Ok(Outcome::Reached(6)));
+//! // One closed input, 1 1 0: it reaches the target too, and is 3 deep.
+//! let ran = run(file, &[1, 1, 0], &mut work).unwrap();
+//! assert_eq!((ran.outcome, ran.depth), (Outcome::Reached(6), 3));
+//! assert_eq!(ran.to_string(), "reached 6 3");
 //! ```
 
 mod list;
@@ -132,6 +136,21 @@ impl fmt::Display for Outcome {
     }
 }
 
+/// How the run of a closed input ends, and how deep the input goes.
+#[derive(Clone, Copy, Debug, PartialEq, Eq, Hash)]
+pub struct Ran {
+    pub outcome: Outcome,
+    /// The depth of the deepest parameter, at most D; 0 without parameters. A constructor without fields is 1 deep, with fields 1 more than
+    /// its deepest field.
+    pub depth: u8,
+}
+
+impl fmt::Display for Ran {
+    fn fmt(&self, f: &mut fmt::Formatter<'_>) -> fmt::Result {
+        write!(f, "{} {}", self.outcome, self.depth)
+    }
+}
+
 /// A complete list: its length in bytes, at the front of the list slice, and its verdict.
 #[derive(Clone, Copy, Debug, PartialEq, Eq, Hash)]
 pub struct Listed {
@@ -215,9 +234,9 @@ pub fn search(file: &[u8], work: &mut [u32], list: &mut [u8]) -> Result<Listed, 
     Ok(Listed { length, verdict })
 }
 
-/// Runs a rule file on one closed input, in the words of `work`: how it ends, or a refusal of 1 to 11, which changes no word. The words
-/// from [`work_words`] of S on are as before; what the words below it hold is not specified.
-pub fn run(file: &[u8], input: &[u8], work: &mut [u32]) -> Result<Outcome, Refusal> {
+/// Runs a rule file on one closed input, in the words of `work`: how it ends, and how deep the input goes; or a refusal of 1 to 11, which
+/// changes no word. The words from [`work_words`] of S on are as before; what the words below it hold is not specified.
+pub fn run(file: &[u8], input: &[u8], work: &mut [u32]) -> Result<Ran, Refusal> {
     // SAFETY: each pointer and length are those of one slice, lent until the call returns, work to it alone.
     let answer = unsafe {
         remburai_run(
@@ -233,13 +252,15 @@ pub fn run(file: &[u8], input: &[u8], work: &mut [u32]) -> Result<Outcome, Refus
         return Err(why);
     }
     let steps = (answer >> 16) as u16;
-    match answer >> 8 & 0xFF {
-        1 => Ok(Outcome::Reached(steps)),
-        2 => Ok(Outcome::Ended(steps)),
-        3 => Ok(Outcome::Unfinished(steps)),
-        4 => Ok(Outcome::Missing(steps)),
+    let outcome = match answer >> 8 & 0xFF {
+        1 => Outcome::Reached(steps),
+        2 => Outcome::Ended(steps),
+        3 => Outcome::Unfinished(steps),
+        4 => Outcome::Missing(steps),
         number => unreachable!("no outcome has the number {number}"),
-    }
+    };
+    let depth = (answer >> 32) as u8;
+    Ok(Ran { outcome, depth })
 }
 
 /// The part of a list that the entry of a given number fills, counted from 0; else the empty part at the list's end.

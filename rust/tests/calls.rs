@@ -84,7 +84,7 @@ impl Lent {
     }
 
     /// The same of a run.
-    fn run(&mut self, file: &[u8], input: &[u8], spare: usize) -> Result<Outcome, Refusal> {
+    fn run(&mut self, file: &[u8], input: &[u8], spare: usize) -> Result<Ran, Refusal> {
         let answer = run(file, input, self.work());
         self.see_words(if answer.is_ok() { spare } else { 0 });
         answer
@@ -95,6 +95,11 @@ impl Lent {
         assert!(self.words[..GUARD].iter().all(|x| *x == WORD));
         assert!(self.words[from..].iter().all(|x| *x == WORD));
     }
+}
+
+/// What a run of this outcome says, on an input of this depth.
+fn ran(outcome: Outcome, depth: u8) -> Result<Ran, Refusal> {
+    Ok(Ran { outcome, depth })
 }
 
 /// The list and the verdict of a file, in slices that are long enough.
@@ -180,7 +185,7 @@ fn runs_into_a_missing_alternative() {
         let words = work_words(steps as usize);
         assert_eq!(
             Lent::new(words, 0).run(&uncovered(4, steps), &[0], words),
-            Ok(outcome)
+            ran(outcome, 1)
         );
     }
 }
@@ -190,15 +195,15 @@ fn the_closed_runs_of_the_examples() {
     let words = work_words(20);
     assert_eq!(
         Lent::new(words, 0).run(&P, &[0], words),
-        Ok(Outcome::Ended(3))
+        ran(Outcome::Ended(3), 1)
     );
     assert_eq!(
         Lent::new(words, 0).run(&P, &[1, 1, 0], words),
-        Ok(Outcome::Reached(6))
+        ran(Outcome::Reached(6), 3)
     );
     assert_eq!(
         Lent::new(words, 0).run(&changed(7, 4, 5), &[1, 1, 0], words),
-        Ok(Outcome::Unfinished(5))
+        ran(Outcome::Unfinished(5), 3)
     );
     for input in [&[][..], &[1], &[2], &[0, 0], &[1, 1, 1, 1, 0], &[255]] {
         assert_eq!(
@@ -317,7 +322,7 @@ fn work_slices_from_empty_to_long() {
         assert_eq!(lent.search(&P, words).map(|listed| listed.length), Ok(9));
         assert_eq!(
             Lent::new(long, 0).run(&P, &[1, 1, 0], words),
-            Ok(Outcome::Reached(6))
+            ran(Outcome::Reached(6), 3)
         );
     }
 }

@@ -232,6 +232,8 @@ fn words() {
     assert_eq!(Refusal::DepthTooSmall.to_string(), printed);
     assert_eq!(Outcome::Ended(3).to_string(), "ended 3");
     assert_eq!(Outcome::Missing(3).to_string(), "missing 3");
+    let (outcome, depth) = (Outcome::Unfinished(4096), 64);
+    assert_eq!(Ran { outcome, depth }.to_string(), "unfinished 4096 64");
 }
 
 /// The crate has the version that its header says.
@@ -257,6 +259,7 @@ fn types_for_threads() {
     see::<SearchError>();
     see::<Listed>();
     see::<Outcome>();
+    see::<Ran>();
     see::<Verdict>();
     see::<Rule>();
     see::<Goal>();

@@ -2,8 +2,9 @@
 //! stack; a call that needs more than the thread has ends the test by a signal.
 //!
 //! What nests: the check of a body, by its expressions, up to the one at nesting 33, which is refused; the reading of a closed input, by
-//! its depth; the writing of an entry, by its depth and by the parameters and fields before each part: so the eighth parameter, and
-//! the last of six fields at every depth; and the reading of a list that is handed in, by the depth of its values.
+//! its depth, up to a constructor at depth 65, which is refused however many stand in it; the writing of an entry, by its depth and by the
+//! parameters and fields before each part: so the eighth parameter, and the last of six fields at every depth; and the reading of a list that
+//! is handed in, by the depth of its values.
 use remburai::*;
 use std::thread;
 
@@ -90,18 +91,46 @@ fn a_search_with_the_deepest_entries() {
     });
 }
 
+/// A tree, so deep, whose nodes stand one in another, each with so many leaves before the next one.
+fn tree(depth: u8, before: usize) -> Vec<u8> {
+    let nodes = depth as usize - 1;
+    let behind = FIELDS as usize - 1 - before;
+    let down = [&[1], &vec![0; before][..]].concat().repeat(nodes);
+    [&down, &[0][..], &vec![0; behind * nodes]].concat()
+}
+
+/// Nested in the first field, in one between, and in the last; in every parameter, and one deeper in one of them.
 #[test]
-fn a_run_on_the_deepest_input() {
+fn a_run_on_the_deepest_inputs() {
+    for before in [0, 2, FIELDS as usize - 1] {
+        on_a_small_stack(move || {
+            let mut work = vec![0; work_words(STEP_LIMIT)];
+            let mut values = vec![tree(DEPTH, before); PARAMETERS as usize];
+            let ran = run(&descent(), &values.concat(), &mut work).expect("it fits");
+            assert!(matches!(ran.outcome, Outcome::Reached(_)), "{ran}");
+            assert_eq!(ran.depth, DEPTH);
+            for place in [0, PARAMETERS as usize - 1] {
+                values[place] = tree(DEPTH + 1, before);
+                let deeper = run(&descent(), &values.concat(), &mut work);
+                assert_eq!(deeper, Err(Refusal::BadInput));
+                values[place] = tree(DEPTH, before);
+            }
+        });
+    }
+}
+
+/// A million nodes, each in the first field of the one before it or in the last, in the first parameter or in the last.
+#[test]
+fn a_run_on_very_long_inputs() {
     on_a_small_stack(|| {
-        let mut value = [1, 0, 0, 0, 0, 0].repeat(DEPTH as usize - 1);
-        value.push(0);
         let mut work = vec![0; work_words(STEP_LIMIT)];
-        let input = value.repeat(PARAMETERS as usize);
-        let outcome = run(&descent(), &input, &mut work);
-        assert!(matches!(outcome, Ok(Outcome::Reached(_))), "{outcome:?}");
-        // one deeper, in the last place
-        let deeper = [&input[..input.len() - 1], &[1, 0, 0, 0, 0, 0, 0]].concat();
-        assert_eq!(run(&descent(), &deeper, &mut work), Err(Refusal::BadInput));
+        let values = tree(DEPTH, 0).repeat(PARAMETERS as usize - 1);
+        for node in [&[1][..], &[1, 0, 0, 0, 0, 0]] {
+            let long = node.repeat(1_000_000);
+            for input in [long.clone(), [values.clone(), long].concat()] {
+                assert_eq!(run(&descent(), &input, &mut work), Err(Refusal::BadInput));
+            }
+        }
     });
 }
 

@@ -11,6 +11,9 @@ use std::fs;
 const WORD: u32 = 0xA5A5_A5A5;
 const BYTE: u8 = 0xA5;
 
+/// The longest input of a stored run.
+const INPUT_LIMIT: usize = 1_048_576;
+
 fn stored(name: &str) -> Vec<u8> {
     let path = format!("{}/../crates/{name}", env!("CARGO_MANIFEST_DIR"));
     fs::read(&path).unwrap_or_else(|error| panic!("{path}: {error}"))
@@ -49,6 +52,17 @@ impl Cases {
         let size = self.number(2);
         self.at += size;
         self.bytes[self.at - size..self.at].to_vec()
+    }
+
+    /// An input: a pattern, how often it stands, and the rest behind it.
+    fn input(&mut self) -> Vec<u8> {
+        let mut input = self.part();
+        let times = self.number(4);
+        assert!(input.len() * times <= INPUT_LIMIT);
+        input = input.repeat(times);
+        input.extend(self.part());
+        assert!(input.len() <= INPUT_LIMIT);
+        input
     }
 }
 
@@ -89,14 +103,14 @@ fn closed_runs() {
     let mut cases = Cases::of("run_vectors");
     let mut lines = vec![];
     while cases.left() {
-        let (file, input) = (cases.part(), cases.part());
+        let (file, input) = (cases.part(), cases.input());
         let mut work = vec![WORD; cases.number(4)];
         lines.push(match run(&file, &input, &mut work) {
-            Ok(outcome) => outcome.to_string(),
+            Ok(ran) => ran.to_string(),
             Err(why) => format!("refused {}", why.number()),
         });
     }
-    see_lines("run_vectors", lines, 700);
+    see_lines("run_vectors", lines, 2500);
 }
 
 /// What a search answers, the length of its list, and from which word on the work slice is as before.

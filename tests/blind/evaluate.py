@@ -1,12 +1,13 @@
 """Evaluation of closed inputs, by name, with every step counted.
 
-`run` is the closed run: a rule file on the bytes of an input. `evaluate` is its core, on a program and values; it
-notes each place of the input on which a case waited and the steps done by then.
+`run` is the closed run: a rule file on the bytes of an input. `ClosedInput` reads these bytes and tells how deep they go.
+`evaluate` is the run's core, on a program and values; it notes each place of the input on which a case waited and the
+steps done by then.
 """
 
 from dataclasses import dataclass
 
-from blind.rulefile import (BENCH, INPUT, Call, Case, Construction, Let, Reader, Refused, Target, Variable, read)
+from blind.rulefile import (BENCH, INPUT, MAX_DEPTH, Call, Case, Construction, Let, Reader, Refused, Target, Variable, read)
 
 REACHED, ENDED, UNFINISHED, MISSING = "reached", "ended", "unfinished", "missing"
 
@@ -45,6 +46,12 @@ class Outcome:
     end: str
     steps: int
     waits: tuple
+
+
+@dataclass(frozen=True)
+class Answer(Outcome):
+    """How a closed run ended, with the largest depth of its parameters, 0 without parameters."""
+    depth: int
 
 
 def chosen(focus, case, environment):
@@ -109,26 +116,58 @@ def evaluate(program, values):
             focus = unfolded(program, expression, focus.environment, waiting)
 
 
-def read_value(program, reader, type_, depth):
-    """Reads a closed value of the type that is at most so deep."""
-    constructors = program.types[type_].constructors
-    constructor = reader.byte()
-    if depth == 0 or constructor >= len(constructors):
-        raise Refused(INPUT)
-    fields = constructors[constructor]
-    return Value(constructor, tuple(read_value(program, reader, field, depth - 1) for field in fields))
+class ClosedInput:
+    """The bytes of a closed input for a program. Each method answers one question, so that `blind.misdepth` can answer it wrongly."""
 
+    deepest = MAX_DEPTH  # no file asks for more, so what goes deeper is refused without being read to its end
 
-def read_input(program, data):
-    """One closed, fitting value per parameter, in prefix form with nothing after them; else refusal 10."""
-    reader = Reader(data, 0, len(data))
-    try:
-        values = tuple(read_value(program, reader, parameter, program.depth) for parameter in program.parameters)
-    except Refused:
-        raise Refused(INPUT) from None
-    if not reader.at_end():
-        raise Refused(INPUT)
-    return values
+    def __init__(self, program, data):
+        self.program = program
+        self.reader = Reader(data, 0, len(data))
+
+    def fields(self, type_, constructor):
+        """The types of the constructor's fields."""
+        constructors = self.program.types[type_].constructors
+        if constructor >= len(constructors):
+            raise Refused(INPUT)
+        return constructors[constructor]
+
+    def value(self, type_, above=0):
+        """Reads a closed value of the type, with so many constructors above it: the value and its depth, whatever D is."""
+        if above == self.deepest:
+            raise Refused(INPUT)
+        constructor = self.reader.byte()
+        fields = [self.value(field, above + 1) for field in self.fields(type_, constructor)]
+        return Value(constructor, tuple(value for value, _ in fields)), self.depth_over([depth for _, depth in fields])
+
+    def depth_over(self, depths):
+        """The depth of a constructor whose fields have these depths."""
+        return 1 + max(depths, default=0)
+
+    def parameters(self):
+        """One closed value per parameter, in prefix form with nothing after them, each with its depth."""
+        read_ = [self.value(parameter) for parameter in self.program.parameters]
+        if not self.reader.at_end():
+            raise Refused(INPUT)
+        return read_
+
+    def fitting(self, depths):
+        """Whether parameters of these depths fit."""
+        return all(depth <= self.program.depth for depth in depths)
+
+    def largest(self, depths):
+        return max(depths, default=0)
+
+    def read(self):
+        """The values of the parameters and the largest of their depths; else refusal 10."""
+        try:
+            read_ = self.parameters()
+        except Refused:
+            raise Refused(INPUT) from None
+        values, depths = tuple(value for value, _ in read_), [depth for _, depth in read_]
+        if not self.fitting(depths):
+            raise Refused(INPUT)
+        return values, self.largest(depths)
 
 
 def bench(program, work_words):
@@ -138,11 +177,12 @@ def bench(program, work_words):
 
 
 def run(rule_file, data, work_words):
-    """The closed run: an `Outcome`, or the number of the refusal, 1 to 11."""
+    """The closed run: an `Answer`, or the number of the refusal, 1 to 11."""
     try:
         program = read(rule_file)
-        values = read_input(program, data)
+        values, depth = ClosedInput(program, data).read()
         bench(program, work_words)
     except Refused as refused:
         return refused.number
-    return evaluate(program, values)
+    outcome = evaluate(program, values)
+    return Answer(outcome.end, outcome.steps, outcome.waits, depth)

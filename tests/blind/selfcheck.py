@@ -5,7 +5,9 @@ where anything is otherwise."""
 import os
 import random
 import sys
+from collections import Counter
 from dataclasses import replace
+from itertools import product
 
 sys.path.insert(0, os.path.dirname(os.path.dirname(os.path.abspath(__file__))))
 
@@ -13,8 +15,9 @@ from blind.build import call, case, con, fn, go, let, random_rule, target, ty, v
 from blind.compare import Different, same
 from blind.demands import broken
 from blind.enumerate import Entry, Listing, TooMany, all_entries, count_inputs, reachlist, search, tally, verdict
-from blind.evaluate import MISSING, REACHED, UNFINISHED, Outcome, run
+from blind.evaluate import MISSING, REACHED, UNFINISHED, Answer, ClosedInput, run
 from blind.handed import text_length, write_text
+from blind.misdepth import figure
 from blind.narrow import ERRORS, Narrowing
 from blind.rulefile import Program, Refused, check, least_depths, read
 
@@ -34,14 +37,14 @@ def prints(rule_file, *lines):
 
 
 def runs(rule_file, data, words, *answer):
-    """The closed run ends so after so many steps, or is refused by this number."""
+    """The closed run ends so after so many steps, with this depth, or is refused by this number."""
     given = run(rule_file, bytes(data), words)
     same(f"the run of {rule_file.hex()} on {bytes(data).hex()} in {words} words",
-         (given.end, given.steps) if isinstance(given, Outcome) else (given,), answer)
+         (given.end, given.steps, given.depth) if isinstance(given, Answer) else (given,), answer)
 
 
-def ends(rule_file, data, end, steps):
-    runs(rule_file, data, WORK, end, steps)
+def ends(rule_file, data, end, steps, depth):
+    runs(rule_file, data, WORK, end, steps, depth)
 
 
 def searches(rule_file, words, room, *answer):
@@ -64,8 +67,8 @@ def scope_examples():
     prints(changed(steps=0), "unfinished 0 _", "total 0 1 0 100 undecided")
     prints(changed(label=8, steps=6), "unfinished 6 1 1 _", "total 0 1 0 100 undecided")
     prints(changed(label=8, steps=7), "total 0 0 0 0 none")
-    ends(P, [0], "ended", 3)
-    ends(P, [1, 1, 0], "reached", 6)
+    ends(P, [0], "ended", 3, 1)
+    ends(P, [1, 1, 0], "reached", 6, 3)
     prints(b"", "refused 1")
     prints(P[6:], "refused 2")
     prints(HOLLOW, "refused 8")
@@ -81,11 +84,11 @@ BOOL = ty((), ())
 def refusals_of_runs():
     """Refusals 10 to 12 and their order."""
     least = 64 * 20 + 1024
-    runs(P, b"\0", least, "ended", 3)
+    runs(P, b"\0", least, "ended", 3, 1)
     runs(P, b"\0", least - 1, 11)
     for bad in b"", b"\2", b"\1", b"\0\0", b"\1\1\1\1\0", b"\xff":
         runs(P, bad, 0, 10)
-    runs(P, b"\1\1\1\0", least, "reached", 6)  # depth 4 fits
+    runs(P, b"\1\1\1\0", least, "reached", 6, 4)  # depth 4 fits
     runs(b"", b"", 0, 1)
     searches(P, least - 1, 0, 11)
     # P's one entry has nine bytes.
@@ -234,15 +237,15 @@ def missing_alternatives():
     first = NAT + fn((0,), 0, case(0, var(0), None, target(7, var(0))))
     prints(first + go(depth=2, steps=3), "missing 3 0", "reach 3 1 _", "total 1 0 1 0 found")
     prints(first + go(depth=2, steps=2), "unfinished 2 _", "total 0 1 0 100 undecided")
-    ends(first + go(depth=2, steps=3), [0], "missing", 3)
-    ends(first + go(depth=2, steps=2), [0], "unfinished", 2)
+    ends(first + go(depth=2, steps=3), [0], "missing", 3, 1)
+    ends(first + go(depth=2, steps=2), [0], "unfinished", 2, 1)
 
     # P without its target's alternative, then without that for zero beside it; both are waited for when 5 steps are done.
     no_end = NAT + fn((0,), 0, case(0, var(0), zero, case(0, var(1), zero, None)))
     prints(no_end + go(depth=4, steps=6), "missing 6 1 1 _", "total 0 0 1 0 none")
     prints(no_end + go(depth=4, steps=5), "unfinished 5 1 _", "total 0 1 0 100 undecided")
-    ends(no_end + go(depth=4, steps=6), [1, 1, 0], "missing", 6)
-    ends(no_end + go(depth=4, steps=6), [1, 0], "ended", 6)
+    ends(no_end + go(depth=4, steps=6), [1, 1, 0], "missing", 6, 3)
+    ends(no_end + go(depth=4, steps=6), [1, 0], "ended", 6, 2)
     prints(no_end + go(depth=2, steps=6), "total 0 0 0 0 none")  # suc (suc _) does not fit
     no_zero = NAT + fn((0,), 0, case(0, var(0), zero, case(0, var(1), None, target(7, zero))))
     prints(no_zero + go(depth=4), "missing 6 1 0", "reach 6 1 1 _", "total 1 0 1 0 found")
@@ -287,6 +290,81 @@ def missing_beside_others():
     # fork; zero: none 6. Suc: choose 6, and choose 7, target.
     called = fn((0, 0), 0, case(0, call(1, var(1)), reach, None)) + fn((0,), 0, case(0, var(0), None, zero))
     lists(NAT + called + go(depth=3), "found", mi(6, open_, 0), re(7, open_, 1, open_))
+
+
+def depths_of_inputs():
+    """Worked by hand: how deep an input goes, which is refused by 10 where that is more than D."""
+    # Three numbers, of which the rule follows the second: one step.
+    numbers = NAT + fn((0, 0, 0), 0, var(1))
+    for data, depth in (((0, 0, 0), 1), ((1, 0, 0, 0), 2), ((0, 1, 0, 0), 2), ((0, 0, 1, 0), 2), ((1, 1, 0, 1, 0, 0), 3), ((1, 0, 1, 0, 1, 0), 2),
+                        ((0, 1, 0, 1, 1, 1, 0), 4), ((1, 1, 1, 1, 0, 0, 1, 1, 0), 5)):
+        for limit in {depth, depth + 1, 63, 64}:
+            ends(numbers + go(depth=limit), data, "ended", 1, depth)
+            runs(numbers + go(depth=limit), (*data, 0), WORK, 10)
+            runs(numbers + go(depth=limit), data[:-1], WORK, 10)
+            runs(numbers + go(depth=limit, steps=4096), data, WORK - 1, 11)
+        for limit in range(1, depth):
+            runs(numbers + go(depth=limit), data, 0, 10)
+    # Trees of three branches: two levels in each branch, then in all of them.
+    trees = ty((), (0, 0, 0)) + fn((0,), 0, case(0, var(0), target(7, var(0)), None))
+    ends(trees + go(), [0], "reached", 3, 1)
+    for data, depth in (((1, 0, 0, 0), 2), ((1, 1, 0, 0, 0, 0, 0), 3), ((1, 0, 1, 0, 0, 0, 0), 3), ((1, 0, 0, 1, 0, 0, 0), 3),
+                        ((1, 1, 0, 0, 0, 1, 0, 0, 0, 1, 0, 0, 0), 3), ((1, 1, 0, 0, 0, 1, 0, 1, 0, 0, 0, 0, 0), 4)):
+        ends(trees + go(depth=depth), data, "missing", 3, depth)
+        ends(trees + go(depth=64, steps=2), data, "unfinished", 2, depth)
+        runs(trees + go(depth=depth - 1), data, WORK, 10)
+    # Without parameters nothing is 0 deep, also with D 1. Truth values are 1 deep, all eight of them.
+    ends(BOOL + fn((), 0, con(0, 0)) + go(depth=1), [], "ended", 0, 0)
+    runs(BOOL + fn((), 0, con(0, 0)) + go(depth=64), [0], WORK, 10)
+    ends(BOOL + fn((0,) * 8, 0, var(7)) + go(depth=1), [0, 1] * 4, "ended", 1, 1)
+    # The largest depth that there is, and one more.
+    one = NAT + fn((0,), 0, var(0))
+    ends(one + go(depth=64), [1] * 63 + [0], "ended", 1, 64)
+    ends(one + go(depth=64), [1] * 62 + [0], "ended", 1, 63)
+    for limit, above in ((64, 64), (63, 64), (63, 63), (64, 999999)):
+        runs(one + go(depth=limit), [1] * above + [0], WORK, 10)
+
+
+def walked(program, data):
+    """How deep an input goes, or `refused`, by going through its bytes with no bound: it is as deep as its deepest constructor lies."""
+    due, deepest = [(parameter, 1) for parameter in reversed(program.parameters)], 0  # the next part due comes last
+    for constructor in data:
+        if not due:
+            return "refused"
+        type_, level = due.pop()
+        constructors = program.types[type_].constructors
+        if constructor >= len(constructors):
+            return "refused"
+        deepest = max(deepest, level)
+        due.extend((field, level + 1) for field in reversed(constructors[constructor]))
+    return "refused" if due or deepest > program.depth else deepest
+
+
+def bounded_reading():
+    """Reading that stops at a bound which is D or more gives every answer that reading without a bound gives."""
+    types, seen = NAT + ty((), (1, 1), (0, 1, 0)) + BOOL, Counter()
+    bounded = {bound: type("Bounded", (ClosedInput,), {"deepest": bound}) for bound in (1, 2, 3, 4)}
+    for parameters in (), (0,), (1,), (0, 1), (1, 2, 0):
+        program = read(types + fn(parameters, 2, con(2, 0)) + go(depth=64))
+        for data in (bytes(chosen) for length in range(7) for chosen in product((0, 1, 2), repeat=length)):
+            for limit in bounded:
+                limited = replace(program, depth=limit)
+                wanted = walked(limited, data)
+                seen[wanted, walked(program, data)] += 1
+                for bound in range(limit, 5):
+                    same(f"how deep {data.hex()} is, read up to {bound}, with D {limit}", figure(bounded[bound], limited, data), wanted)
+                same(f"how deep {data.hex()} is, with D {limit}", figure(ClosedInput, limited, data), wanted)
+    kinds = [(depth, depth) for depth in range(5)] + [("refused", depth) for depth in range(2, 7)] + [("refused", "refused")]
+    same("kinds of inputs that are not there", [kind for kind in kinds if not seen[kind]], [])
+
+
+def long_reading():
+    """An input of a hundred thousand constructors, one in another: reading it up to 64 gives what reading it all gives."""
+    deep = b"\1" * 99999 + b"\0"
+    for limit in (1, 63, 64):
+        program = read(NAT + fn((0,), 0, var(0)) + go(depth=limit))
+        same("how deep a long input is", (figure(ClosedInput, program, deep), walked(program, deep)), ("refused", "refused"))
+    same("how deep it would be", walked(replace(program, depth=100000), deep), 100000)
 
 
 def answer(call, *lent):
@@ -471,6 +549,9 @@ if __name__ == "__main__":
     worked_depths()
     missing_alternatives()
     missing_beside_others()
+    depths_of_inputs()
+    bounded_reading()
+    long_reading()
     handed_in()
     scrap()
     handed_depths()

@@ -1,5 +1,5 @@
 -- The run begins: in the words that `open_input` and then `note_values` leave, the run of the program on the closed input is under way with no step
--- taken. Rests on running's Running and Advancing, on loaded's Beginning, on values' Binding and on registers' Standing.
+-- taken. Rests on running's Running, on loaded's Beginning, on values' Binding and on registers' Standing.
 use Prim.Native.Nat.{ℕ}
 use mathlib.Core.Path.{_≡_, sym, _∙_, ap, subst}
 use mathlib.Core.List.{List, map}
@@ -31,7 +31,6 @@ use Rattle.loaded.specs.Beginning.{Opened, startRegisters}
 use Rattle.loaded.proofs.Beginning as Begin
 use Rattle.running.specs.Looked.{LookedAt}
 use Rattle.running.specs.Running.{GivenInput, Underway}
-use Rattle.running.proofs.Advancing.{placed}
 
 module _
     {file types functions input : List ℕ} {goal : Goal} {p : Program} {j : Parts} (given : GivenInput file types functions input p j) (asks : Asks goal p)
@@ -40,7 +39,7 @@ module _
       begins-there :
           {w v w′ : List ℕ} {base : ℕ} → base ≡ recordsAt (goal .steps) → length w ≡ workWords (p .steps)
           → Opened file w v base (head .parameters) (head .count) (goal .depth)
-          → Noted file types input v w′ 0 (bytesAt file (head .parameters) (head .count)) 0 (goal .depth)
+          → Noted file types input v w′ 0 (bytesAt file (head .parameters) (head .count)) 0
           → Underway file types functions input (goal .label) (goal .steps) w′ base (head .count) 0 (startRegisters (head .body)) p j (start p)
       begins-there {w} {v} {w′} {base} base-is long opened noted =
           let of-file = given .of-file in
@@ -49,7 +48,7 @@ module _
           let cells : Cells (map (typeAt file) types) (sourceSlots p) v (head .count) (allOpen (head .count)) =
           subst (λ ts. Cells ts (sourceSlots p) v (head .count) (allOpen (head .count))) (of-file .file-of .types-there) (stands .input) in
           let follows : FollowsInput (map (typeAt file) types) (sourceSlots p) w′ (head .count) (allOpen (head .count)) j =
-          start-follows (placed of-file) input (given .reads) (Begin.source-parameters of-file asks head head-read) (asks .depth-is)
+          start-follows file types (of-file .checked) (of-file .file-of .types-there) input (given .reads) (Begin.source-parameters of-file asks head head-read)
           (bytes-length file (head .parameters) (head .count)) cells noted in
           let unmoved : Unmoved v w′ (allOpen (head .count)) = noted-unmoved cells noted (λ r c k h. absurd (open-unbound (head .count) r h)) in
           let same : Same v w′ base 2 =
@@ -76,7 +75,7 @@ module _
       pub begins :
           {w v w′ : List ℕ} {base : ℕ} {from : Registers} → base ≡ recordsAt (goal .steps) → length w ≡ workWords (p .steps)
           → from ≡ startRegisters (head .body) → Opened file w v base (head .parameters) (head .count) (goal .depth)
-          → Noted file types input v w′ 0 (bytesAt file (head .parameters) (head .count)) 0 (goal .depth)
+          → Noted file types input v w′ 0 (bytesAt file (head .parameters) (head .count)) 0
           → Underway file types functions input (goal .label) (goal .steps) w′ base (head .count) 0 from p j (start p)
       begins {w′ = w′} {base} base-is long from-is opened noted =
           subst (λ r. Underway file types functions input (goal .label) (goal .steps) w′ base (head .count) 0 r p j (start p)) (sym from-is)

@@ -1,32 +1,32 @@
 -- The demands of the request, said of the call `run`: its answer, by what its contract promises, is the outcome of the published evaluation on the closed
--- input whose bytes it was given, with exact steps, or one refusal under exactly its condition.
+-- input whose bytes it was given, with exact steps, and the depth of that input, or one refusal under exactly its condition.
 -- What is proved of that evaluation stands in reach's Demands; what the search says of the same evaluation, in search's Demands.
--- Rests on reach's ClosedInputs, Evaluation and Refusals.
+-- Rests on reach's Demands, Depths, Evaluation and Refusals.
 use Prim.Native.Nat.{ℕ, _≤_, _<_}
 use mathlib.Core.Path.{_≡_, refl, sym, _∙_, ap, subst}
 use mathlib.Core.Logic.{_⊎_, inl, inr, ⊎-elim, _↔_}
-use mathlib.Core.List.{List}
+use mathlib.Core.List.{List, []}
 use mathlib.Core.Option.{Option, none, some, Option·some-injective}
 use native.Mathlib.Omega.{arith}
 use lib.ListN.{length, drop}
 use lib.Dec.{leb}
-use borrow.Author.Tests.{le-leb, lt-leb, leb-true, leb-false}
+use borrow.Author.Tests.{leb-true, leb-false}
 use Rattle.reach.specs.declared.Refusal.{Refusal}
 use Rattle.reach.specs.declared.Refusal.the-variants.{BadInput, WorkTooShort}
 use Rattle.reach.specs.declared.Outcome.{Outcome}
-use Rattle.reach.specs.declared.Outcome.the-variants.{Reached, Ended, Unfinished, Missing}
+use Rattle.reach.specs.declared.Outcome.the-variants.{Unfinished, Missing}
 use Rattle.reach.specs.Words.{numberOf, stepsOf}
 use Rattle.reach.specs.Limits.{workWords}
-use Rattle.reach.specs.Syntax.{Program}
-use Rattle.reach.specs.Parts.{Parts, prefix}
-use Rattle.reach.specs.Types.{WithinDepth}
+use Rattle.reach.specs.Syntax.{Program, sourceTypes}
+use Rattle.reach.specs.Parts.{Parts, end, opened, bound, depth, prefix}
+use Rattle.reach.specs.Types.{Typed, ClosedInput}
 use Rattle.reach.specs.Eval.{Run, reached, ended, unfinished, missing, halted, run, Spent}
 use Rattle.reach.specs.States.{MissingAfter}
-use Rattle.reach.specs.Input.{inputOf}
+use Rattle.reach.specs.Input.{readInput}
 use Rattle.reach.specs.Answers.{Checked, accepted, turnedBack, check, RunAnswer, noRun, ran, outcomeOf, runInput, runChecked, runAnswer}
 use Rattle.reach.proofs.Base.{clash, picked}
 use Rattle.reach.proofs.Evaluation.{run-spent}
-use Rattle.reach.proofs.ClosedInputs.{input-exactly}
+use Rattle.reach.proofs.Depths.{within-depth}
 use Rattle.reach.proofs.Demands as Reach
 use Rattle.reach.proofs.Refusals.{turned-back-by}
 use Rattle.running.specs.Looked.{LookedAt}
@@ -37,18 +37,20 @@ use Rattle.closed.specs.Answering.{answerOf, Unchanged, Leaves, Promised
 -- What the answer of an accepted file says.
 abbrev RunMeans : Program → List ℕ → ℕ → RunAnswer → Type 0
 RunMeans p input work (noRun why) =
-    ((why ≡ BadInput) × (inputOf p input ≡ none)) ⊎ ((why ≡ WorkTooShort) × ((j : Parts) × (inputOf p input ≡ some j) × (work < workWords (p .steps))))
-RunMeans p input work (ran o) = (j : Parts) × (inputOf p input ≡ some j) × (workWords (p .steps) ≤ work) × (o ≡ outcomeOf (run p j))
+    ((why ≡ BadInput) × (readInput p input ≡ none))
+    ⊎ ((why ≡ WorkTooShort) × ((j : Parts) × (deep : ℕ) × (readInput p input ≡ some (j, deep)) × (work < workWords (p .steps))))
+RunMeans p input work (ran o deep) = (j : Parts) × (readInput p input ≡ some (j, deep)) × (workWords (p .steps) ≤ work) × (o ≡ outcomeOf (run p j))
 
-input-means : (p : Program) (input : List ℕ) (work : ℕ) (i : Option Parts) → inputOf p input ≡ i → RunMeans p input work (runInput p work i)
+input-means : (p : Program) (input : List ℕ) (work : ℕ) (i : Option (Parts × ℕ)) → readInput p input ≡ i → RunMeans p input work (runInput p work i)
 unfolding runInput
 input-means p input work none is = inl (refl, is)
-input-means p input work (some j) is =
-    picked (RunMeans p input work) (leb (workWords (p .steps)) work) (λ enough. (j, is, leb-true _ _ enough, refl)) (λ short. inr (refl, (j, is, leb-false _ _ short)))
+input-means p input work (some (j, deep)) is =
+    picked (RunMeans p input work) (leb (workWords (p .steps)) work)
+    (λ enough. (j, is, leb-true _ _ enough, refl)) (λ short. inr (refl, (j, deep, is, leb-false _ _ short)))
 
 run-means : (file input : List ℕ) (work : ℕ) (p : Program) → check file ≡ accepted p → RunMeans p input work (runAnswer file input work)
 unfolding runAnswer runChecked
-run-means file input work p checked = rw checked (input-means p input work (inputOf p input) refl)
+run-means file input work p checked = rw checked (input-means p input work (readInput p input) refl)
 
 run-turned-back : (file input : List ℕ) (work : ℕ) (why : Refusal) → check file ≡ turnedBack why → runAnswer file input work ≡ noRun why
 unfolding runAnswer runChecked
@@ -89,45 +91,67 @@ module _ (file input work work′ : List ℕ) (r : Answer) (call : Promised file
     means : RunMeans p input (length work) (runAnswer file input (length work))
     means = run-means file input (length work) p checked
 
-    read : (j : Parts) → inputOf p input ≡ some j → IsInput p input j
-    read j = input-exactly p input j .0
+    read : (j : Parts) (deep : ℕ) → readInput p input ≡ some (j, deep) → IsInput p input j × (deep ≡ depth j)
+    read j deep is = let (within, same, as-deep) = Reach.depth-exactly file p checked input j deep .0 is in ((within, same), as-deep)
+
+    reads-as : (j : Parts) → IsInput p input j → readInput p input ≡ some (j, depth j)
+    reads-as j is = Reach.depth-exactly file p checked input j (depth j) .1 (is .0, is .1, refl)
 
     -- the bytes are of one input at most
-    one-input : (j k : Parts) → inputOf p input ≡ some j → IsInput p input k → j ≡ k
-    one-input j k is other = Option·some-injective j k (sym is ∙ input-exactly p input k .1 other)
+    one-input : (j k : Parts) (deep : ℕ) → readInput p input ≡ some (j, deep) → IsInput p input k → j ≡ k
+    one-input j k deep is other = ap (λ (row : Parts × ℕ). row .0) (Option·some-injective (j, deep) (k, depth k) (sym is ∙ reads-as k other))
 
     -- Demand 1 and 2: the call runs exactly where the bytes are a closed input that fits and the words are enough, and answers as the published evaluation of
-    -- that input ends, after exactly its steps.
-    pub ran-exactly : (o : Outcome) → (r ≡ Answer.Ran o) ↔ ((j : Parts) × IsInput p input j × (workWords (p .steps) ≤ length work) × (o ≡ outcomeOf (run p j)))
-    ran-exactly o = (λ is. from (runAnswer file input (length work)) means (sym (call .answer-is) ∙ is), λ h. call .answer-is ∙ into (h .0) (h .1) (h .2) (h .3) (runAnswer file input (length work)) means)
+    -- that input ends, after exactly its steps. 02, Slip 3: "the closed run returns the largest of them, 0 without parameters": the depth of that input.
+    pub ran-exactly : (o : Outcome) (deep : ℕ)
+        → (r ≡ Answer.Ran o deep) ↔ ((j : Parts) × IsInput p input j × (workWords (p .steps) ≤ length work) × (o ≡ outcomeOf (run p j)) × (deep ≡ depth j))
+    ran-exactly o deep = (λ is. from (runAnswer file input (length work)) means (sym (call .answer-is) ∙ is), λ h. call .answer-is ∙ into (h .0) (h .1) (h .2) (h .3) (h .4) (runAnswer file input (length work)) means)
       where
-        from : (a : RunAnswer) → RunMeans p input (length work) a → answerOf a ≡ Answer.Ran o
-            → (j : Parts) × IsInput p input j × (workWords (p .steps) ≤ length work) × (o ≡ outcomeOf (run p j))
+        from : (a : RunAnswer) → RunMeans p input (length work) a → answerOf a ≡ Answer.Ran o deep
+            → (j : Parts) × IsInput p input j × (workWords (p .steps) ≤ length work) × (o ≡ outcomeOf (run p j)) × (deep ≡ depth j)
         from (noRun why) m is = absurd (clash (cc))
-        from (ran x) (j, reads, enough, ends) is = let same : x ≡ o = cc in (j, read j reads, enough, sym same ∙ ends)
+        from (ran x d) (j, reads, enough, ends) is =
+            let same : x ≡ o = cc in
+            let as-deep : d ≡ deep = cc in
+            (j, read j d reads .0, enough, sym same ∙ ends, sym as-deep ∙ read j d reads .1)
 
         into :
-            (j : Parts) → IsInput p input j → workWords (p .steps) ≤ length work → o ≡ outcomeOf (run p j) → (a : RunAnswer) → RunMeans p input (length work) a
-            → answerOf a ≡ Answer.Ran o
-        into j is enough ends (noRun why) (inl (by, unread)) = absurd (clash (cc (unread, input-exactly p input j .1 is)))
-        into j is enough ends (noRun why) (inr (by, (k, reads, short))) = absurd (omega arith)
-        into j is enough ends (ran x) (k, reads, fits, ended-so) =
-            let same : k ≡ j = one-input k j reads is in
-            ap Answer.Ran (ended-so ∙ ap (λ (y : Parts). outcomeOf (run p y)) same ∙ sym ends)
+            (j : Parts) → IsInput p input j → workWords (p .steps) ≤ length work → o ≡ outcomeOf (run p j) → deep ≡ depth j
+            → (a : RunAnswer) → RunMeans p input (length work) a → answerOf a ≡ Answer.Ran o deep
+        into j is enough ends as-deep (noRun why) (inl (by, unread)) = absurd (clash (cc (unread, reads-as j is)))
+        into j is enough ends as-deep (noRun why) (inr (by, (k, d, reads, short))) = absurd (omega arith)
+        into j is enough ends as-deep (ran x d) (k, reads, fits, ended-so) =
+            let same : k ≡ j = one-input k j d reads is in
+            let deeper : d ≡ deep = read k d reads .1 ∙ ap depth same ∙ sym as-deep in
+            let ended-as : x ≡ o = ended-so ∙ ap (λ (y : Parts). outcomeOf (run p y)) same ∙ sym ends in
+            ap (λ (y : Outcome). Answer.Ran y d) ended-as ∙ ap (Answer.Ran o) deeper
 
     -- 01, "Turned back", refusal 10: "the bytes are not one closed, fitting value per parameter".
     pub bad-exactly : (r ≡ Answer.Refused BadInput) ↔ ((j : Parts) → ¬ IsInput p input j)
     bad-exactly = (λ is j other. from (runAnswer file input (length work)) means (sym (call .answer-is) ∙ is) j other, λ never. call .answer-is ∙ into never (runAnswer file input (length work)) means)
       where
         from : (a : RunAnswer) → RunMeans p input (length work) a → answerOf a ≡ Answer.Refused BadInput → (j : Parts) → IsInput p input j → ⊥
-        from (noRun why) (inl (by, unread)) is j other = clash (cc (unread, input-exactly p input j .1 other))
-        from (noRun why) (inr (by, (k, reads, short))) is j other = clash (cc (by))
-        from (ran x) m is j other = clash (cc)
+        from (noRun why) (inl (by, unread)) is j other = clash (cc (unread, reads-as j other))
+        from (noRun why) (inr (by, (k, d, reads, short))) is j other = clash (cc (by))
+        from (ran x d) m is j other = clash (cc)
 
         into : ((j : Parts) → ¬ IsInput p input j) → (a : RunAnswer) → RunMeans p input (length work) a → answerOf a ≡ Answer.Refused BadInput
         into never (noRun why) (inl (by, unread)) = ap Answer.Refused by
-        into never (noRun why) (inr (by, (k, reads, short))) = absurd (never k (read k reads))
-        into never (ran x) (k, reads, fits, ended-so) = absurd (never k (read k reads))
+        into never (noRun why) (inr (by, (k, d, reads, short))) = absurd (never k (read k d reads .0))
+        into never (ran x d) (k, reads, fits, ended-so) = absurd (never k (read k d reads .0))
+
+    -- 02, Slip 3: "the check for refusal 10 [relies] on the new figure": bytes of closed values of the parameters' types are refused exactly if the deepest
+    -- of them is deeper than D.
+    pub too-deep-exactly : (j : Parts) → ClosedInput p j → prefix j ≡ input → (r ≡ Answer.Refused BadInput) ↔ (p .depth < depth j)
+    too-deep-exactly j values same = (
+      λ is. Reach.too-deep-exactly file p checked input j values same .0 (unread (runAnswer file input (length work)) means (sym (call .answer-is) ∙ is)),
+      λ deep. bad-exactly .1 (λ k other. absurd (clash (cc (reads-as k other, Reach.too-deep-exactly file p checked input j values same .1 deep)))),
+    )
+      where
+        unread : (a : RunAnswer) → RunMeans p input (length work) a → answerOf a ≡ Answer.Refused BadInput → readInput p input ≡ none
+        unread (noRun why) (inl (by, none-read)) is = none-read
+        unread (noRun why) (inr (by, other)) is = absurd (clash (cc (by)))
+        unread (ran x d) m is = absurd (clash (cc))
 
     -- 01, "Turned back", refusal 11: "the work slice of 32-bit words is shorter than 64 × S + 1,024", tested after the input.
     pub short-exactly : (r ≡ Answer.Refused WorkTooShort) ↔ ((j : Parts) × IsInput p input j × (length work < workWords (p .steps)))
@@ -135,36 +159,53 @@ module _ (file input work work′ : List ℕ) (r : Answer) (call : Promised file
       where
         from : (a : RunAnswer) → RunMeans p input (length work) a → answerOf a ≡ Answer.Refused WorkTooShort → (j : Parts) × IsInput p input j × (length work < workWords (p .steps))
         from (noRun why) (inl (by, unread)) is = absurd (clash (cc (by)))
-        from (noRun why) (inr (by, (k, reads, short))) is = (k, read k reads, short)
-        from (ran x) m is = absurd (clash (cc))
+        from (noRun why) (inr (by, (k, d, reads, short))) is = (k, read k d reads .0, short)
+        from (ran x d) m is = absurd (clash (cc))
 
         into : (j : Parts) → IsInput p input j → length work < workWords (p .steps) → (a : RunAnswer) → RunMeans p input (length work) a → answerOf a ≡ Answer.Refused WorkTooShort
-        into j is short (noRun why) (inl (by, unread)) = absurd (clash (cc (unread, input-exactly p input j .1 is)))
+        into j is short (noRun why) (inl (by, unread)) = absurd (clash (cc (unread, reads-as j is)))
         into j is short (noRun why) (inr (by, other)) = ap Answer.Refused by
-        into j is short (ran x) (k, reads, fits, ended-so) = absurd (omega arith)
+        into j is short (ran x d) (k, reads, fits, ended-so) = absurd (omega arith)
 
     -- 01: steps spent are "never above S"; "unfinished: S steps are done".
-    pub steps-spent : (o : Outcome) → r ≡ Answer.Ran o → stepsOf o ≤ p .steps
-    steps-spent o is =
-        let (j, reads, enough, ends) = ran-exactly o .0 is in
+    pub steps-spent : (o : Outcome) (deep : ℕ) → r ≡ Answer.Ran o deep → stepsOf o ≤ p .steps
+    steps-spent o deep is =
+        let (j, reads, enough, ends, as-deep) = ran-exactly o deep .0 is in
         rw ends (steps-kept (p .steps) (run p j) (run-spent p j))
 
-    pub unfinished-all : (n : ℕ) → r ≡ Answer.Ran (Unfinished n) → n ≡ p .steps
-    unfinished-all n is =
-        let (j, reads, enough, ends) = ran-exactly (Unfinished n) .0 is in
+    pub unfinished-all : (n deep : ℕ) → r ≡ Answer.Ran (Unfinished n) deep → n ≡ p .steps
+    unfinished-all n deep is =
+        let (j, reads, enough, ends, as-deep) = ran-exactly (Unfinished n) deep .0 is in
         unfinished-kept (p .steps) n (run p j) (run-spent p j) ends
 
     -- 02, Slip 1: "the closed run says missing too, no longer ended": exactly where, inside the step limit, the last of so many steps finds that a case has no
     -- alternative for its constructor.
-    pub missing-exactly : (n : ℕ)
-        → (r ≡ Answer.Ran (Missing n)) ↔ ((j : Parts) × IsInput p input j × (workWords (p .steps) ≤ length work) × MissingAfter p j n)
+    pub missing-exactly : (n deep : ℕ)
+        → (r ≡ Answer.Ran (Missing n) deep) ↔ ((j : Parts) × IsInput p input j × (workWords (p .steps) ≤ length work) × MissingAfter p j n × (deep ≡ depth j))
     unfolding outcomeOf
-    missing-exactly n = (
-      λ is. let (j, reads, enough, ends) = ran-exactly (Missing n) .0 is in
-          (j, reads, enough, (Reach.missing-exactly p j n) .0 (missing-kept n (run p j) ends)),
-      λ h. let (j, reads, enough, finds) = h in
-          ran-exactly (Missing n) .1 (j, reads, enough, sym (ap outcomeOf ((Reach.missing-exactly p j n) .1 finds))),
+    missing-exactly n deep = (
+      λ is. let (j, reads, enough, ends, as-deep) = ran-exactly (Missing n) deep .0 is in
+          (j, reads, enough, (Reach.missing-exactly p j n) .0 (missing-kept n (run p j) ends), as-deep),
+      λ h. let (j, reads, enough, finds, as-deep) = h in
+          ran-exactly (Missing n) deep .1 (j, reads, enough, sym (ap outcomeOf ((Reach.missing-exactly p j n) .1 finds)), as-deep),
     )
+
+    -- 02, Slip 3: no depth is answered above D, and of an input without parameters 0.
+    pub depth-within : (o : Outcome) (deep : ℕ) → r ≡ Answer.Ran o deep → deep ≤ p .depth
+    depth-within o deep is =
+        let (j, (within, same), enough, ends, as-deep) = ran-exactly o deep .0 is in
+        omega (arith, as-deep, within-depth p j (within .0) .0 (within .1))
+
+    pub depth-none : (o : Outcome) (deep : ℕ) → sourceTypes p ≡ [] → r ≡ Answer.Ran o deep → deep ≡ 0
+    unfolding depth
+    depth-none o deep without is =
+        let (j, (within, same), enough, ends, as-deep) = ran-exactly o deep .0 is in
+        as-deep ∙ by-row j (subst (λ (ts : List ℕ). Typed (p .types) ts j) without (within .0 .1))
+      where
+        by-row : (j : Parts) → Typed (p .types) [] j → depth j ≡ 0
+        by-row end h = refl
+        by-row (opened k) h = absurd h
+        by-row (bound c fs k) h = absurd h
 
   -- which condition a refusal has
   abbrev Refusable : Refusal → Type 0
@@ -188,7 +229,7 @@ module _ (file input work work′ : List ℕ) (r : Answer) (call : Promised file
           → (why ≡ BadInput) ⊎ (why ≡ WorkTooShort)
       by-means p checked (noRun by) (inl (same-as, unread)) is = let same : by ≡ why = cc in inl (sym same ∙ same-as)
       by-means p checked (noRun by) (inr (same-as, rest)) is = let same : by ≡ why = cc in inr (sym same ∙ same-as)
-      by-means p checked (ran o) m is = absurd (clash (cc))
+      by-means p checked (ran o deep) m is = absurd (clash (cc))
 
       from : (c : Checked) → check file ≡ c → r ≡ Answer.Refused why → Refusable why
       from (turnedBack by) checked is =
@@ -213,9 +254,9 @@ module _ (file input work work′ : List ℕ) (r : Answer) (call : Promised file
   refused-unchanged why is = subst (λ (a : Answer). Unchanged a file work work′) is (call .words-are)
 
   -- What the words stand for after a run: a partial input below the closed one, on which the evaluation comes to the same end.
-  pub run-looked : (o : Outcome) → r ≡ Answer.Ran o → (p : Program) (j : Parts) → check file ≡ accepted p → IsInput p input j
+  pub run-looked : (o : Outcome) (deep : ℕ) → r ≡ Answer.Ran o deep → (p : Program) (j : Parts) → check file ≡ accepted p → IsInput p input j
       → (drop (workWords (p .steps)) work′ ≡ drop (workWords (p .steps)) work) × LookedAt p j (p .steps) work′
-  run-looked o is p j checked input-is = (
+  run-looked o deep is p j checked input-is = (
     subst (λ (a : Answer). Unchanged a file work work′) is (call .words-are) p checked,
-    subst (λ (a : Answer). Leaves a file input work′) is (call .cells-are) p j checked (input-exactly p input j .1 input-is),
+    subst (λ (a : Answer). Leaves a file input work′) is (call .cells-are) p j checked (Reach.input-exactly file p checked input j .1 input-is),
   )

@@ -18,18 +18,18 @@ use Rattle.closed.specs.declared.Answer.the-variants as Answer
 -- the answer of reach's definition, as the enum shows it
 abbrev pub answerOf : RunAnswer → Answer
 answerOf (noRun why) = Answer.Refused why
-answerOf (ran o) = Answer.Ran o
+answerOf (ran o deep) = Answer.Ran o deep
 
 -- A refusal changes no word, and a run none behind its first 64 S + 1,024 words.
 abbrev pub Unchanged : Answer → List ℕ → List ℕ → List ℕ → Type 0
 Unchanged (Answer.Refused why) file w w′ = w′ ≡ w
-Unchanged (Answer.Ran o) file w w′ = (p : Program) → check file ≡ accepted p → drop (workWords (p .steps)) w′ ≡ drop (workWords (p .steps)) w
+Unchanged (Answer.Ran o deep) file w w′ = (p : Program) → check file ≡ accepted p → drop (workWords (p .steps)) w′ ≡ drop (workWords (p .steps)) w
 
 -- After a run the words stand for a part of the closed input that has all that its steps looked at. What the evaluation's records left behind the
 -- cells is not said.
 abbrev pub Leaves : Answer → List ℕ → List ℕ → List ℕ → Type 0
 Leaves (Answer.Refused why) file input w′ = Unit {0}
-Leaves (Answer.Ran o) file input w′ = (p : Program) (j : Parts) → check file ≡ accepted p → inputOf p input ≡ some j → LookedAt p j (p .steps) w′
+Leaves (Answer.Ran o deep) file input w′ = (p : Program) (j : Parts) → check file ≡ accepted p → inputOf p input ≡ some j → LookedAt p j (p .steps) w′
 
 -- What the call promises, and all that it promises: of its answer, of the words that it may not change, and of those that it may.
 pub record Promised (file input work work′ : List ℕ) (r : Answer) : Type 0 where

@@ -3,7 +3,8 @@
 ghost use Rattle.closed.specs.Answering.{Promised};
 ghost use Rattle.closed.specs.Evaluating.{Runnable, RunsAs};
 use goal::Goal;
-use inputs::input_fits;
+use inputs::Reading;
+use inputs::input_depth;
 use loaded::open_input;
 use lookups::head_of;
 use machine::records_at;
@@ -16,9 +17,9 @@ use running::go_on;
 use skipping::fill_ends;
 use values::note_values;
 
-// The answer of a closed run.
+// The answer of a closed run: how it ended and how deep the input is, or a refusal.
 pub enum Answer {
-    Ran(Outcome),
+    Ran(Outcome, u8),
     Refused(Refusal),
 }
 
@@ -41,7 +42,7 @@ fn evaluate<'a>(
     let first = head.parameters;
     let n = head.count;
     let from = open_input(file, work, base, head, goal.depth);
-    note_values(file, types, input, work, 0, first, n, 0, goal.depth);
+    note_values(file, types, input, work, 0, first, n, 0);
     go_on(
         file,
         types,
@@ -71,26 +72,28 @@ pub fn run<'a>(file: &'a [u8], input: &'a [u8], work: &mut [u32]) -> Answer
     let goal = loaded.goal;
     let type_at = loaded.type_at;
     let function_at = loaded.function_at;
-    if !input_fits(
+    let Reading::Deep(deep) = input_depth(
         file,
         &type_at[..types],
         &function_at[..functions],
         goal.source,
         goal.depth,
         input,
-    ) {
+    ) else {
         return Answer::Refused(Refusal::BadInput);
-    }
+    };
     let words = work_words(goal.steps);
     if work.len() < words {
         return Answer::Refused(Refusal::WorkTooShort);
     }
-    Answer::Ran(evaluate(
+    let outcome = evaluate(
         file,
         &type_at[..types],
         &function_at[..functions],
         goal,
         input,
         &mut work[..words],
-    ))
+    );
+    let depth = deep as u8;
+    Answer::Ran(outcome, depth)
 }

@@ -19,7 +19,6 @@ use Rattle.reach.specs.Search.{Entry}
 use Rattle.reach.specs.Lists.{onFound, entrySize}
 use Rattle.reach.specs.Reader.{Got, got, refused, onGot}
 use Rattle.reach.specs.Handed.{entry, entriesBy, handed}
-use Rattle.reach.proofs.Handed.{few}
 use Rattle.reach.proofs.HandedEntry.{none-read, entry-same}
 use Rattle.handed.specs.Fits.{entryAt, Told, Given}
 
@@ -74,7 +73,7 @@ module _ {file types functions table : List ℕ} {source depth steps : ℕ} {p :
 
     pub none-there : ((i : ℕ) → getD list i 0 < 256) → entrySize list at ≡ none → from more at ≡ false
     none-there bytes size =
-        let (why, e) = none-read p (few file p (given .checked)) list bytes at (omega arith) size in
+        let (why, e) = none-read p list bytes at (omega arith) size in
         unread why e
 
     pub unfit : (n : ℕ) (answer : Bool) → Told (entryAt file types functions table source depth steps list at) n answer → answer ≡ false → from more at ≡ false

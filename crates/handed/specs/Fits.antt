@@ -1,34 +1,19 @@
 -- Entries of a list that is handed in, as reach's Handed reads them, the types being those at the places of a checked file.
--- Rests on reach's Handed, Partial and Places, on partials' Values and on the enum of src/lib.rt.
+-- Rests on reach's Handed and Places.
 use Prim.Native.Nat.{ℕ}
 use mathlib.Core.Path.{_≡_}
 use mathlib.Core.Bool.{Bool, true, false}
 use mathlib.Core.List.{List, map}
 use lib.ListN.{getD}
 use Rattle.reach.specs.declared.Refusal.{Refusal}
-use Rattle.reach.specs.Limits.{depthLimit}
-use Rattle.reach.specs.Parts.{Parts}
 use Rattle.reach.specs.Syntax.{Program, sourceTypes}
 use Rattle.reach.specs.Types.{slots, leastDepths}
 use Rattle.reach.specs.Search.{Entry}
 use Rattle.reach.specs.Reader.{Got, got, refused, Reader}
-use Rattle.reach.specs.Partial.{slotted}
 use Rattle.reach.specs.Lists.{onFound}
 use Rattle.reach.specs.Answers.{accepted, check}
 use Rattle.reach.specs.Handed.{entryBy, handed}
 use Rattle.reach.specs.Places.{typeAt, headAt}
-use Rattle.partials.specs.Values.{valueAt}
-use Rattle.handed.specs.declared.Behind.{Behind}
-use Rattle.handed.specs.declared.Behind.the-variants as Behind
-
--- a reading, with its value and its reason forgotten
-abbrev pub placeOf : {A : Type 0} → Got A → Behind
-placeOf (got a next) = Behind.At next
-placeOf (refused why) = Behind.Bad
-
--- a value for each of these types, each at most so deep
-abbrev pub slotsAt : List ℕ → List ℕ → List ℕ → ℕ → List ℕ → Reader Parts
-slotsAt file types table depth ts = slotted (valueAt file types table depthLimit) (slots ts depth)
 
 -- an entry of a source's list
 abbrev pub entryAt : List ℕ → List ℕ → List ℕ → List ℕ → ℕ → ℕ → ℕ → Reader Entry

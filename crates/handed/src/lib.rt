@@ -1,56 +1,16 @@
-// Whether a list that is handed in is whole entries that fit its rule file: refusal 14. Rests on crates marks, lookups, depths, entries and partials.
+// Whether a list that is handed in is whole entries that fit its rule file: refusal 14. Rests on crates lookups, depths, entries and partials.
 ghost use mathlib.Core.Path.{_≡_};
 ghost use mathlib.Core.Option.{some};
-ghost use Prim.Native.Nat.{_+_, _≤_};
+ghost use Prim.Native.Nat.{_+_};
 ghost use Rattle.reach.specs.Lists.{entrySize};
-ghost use Rattle.reach.specs.Places.{bytesAt};
-ghost use Rattle.handed.specs.Fits.{placeOf, slotsAt, entryAt, Told, FitsList};
+ghost use Rattle.handed.specs.Fits.{entryAt, Told, FitsList};
 use depths::Depths;
 use entries::Size;
 use entries::size_at;
 use entries::word_at;
 use lookups::head_of;
-use marks::byte_or_zero;
 use partials::Measured;
-use partials::value;
-
-// The place behind what was read, or the bytes are not what they should be.
-pub enum Behind {
-    At(usize),
-    Bad,
-}
-
-// A partial value for each of the n types that stand from a place of the file on, each at most so deep.
-fn slots_fit<'a>(
-    file: &'a [u8],
-    types: &'a [u16],
-    least: Depths,
-    list: &'a [u8],
-    at: usize,
-    fields: usize,
-    n: usize,
-    depth: usize,
-) -> Behind
-    requires { ⌜ (fields ≤ 1000000) × (n ≤ 255) ⌝ }
-    ensures { λ r. ⌜ r ≡ placeOf (slotsAt (now (file .entry)) (now (types .entry)) (least .of) depth (bytesAt (now (file .entry)) fields n) (now (list .entry)) at) ⌝ }
-{
-    let mut place = at;
-    let mut field = fields;
-    let mut more = n;
-    while 0 < more {
-        let t = byte_or_zero(file, field);
-        let Measured::At(next, deep) = value(file, types, least, list, place, t, 64) else {
-            return Behind::Bad;
-        };
-        if depth < deep {
-            return Behind::Bad;
-        }
-        place = next;
-        field += 1;
-        more -= 1;
-    }
-    Behind::At(place)
-}
+use partials::slots;
 
 // The entry of n bytes at a place has at most so many steps, and a value for each parameter of the source, at most so deep.
 fn entry_fits<'a>(
@@ -72,10 +32,11 @@ fn entry_fits<'a>(
         return false;
     }
     let head = head_of(file, functions, source);
-    let Behind::At(place) = slots_fit(
+    let table = least.of;
+    let Measured::At(place, _) = slots(
         file,
         types,
-        least,
+        &table,
         list,
         at + 6,
         head.parameters,

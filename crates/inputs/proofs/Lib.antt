@@ -1,3 +1,1 @@
-pub mod Rows
-pub mod Closed
-pub mod Positions
+pub mod Whole

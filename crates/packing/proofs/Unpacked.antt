@@ -2,7 +2,7 @@
 -- Rests on specs/Packing and specs/Unpacking, and on entries' Demands (the part of an entry is as long as its span says).
 use Prim.Native.Nat.{ℕ, _+_, _*_, _≤_, _<_}
 use native.Mathlib.Omega.{arith}
-use mathlib.Core.Path.{_≡_, refl, sym, ap}
+use mathlib.Core.Path.{_≡_, refl, sym, ap, _∙_}
 use mathlib.Core.List.{List, [], flatMap}
 use mathlib.Core.Option.{Option, none, some, Option·none-ne-some, Option·some-injective}
 use lib.ListN.{length, take, drop}
@@ -21,7 +21,7 @@ use Rattle.reach.specs.Printouts.{TextAnswer, noText, ofLength}
 use Rattle.entries.specs.Spans.{partPlace}
 use Rattle.entries.proofs.Demands.{found-within}
 use Rattle.packing.specs.Packing.{verdictNumber, outcomeNumber, checkNumber, searchNumber, runNumber, textNumber, partNumber}
-use Rattle.packing.specs.Unpacking.{refusalBits, caseBits, countBits, placeBits, sizeBits, refusalNamed, verdictNamed, outcomeNamed, decodedCheck, checkRead, decodedSearch, searchRead, RunRead, decodedRun, runRead, TextRead, decodedText, textRead, decodedPart}
+use Rattle.packing.specs.Unpacking.{refusalBits, caseBits, countBits, stepBits, depthBits, placeBits, sizeBits, refusalNamed, verdictNamed, outcomeNamed, decodedCheck, checkRead, decodedSearch, searchRead, RunRead, decodedRun, runRead, TextRead, decodedText, textRead, decodedPart}
 
 -- The parts of a packed number are what was packed: each of the two lower ones fills a byte at most.
 pub record Parted (number low middle count : ℕ) : Type 0 where
@@ -74,8 +74,21 @@ none-named = (refl, refl, refl)
 pub refused-parted : (why : Refusal) → Parted (numberOf why) (numberOf why) 0 0
 refused-parted why = parted (numberOf why) (numberOf why) 0 0 (refusal-named why .0) (omega arith) (omega arith)
 
-pub ran-parted : (o : Outcome) → Parted (runNumber (ran o)) 0 (outcomeNumber o) (stepsOf o)
-ran-parted o = parted (runNumber (ran o)) 0 (outcomeNumber o) (stepsOf o) (omega arith) (outcome-named o .0) (omega arith)
+-- a run's number has its steps and its depth in place of the count: the steps fill 16 bits at most, and the depth 8
+abbrev pub Small : RunAnswer → Type 0
+Small (noRun why) = Unit {0}
+Small (ran o deep) = (stepsOf o < 65536) × (deep < 256)
+
+pub record RanParted (number : ℕ) (o : Outcome) (deep : ℕ) : Type 0 where
+  pub low-is : refusalBits number ≡ 0
+  pub middle-is : caseBits number ≡ outcomeNumber o
+  pub steps-are : stepBits number ≡ stepsOf o
+  pub depth-is : depthBits number ≡ deep
+
+pub ran-parted : (o : Outcome) (deep : ℕ) → Small (ran o deep) → RanParted (runNumber (ran o deep)) o deep
+ran-parted o deep small =
+    let few = outcome-named o .0 in
+    record { low-is = omega arith; middle-is = omega arith; steps-are = omega arith; depth-is = omega arith }
 
 pub check-reads : (a : Checked) → decodedCheck (checkNumber a) ≡ checkRead a
 check-reads (accepted p) = none-named .0
@@ -94,20 +107,26 @@ search-reads (cutShort es) =
     let z = parted (searchNumber (cutShort es)) (numberOf ListFull) 0 (length (listBytes es)) (omega arith) (omega arith) (omega arith) in
     rw (z .low-is, z .middle-is, z .count-is, refusal-named ListFull .1, none-named .1)
 
-pub run-reads : (a : RunAnswer) → decodedRun (runNumber a) ≡ runRead a
-run-reads (noRun why) =
+pub run-reads : (a : RunAnswer) → Small a → decodedRun (runNumber a) ≡ runRead a
+run-reads (noRun why) small =
     let z = refused-parted why in
-    rw (z .low-is, z .middle-is, z .count-is, refusal-named why .1, none-named .2)
-run-reads (ran o) =
-    let z = ran-parted o in
-    rw (z .low-is, z .middle-is, z .count-is, none-named .0, outcome-named o .1)
+    let few = refusal-named why .0 in
+    let steps : stepBits (numberOf why) ≡ 0 = omega arith in
+    let deep : depthBits (numberOf why) ≡ 0 = omega arith in
+    rw (z .low-is, z .middle-is, steps, deep, refusal-named why .1, none-named .2)
+run-reads (ran o deep) small =
+    let z = ran-parted o deep small in
+    rw (z .low-is, z .middle-is, z .steps-are, z .depth-is, none-named .0, outcome-named o .1)
 
 -- what is read off a run's number is the whole answer
 pub read-one : (a b : RunAnswer) → runRead a ≡ runRead b → a ≡ b
 read-one (noRun x) (noRun y) is = ap noRun (Option·some-injective x y (ap (λ (t : RunRead). t .refusal) is))
-read-one (noRun x) (ran o) is = absurd (Option·none-ne-some x (sym (ap (λ (t : RunRead). t .refusal) is)))
-read-one (ran o) (noRun y) is = absurd (Option·none-ne-some y (ap (λ (t : RunRead). t .refusal) is))
-read-one (ran o) (ran u) is = ap ran (Option·some-injective o u (ap (λ (t : RunRead). t .outcome) is))
+read-one (noRun x) (ran o d) is = absurd (Option·none-ne-some x (sym (ap (λ (t : RunRead). t .refusal) is)))
+read-one (ran o d) (noRun y) is = absurd (Option·none-ne-some y (ap (λ (t : RunRead). t .refusal) is))
+read-one (ran o d) (ran u e) is =
+    let same : o ≡ u = Option·some-injective o u (ap (λ (t : RunRead). t .outcome) is) in
+    let deep : d ≡ e = ap (λ (t : RunRead). t .depth) is in
+    ap (λ (x : Outcome). ran x d) same ∙ ap (ran u) deep
 
 pub text-reads : (a : TextAnswer) → decodedText (textNumber a) ≡ textRead a
 text-reads (noText why) =

@@ -1,6 +1,6 @@
 -- The number that each call for C answers with. Bits 0 to 7 are the number of the refusal, or 0; bits 8 to 15 are the number of the verdict or of the outcome,
--- or 0 where none is given; from bit 16 on stands the length of the list or of the text, or the count of the steps. The number for an entry has its place in
--- bits 0 to 31 and its size from bit 32 on.
+-- or 0 where none is given; from bit 16 on stands the length of the list or of the text. A closed run has the count of its steps in bits 16 to 31 and the depth
+-- of its input in bits 32 to 39. The number for an entry has its place in bits 0 to 31 and its size from bit 32 on.
 -- Rests on reach's Words, Answers, Search, Lists and Printouts.
 use Prim.Native.Nat.{ℕ, _+_, _*_, _≤_}
 use mathlib.Core.Path.{_≡_}
@@ -42,10 +42,10 @@ searchNumber (noSearch why) = numberOf why
 searchNumber (complete es) = 256 * verdictNumber (verdict es) + 65536 * length (listBytes es)
 searchNumber (cutShort es) = numberOf ListFull + 65536 * length (listBytes es)
 
--- the closed run: a refusal of 1 to 11; or how it ended, and its steps
+-- the closed run: a refusal of 1 to 11; or how it ended, its steps, and how deep its input is
 abbrev pub runNumber : RunAnswer → ℕ
 runNumber (noRun why) = numberOf why
-runNumber (ran o) = 256 * outcomeNumber o + 65536 * stepsOf o
+runNumber (ran o deep) = 256 * outcomeNumber o + 65536 * stepsOf o + 4294967296 * deep
 
 -- the text of a list, its length or itself: a refusal of 1 to 9, 13 or 14; or its length
 abbrev pub textNumber : TextAnswer → ℕ

@@ -25,9 +25,17 @@ refusalBits number = number % 256
 abbrev pub caseBits : ℕ → ℕ
 caseBits number = number / 256 % 256
 
--- from bit 16 on: remburai_list_length, remburai_steps, remburai_text_bytes
+-- from bit 16 on: remburai_list_length, remburai_text_bytes
 abbrev pub countBits : ℕ → ℕ
 countBits number = number / 65536
+
+-- bits 16 to 31: remburai_steps
+abbrev pub stepBits : ℕ → ℕ
+stepBits number = number / 65536 % 65536
+
+-- bits 32 to 39: remburai_depth
+abbrev pub depthBits : ℕ → ℕ
+depthBits number = number / 4294967296 % 256
 
 -- bits 0 to 31: remburai_entry_place
 abbrev pub placeBits : ℕ → ℕ
@@ -74,17 +82,19 @@ decodedSearch number = record { refusal = refusalNamed (refusalBits number); ver
 abbrev pub searchRead : SearchAnswer → SearchRead
 searchRead a = record { refusal = refusalOf a; verdict = verdictOf a; bytes = length (listBytes (listed a)) }
 
--- The closed run: its refusal, or how it ended and its steps.
+-- The closed run: its refusal, or how it ended with its steps, and the depth of its input; 0 with a refusal.
 pub record RunRead : Type 0 where
   pub refusal : Option Refusal
   pub outcome : Option Outcome
+  pub depth : ℕ
 
 abbrev pub decodedRun : ℕ → RunRead
-decodedRun number = record { refusal = refusalNamed (refusalBits number); outcome = outcomeNamed (caseBits number) (countBits number) }
+decodedRun number =
+    record { refusal = refusalNamed (refusalBits number); outcome = outcomeNamed (caseBits number) (stepBits number); depth = depthBits number }
 
 abbrev pub runRead : RunAnswer → RunRead
-runRead (noRun why) = record { refusal = some why; outcome = none }
-runRead (ran o) = record { refusal = none; outcome = some o }
+runRead (noRun why) = record { refusal = some why; outcome = none; depth = 0 }
+runRead (ran o deep) = record { refusal = none; outcome = some o; depth = deep }
 
 -- The text of a list: its refusal, or its length.
 pub record TextRead : Type 0 where

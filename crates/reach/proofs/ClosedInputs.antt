@@ -1,166 +1,157 @@
--- Refusal 10 under exactly its condition: bytes are read as a closed input if and only if they are the prefix form of a closed input
--- within the depth, and then it is that input.
--- A place of the bytes is spoken of by the bytes from there on, `drop i s`.
--- Rests on Depths for the depth of a row, and on Limits for what a reader finds.
-use Prim.Native.Nat.{ℕ, zero, suc, _≤_, zero-le}
-use mathlib.Core.Path.{_≡_, refl, ap, subst}
-use mathlib.Core.List.{List, [], _∷_, _++_, append-assoc, append-nil}
+-- Refusal 10 under exactly its condition: bytes are read as a closed input if and only if they are the prefix form of one that is within the depth. And with it
+-- stands its depth: 02, Slip 3. That the reading goes below 64 constructors only changes no answer, since D is at most 64.
+-- Rests on Partial, Reading and Depths, and on Limits and WellTyped for accepted files.
+use Prim.Native.Nat.{ℕ, suc, max, _+_, _≤_, _<_}
+use mathlib.Core.Path.{_≡_, refl, sym, ap, subst, _∙_}
+use mathlib.Core.Bool.{Bool, true, false}
+use mathlib.Core.List.{List, [], _∷_, _++_, append-nil}
 use mathlib.Core.Logic.{_↔_}
-use mathlib.Core.Option.{none, some}
+use mathlib.Core.Option.{Option, none, some, Option·map, Option·none-ne-some, Option·some-injective}
 use native.Mathlib.Omega.{arith}
 use lib.ListN.{length, drop, length-drop, drop-of-length-le}
-use lib.Dec.{ltb}
-use borrow.Author.Tests.{ltb-false, le-ltb}
+use lib.Dec.{ltb, leb}
+use borrow.Author.Tests.{ltb-false, le-ltb, leb-true, leb-false}
 use Rattle.reach.specs.declared.Refusal.the-variants.{BadInput}
-use Rattle.reach.specs.Syntax.{Types, Program, fieldTypes, sourceTypes}
+use Rattle.reach.specs.Limits.{depthLimit}
+use Rattle.reach.specs.Syntax.{Types, Program, sourceTypes}
 use Rattle.reach.specs.Parts.{Parts, end, opened, bound, Closed, depth, prefix}
-use Rattle.reach.specs.Types.{Typed, sourceSlots, Fits, WithinDepth}
-use Rattle.reach.specs.Reader.{Got, got, refused, onGot, Reader, _>>=_, _>>_, give, orRefuse, byte, atEnd}
-use Rattle.reach.specs.Input.{rowBy, row, inputOf}
-use Rattle.reach.proofs.Base.{clash, picked}
-use Rattle.reach.proofs.Depths.{fits-depth}
-use Rattle.reach.proofs.Limits.{IfFound, if-found-then}
-use Rattle.reach.proofs.Reading.{byte-finds, looked-finds, Found, byte-there}
+use Rattle.reach.specs.Types.{Typed, Slot, slotTypes, sourceSlots, ClosedInput, Fits, WithinDepth, ValueOf}
+use Rattle.reach.specs.Reader.{Got, got, refused, onGot, Reader, _>>=_, _>>_, give, atEnd}
+use Rattle.reach.specs.Partial.{deepest, Keeps, built, inInputs, value, slotted}
+use Rattle.reach.specs.Input.{inputBy, readInput, inputOf}
+use Rattle.reach.specs.Answers.{accepted, check}
+use Rattle.reach.proofs.Base.{picked}
+use Rattle.reach.proofs.Depths.{within-depth}
+use Rattle.reach.proofs.Limits.{IfFound, if-found-then, accepted-rooms}
+use Rattle.reach.proofs.Slots.{source-types}
+use Rattle.reach.proofs.WellTyped.{open-apart}
+use Rattle.reach.proofs.Partial.{AllBelow, inputs-lawful, closed-deepest, row-one, value-read, slotted-finds, slotted-meets}
 
--- What a reader of rows looks for: a row that is closed, of these types, and at most so deep.
-record ClosedRow (types : Types) (d : ℕ) (us : List ℕ) (j : Parts) : Type 0 where
-  closed : Closed j
-  typed : Typed types us j
-  shallow : depth j ≤ d
-
--- a closed input within the depth is such a row
-within-row : (p : Program) (j : Parts) → WithinDepth p j ↔ ClosedRow (p .types) (p .depth) (sourceTypes p) j
-unfolding sourceSlots
-within-row p j = (
-  λ w. record { closed = w .0 .0; typed = w .0 .1; shallow = (fits (w .0 .1)) .0 (w .1) },
-  λ row. ((row .closed, row .typed), (fits (row .typed)) .1 (row .shallow)),
-)
+-- a closed row keeps its slots' depths exactly if it fits them
+keeps-fits : (types : Types) (ss : List Slot) (j : Parts) → Closed j → Keeps types ss j ↔ Fits ss j
+unfolding deepest depth
+keeps-fits types [] j h = (λ k. tt, λ k. tt)
+keeps-fits types (s ∷ ss) end h = (λ k. tt, λ k. tt)
+keeps-fits types (s ∷ ss) (opened r) h = absurd h
+keeps-fits types (s ∷ ss) (bound c fs r) h =
+    let rest = keeps-fits types ss r (h .1) in
+    let deep = closed-deepest types (s .type ∷ []) (bound c fs end) (h .0, tt) in (
+      λ k. (omega (arith, k .0, deep, depth-one c fs), rest .0 (k .1)),
+      λ k. (omega (arith, k .0, deep, depth-one c fs), rest .1 (k .1)),
+    )
   where
-    fits : Typed (p .types) (sourceTypes p) j → Fits (sourceSlots p) j ↔ (depth j ≤ p .depth)
-    fits t = fits-depth (p .types) (sourceTypes p) (p .depth) j t
+    depth-one : (c : ℕ) (fs : Parts) → depth (bound c fs end) ≡ suc (depth fs)
+    depth-one c fs = omega arith
 
--- From the reader to the bytes: what it finds is such a row, and the bytes begin with the row's prefix form.
+-- what allows at most so much allows at most more
+rooms-below : (ss : List Slot) {most levels : ℕ} → AllBelow most ss → most ≤ levels → AllBelow levels ss
+rooms-below [] below enough = tt
+rooms-below (s ∷ ss) below enough = (omega (arith, below .0, enough), rooms-below ss (below .1) enough)
 
--- what is found for these types stands in the bytes
-abbrev FindsRows : Types → ℕ → (List ℕ → Reader Parts) → List ℕ → Type 0
-FindsRows types d m s = (us : List ℕ) (i : ℕ) → IfFound (λ j next. ClosedRow types d us j × (drop i s ≡ prefix j ++ drop next s)) (m us s i)
+-- Of an accepted file.
+module _ (file : List ℕ) (p : Program) (h : check file ≡ accepted p) where
+  -- a closed value that stands there is read with its depth, up to the place behind it
+  pub value-depth : (s : List ℕ) (i t c : ℕ) (fs : Parts) (rest : List ℕ) → ValueOf (p .types) t (bound c fs end) → depth (bound c fs end) ≤ depthLimit
+      → drop i s ≡ prefix (bound c fs end) ++ rest
+      → value (p .types) inInputs depthLimit t s i ≡ got (built c fs (depth (bound c fs end))) (i + length (prefix (bound c fs end)))
+  unfolding prefix depth
+  value-depth s i t c fs rest (closed, (us, has, inner, none-behind)) shallow there =
+      let stands : drop i s ≡ c ∷ (prefix fs ++ rest) = there ∙ ap (λ (x : List ℕ). c ∷ (x ++ rest)) (append-nil (prefix fs)) in
+      let read = value-read (p .types) inInputs Closed (inputs-lawful (p .types)) (open-apart file p h) depthLimit s t c us fs i rest has inner (closed .0) (omega arith) stands in
+      let deep : suc (deepest (p .types) us fs) ≡ max (suc (depth fs)) 0 = omega (arith, closed-deepest (p .types) us fs (closed .0)) in
+      let place : i + 1 + length (prefix fs) ≡ i + suc (length (prefix fs ++ [])) = omega (arith, ap length (append-nil (prefix fs))) in
+      read ∙ ap (λ (d : ℕ). got (built c fs d) (i + 1 + length (prefix fs))) deep ∙ ap (got (built c fs (max (suc (depth fs)) 0))) place
 
-no-row : (types : Types) (d : ℕ) → ClosedRow types d [] end
-unfolding depth
-no-row types d = record { closed = tt; typed = tt; shallow = zero-le }
+  end-finds : (s : List ℕ) (i : ℕ) → IfFound (λ u next. drop i s ≡ []) (atEnd BadInput s i)
+  unfolding atEnd
+  end-finds s i =
+      picked (IfFound (λ u next. drop i s ≡ [])) (ltb i (length s)) (λ more. tt) (λ over. drop-of-length-le s (ltb-false i (length s) over))
 
-rowBy-finds :
-    (types : Types) (d : ℕ) (m : List ℕ → Reader Parts) (s : List ℕ) → FindsRows types d m s → FindsRows types (suc d) (rowBy types m) s
-unfolding rowBy prefix depth
-rowBy-finds types d m s below [] i = (no-row types (suc d), refl)
-rowBy-finds types d m s below (t ∷ ts) i =
-    if-found-then _ _ _ (byte s i) (byte-finds s i)
-    (λ c k first. if-found-then _ _ _ (orRefuse BadInput (fieldTypes types t c) s k) (looked-finds BadInput (fieldTypes types t c) s k)
-    (λ us l has. if-found-then _ _ _ (m us s l) (below us l)
-    (λ fs h inner. if-found-then _ _ _ (rowBy types m ts s h) (rowBy-finds types d m s below ts h)
-    (λ r n outer. (
-      record { closed = (inner .0 .closed, outer .0 .closed); typed = (us, has .0, inner .0 .typed, outer .0 .typed); shallow = omega arith },
-      cc (first .stand, append-assoc (prefix fs) (prefix r) (drop n s)),
-    )))))
+  -- what is found is a closed input within the depth, all of the bytes, and its depth
+  abbrev IsRead : List ℕ → Parts × ℕ → Type 0
+  IsRead s row = WithinDepth p (row .0) × (prefix (row .0) ≡ s) × (row .1 ≡ depth (row .0))
 
-row-finds : (types : Types) (d : ℕ) (s : List ℕ) → FindsRows types d (row types d) s
-unfolding row prefix
-row-finds types zero s [] i = (no-row types 0, refl)
-row-finds types zero s (t ∷ ts) i = tt
-row-finds types (suc d) s us i = rowBy-finds types d (row types d) s (row-finds types d s) us i
+  -- The whole input: a row, and nothing behind it; read below as many constructors as the largest D, or more.
+  module _ (levels : ℕ) (enough : depthLimit ≤ levels) where
+    abbrev whole : Reader (Parts × ℕ)
+    whole = slotted (p .types) inInputs levels (sourceSlots p) >>= λ row. atEnd BadInput >> give row
 
--- From the bytes to the reader: where they begin with the prefix form of such a row, it finds that row.
+    whole-finds : (s : List ℕ) → IfFound (λ row next. IsRead s row) (whole s 0)
+    whole-finds s =
+        if-found-then _ _ _ (slotted (p .types) inInputs levels (sourceSlots p) s 0)
+        (slotted-finds (p .types) inInputs Closed (inputs-lawful (p .types)) levels s (sourceSlots p) 0)
+        (λ row n found. if-found-then _ _ _ (atEnd BadInput s n) (end-finds s n)
+        (λ u k over.
+        let is = found .0 .0 in (
+          ((is .allowed, rw (source-types p) at (is .typed)), (keeps-fits (p .types) (sourceSlots p) (row .0) (is .allowed)) .0 (found .0 .1)),
+          sym (found .1 .stand ∙ rw over (append-nil (prefix (row .0)))),
+          is .deep ∙ closed-deepest (p .types) (slotTypes (sourceSlots p)) (row .0) (is .allowed),
+        )))
 
--- what stands in the bytes for these types is found
-abbrev MeetsRows : Types → ℕ → (List ℕ → Reader Parts) → List ℕ → Type 0
-MeetsRows types d m s =
-    (us : List ℕ) (i : ℕ) (j : Parts) (rest : List ℕ) → ClosedRow types d us j → drop i s ≡ prefix j ++ rest → Found (m us) s i j rest
+    whole-there : (s : List ℕ) (j : Parts) → WithinDepth p j → prefix j ≡ s → (next : ℕ) × (whole s 0 ≡ got (j, depth j) next)
+    unfolding atEnd
+    whole-there s j within e =
+        let rooms = rooms-below (sourceSlots p) (accepted-rooms file p h) enough in
+        let keeps = (keeps-fits (p .types) (sourceSlots p) j (within .0 .0)) .1 (within .1) in
+        let typed : Typed (p .types) (slotTypes (sourceSlots p)) j = rw (source-types p) (within .0 .1) in
+        let there =
+        slotted-meets (p .types) inInputs Closed (inputs-lawful (p .types)) (open-apart file p h) levels s (sourceSlots p) rooms 0 j [] (typed, keeps) (within .0 .0)
+        (sym e ∙ sym (append-nil (prefix j))) in
+        let over : length s ≤ there .0 = omega (arith, ap length (there .2), length-drop (there .0) s) in
+        let deep = closed-deepest (p .types) (slotTypes (sourceSlots p)) j (within .0 .0) in
+        (there .0, rw (there .1, le-ltb (there .0) (length s) over, deep) refl)
 
-end-there :
-    (types : Types) (d : ℕ) (s : List ℕ) (i : ℕ) (j : Parts) (rest : List ℕ) → ClosedRow types d [] j → drop i s ≡ prefix j ++ rest
-    → Found (give end) s i j rest
-unfolding prefix
-end-there types d s i end rest row e = (i, refl, e)
-end-there types d s i (opened r) rest row e = absurd (row .typed)
-end-there types d s i (bound c fs r) rest row e = absurd (row .typed)
+    below-exactly : (bytes : List ℕ) (row : Parts × ℕ) → (inputBy levels (p .types) (sourceSlots p) bytes ≡ some row) ↔ IsRead bytes row
+    unfolding inputBy
+    below-exactly bytes row = (forth (whole bytes 0) (whole-finds bytes), back)
+      where
+        forth : (g : Got (Parts × ℕ)) → IfFound (λ row next. IsRead bytes row) g → onGot (λ row next. some row) (λ why. none) g ≡ some row → IsRead bytes row
+        forth (got found next) is e = subst (IsRead bytes) (Option·some-injective found row e) is
+        forth (refused why) is e = absurd (Option·none-ne-some row e)
 
--- the four readings of a part, one after another
-part-there :
-    (types : Types) (m : List ℕ → Reader Parts) (t : ℕ) (ts us s : List ℕ) (c i k h n : ℕ) (fs r : Parts)
-    → byte s i ≡ got c k → fieldTypes types t c ≡ some us → m us s k ≡ got fs h → rowBy types m ts s h ≡ got r n
-    → rowBy types m (t ∷ ts) s i ≡ got (bound c fs r) n
-unfolding rowBy
-part-there types m t ts us s c i k h n fs r first has inner outer = rw (first, has, inner, outer)
+        back : IsRead bytes row → onGot (λ row next. some row) (λ why. none) (whole bytes 0) ≡ some row
+        back (within, same, deep) = rw ((whole-there bytes (row .0) within same) .1, ← deep) refl
 
-rowBy-there :
-    (types : Types) (d : ℕ) (m : List ℕ → Reader Parts) (s : List ℕ) → MeetsRows types d m s → MeetsRows types (suc d) (rowBy types m) s
-unfolding rowBy prefix depth
-rowBy-there types d m s below [] i j rest row e = end-there types (suc d) s i j rest row e
-rowBy-there types d m s below (t ∷ ts) i end rest row e = absurd (row .typed)
-rowBy-there types d m s below (t ∷ ts) i (opened r) rest row e = absurd (row .closed)
-rowBy-there types d m s below (t ∷ ts) i (bound c fs r) rest row e =
-    let (us, has, of-fields, of-rest) = row .typed in
-    let fields-row : ClosedRow types d us fs = record { closed = row .closed .0; typed = of-fields; shallow = omega arith } in
-    let rest-row : ClosedRow types (suc d) ts r = record { closed = row .closed .1; typed = of-rest; shallow = omega arith } in
-    let first = byte-there s i c (prefix fs ++ (prefix r ++ rest)) (cc (append-assoc (prefix fs) (prefix r) rest)) in
-    let inner = below us (suc i) fs (prefix r ++ rest) fields-row (first .1) in
-    let outer = rowBy-there types d m s below ts (inner .0) r rest rest-row (inner .2) in
-    (outer .0, part-there types m t ts us s c i (suc i) (inner .0) (outer .0) fs r (first .0) has (inner .1) (outer .1), outer .2)
+  -- bytes are read as this input, this deep, exactly if they are its prefix form, it is within the depth, and that is its depth
+  pub read-exactly : (bytes : List ℕ) (row : Parts × ℕ) → (readInput p bytes ≡ some row) ↔ IsRead bytes row
+  unfolding readInput
+  read-exactly bytes row = below-exactly depthLimit (omega arith) bytes row
 
-too-deep : (types : Types) (t : ℕ) (ts : List ℕ) (j : Parts) → ClosedRow types 0 (t ∷ ts) j → ⊥
-unfolding depth
-too-deep types t ts end row = row .typed
-too-deep types t ts (opened r) row = row .closed
-too-deep types t ts (bound c fs r) row = omega arith
+  -- bytes of closed values of the right types are not read as an input exactly if the deepest of them is deeper than D
+  pub too-deep-exactly : (bytes : List ℕ) (j : Parts) → ClosedInput p j → prefix j ≡ bytes → (readInput p bytes ≡ none) ↔ (p .depth < depth j)
+  too-deep-exactly bytes j values same = (λ unread. by-depth (leb (depth j) (p .depth)) refl unread, λ deep. by-read (readInput p bytes) refl deep)
+    where
+      by-depth : (b : Bool) → leb (depth j) (p .depth) ≡ b → readInput p bytes ≡ none → p .depth < depth j
+      by-depth true shallow unread =
+          let fits = within-depth p j values .1 (leb-true (depth j) (p .depth) shallow) in
+          absurd (Option·none-ne-some (j, depth j) (sym unread ∙ (read-exactly bytes (j, depth j)) .1 ((values, fits), same, refl)))
+      by-depth false deep unread = leb-false (depth j) (p .depth) deep
 
-row-there : (types : Types) (d : ℕ) (s : List ℕ) → MeetsRows types d (row types d) s
-unfolding row
-row-there types zero s [] i j rest fits e = end-there types 0 s i j rest fits e
-row-there types zero s (t ∷ ts) i j rest fits e = absurd (too-deep types t ts j fits)
-row-there types (suc d) s us i j rest fits e = rowBy-there types d (row types d) s (row-there types d s) us i j rest fits e
+      by-read : (o : Option (Parts × ℕ)) → readInput p bytes ≡ o → p .depth < depth j → o ≡ none
+      by-read none e deep = refl
+      by-read (some row) e deep =
+          let (within, bytes-are, d) = (read-exactly bytes row) .0 e in
+          let one = row-one (p .types) inInputs Closed (inputs-lawful (p .types)) (open-apart file p h) (sourceTypes p) (row .0) j (within .0 .1) (values .1) (within .0 .0) (values .0) (bytes-are ∙ sym same) in
+          absurd (omega (arith, deep, ap depth one, within-depth p (row .0) (within .0) .0 (within .1)))
 
--- The whole input: a row, and nothing behind it.
+  -- to read below more constructors than the largest D changes nothing
+  pub bound-changes-nothing : (levels : ℕ) → depthLimit ≤ levels → (bytes : List ℕ) → inputBy levels (p .types) (sourceSlots p) bytes ≡ readInput p bytes
+  bound-changes-nothing levels enough bytes = by-more (inputBy levels (p .types) (sourceSlots p) bytes) refl (readInput p bytes) refl
+    where
+      by-more : (a : Option (Parts × ℕ)) → inputBy levels (p .types) (sourceSlots p) bytes ≡ a → (b : Option (Parts × ℕ)) → readInput p bytes ≡ b → a ≡ b
+      by-more (some row) e b f = sym ((read-exactly bytes row) .1 ((below-exactly levels enough bytes row) .0 e)) ∙ f
+      by-more none e none f = refl
+      by-more none e (some row) f = sym e ∙ (below-exactly levels enough bytes row) .1 ((read-exactly bytes row) .0 f)
 
-abbrev whole : Types → ℕ → List ℕ → Reader Parts
-whole types d us = row types d us >>= λ j. atEnd BadInput >> give j
-
-end-finds : (s : List ℕ) (i : ℕ) → IfFound (λ u next. drop i s ≡ []) (atEnd BadInput s i)
-unfolding atEnd
-end-finds s i =
-    picked (IfFound (λ u next. drop i s ≡ [])) (ltb i (length s)) (λ more. tt) (λ over. drop-of-length-le s (ltb-false i (length s) over))
-
-whole-finds : (types : Types) (d : ℕ) (us s : List ℕ) → IfFound (λ j next. ClosedRow types d us j × (prefix j ≡ s)) (whole types d us s 0)
-whole-finds types d us s =
-    if-found-then _ _ _ (row types d us s 0) (row-finds types d s us 0)
-    (λ j n found. if-found-then _ _ _ (atEnd BadInput s n) (end-finds s n)
-    (λ u k over. (found .0, cc (append-nil (prefix j)))))
-
-whole-there :
-    (types : Types) (d : ℕ) (us s : List ℕ) (j : Parts) → ClosedRow types d us j → prefix j ≡ s → (next : ℕ) × (whole types d us s 0 ≡ got j next)
-unfolding atEnd
-whole-there types d us s j fits e =
-    let there = row-there types d s us 0 j [] fits (cc (append-nil (prefix j))) in
-    let over : length s ≤ there .0 = omega (arith, ap length (there .2), length-drop (there .0) s) in
-    (there .0, rw (there .1, le-ltb (there .0) (length s) over))
-
-of-found : (P : Parts → Type 0) (g : Got Parts) (j : Parts) → IfFound (λ i next. P i) g → onGot (λ i next. some i) (λ why. none) g ≡ some j → P j
-of-found P (got i next) j h e = let z : i ≡ j = cc in subst P z h
-of-found P (refused why) j h e = absurd (clash (cc))
-
--- bytes are read as a closed input exactly if they are its prefix form and it is within the depth
-pub input-exactly : (p : Program) (bytes : List ℕ) (j : Parts) → (inputOf p bytes ≡ some j) ↔ (WithinDepth p j × (prefix j ≡ bytes))
-unfolding inputOf
-input-exactly p bytes j = (
-  λ e. let found = of-found (λ i. ClosedRow types d us i × (prefix i ≡ bytes)) (whole types d us bytes 0) j (whole-finds types d us bytes) e in
-      ((within-row p j) .1 (found .0), found .1),
-  λ h. rw ((whole-there types d us bytes j ((within-row p j) .0 (h .0)) (h .1)) .1),
-)
-  where
-    types : Types
-    types = p .types
-
-    d : ℕ
-    d = p .depth
-
-    us : List ℕ
-    us = sourceTypes p
+  pub input-exactly : (bytes : List ℕ) (j : Parts) → (inputOf p bytes ≡ some j) ↔ (WithinDepth p j × (prefix j ≡ bytes))
+  unfolding inputOf
+  input-exactly bytes j = (
+    forth (readInput p bytes) refl,
+    λ is. ap (Option·map (λ row. row .0)) ((read-exactly bytes (j, depth j)) .1 (is .0, is .1, refl)),
+  )
+    where
+      forth : (o : Option (Parts × ℕ)) → readInput p bytes ≡ o → Option·map (λ row. row .0) o ≡ some j → WithinDepth p j × (prefix j ≡ bytes)
+      forth none e is = absurd (Option·none-ne-some j is)
+      forth (some row) e is =
+          let read = (read-exactly bytes row) .0 e in
+          subst (λ (x : Parts). WithinDepth p x × (prefix x ≡ bytes)) (Option·some-injective (row .0) j is) (read .0, read .1)

@@ -3,25 +3,27 @@
 -- `check file ≡ accepted p` says that the file is accepted and p is its program; `searchAnswer file work list` is the search's answer,
 -- with a work slice and a list slice of those lengths.
 -- Rests on the other files of this folder.
-use Prim.Native.Nat.{ℕ, suc, _≤_, _<_}
+use Prim.Native.Nat.{ℕ, suc, _+_, _≤_, _<_}
 use mathlib.Core.Path.{_≡_, refl, subst}
 use mathlib.Core.Logic.{_↔_, _≢_}
 use mathlib.Core.List.{List, _∷_, [], _++_}
 use mathlib.Core.Option.{none, some}
-use lib.ListN.{length, getD, getElem?}
+use lib.ListN.{length, getD, getElem?, drop}
 use Rattle.reach.specs.declared.Refusal.{Refusal}
 use Rattle.reach.specs.declared.Refusal.the-variants.{WorkTooShort}
 use Rattle.reach.specs.declared.Verdict.the-variants.{None}
 use Rattle.reach.specs.Base.{_∈_}
-use Rattle.reach.specs.Limits.{typeLimit, workWords}
+use Rattle.reach.specs.Limits.{typeLimit, depthLimit, workWords}
 use Rattle.reach.specs.Syntax.{Types, Program}
-use Rattle.reach.specs.Parts.{Parts, Place, openAt, BoundPart, Completes, prefix}
-use Rattle.reach.specs.Types.{ClosedInput, WithinDepth, ValueOf, LeastDepth, rounds, leastDepths}
+use Rattle.reach.specs.Parts.{Parts, end, bound, Place, openAt, BoundPart, Completes, depth, prefix}
+use Rattle.reach.specs.Types.{sourceSlots, ClosedInput, WithinDepth, ValueOf, LeastDepth, rounds, leastDepths}
 use Rattle.reach.specs.Eval.{missing, halted, run, Spent, NotHalted}
 use Rattle.reach.specs.Search.{Entry, says, Shown, StopsInside, entries}
 use Rattle.reach.specs.States.{MissingAfter}
 use Rattle.reach.specs.Moves.{Walk, move, owedMoves, finished}
-use Rattle.reach.specs.Input.{inputOf}
+use Rattle.reach.specs.Reader.{got}
+use Rattle.reach.specs.Partial.{built, inInputs, value}
+use Rattle.reach.specs.Input.{inputBy, readInput, inputOf}
 use Rattle.reach.specs.Lists.{listBytes, roomOf}
 use Rattle.reach.specs.Answers.{accepted, check, SearchAnswer, noSearch, complete, cutShort, searchAnswer, listed, refusalOf, verdictOf}
 use Rattle.reach.specs.Text.{text}
@@ -120,8 +122,34 @@ least-depth-values types t = (
 
 -- 01, "Turned back", refusal 10: "the bytes are not one closed, fitting value per parameter". Bytes are read as an input exactly where they
 -- are the prefix form of a closed input within the depth, and then as that input.
-pub input-exactly : (p : Program) (bytes : List ℕ) (j : Parts) → (inputOf p bytes ≡ some j) ↔ (WithinDepth p j × (prefix j ≡ bytes))
-input-exactly p bytes j = ClosedInputs.input-exactly p bytes j
+pub input-exactly : (file : List ℕ) (p : Program) → check file ≡ accepted p
+    → (bytes : List ℕ) (j : Parts) → (inputOf p bytes ≡ some j) ↔ (WithinDepth p j × (prefix j ≡ bytes))
+input-exactly file p h bytes j = ClosedInputs.input-exactly file p h bytes j
+
+-- 02, Slip 3: "Reading one parameter's value now also yields its depth". Where a closed value of type t stands in the bytes, no deeper than 64, it is read,
+-- with its depth and the place behind it.
+pub value-depth : (file : List ℕ) (p : Program) → check file ≡ accepted p
+    → (bytes : List ℕ) (i t c : ℕ) (fields : Parts) (rest : List ℕ) → ValueOf (p .types) t (bound c fields end) → depth (bound c fields end) ≤ depthLimit
+    → drop i bytes ≡ prefix (bound c fields end) ++ rest
+    → value (p .types) inInputs depthLimit t bytes i ≡ got (built c fields (depth (bound c fields end))) (i + length (prefix (bound c fields end)))
+value-depth file p h bytes i t c fields rest is shallow there = ClosedInputs.value-depth file p h bytes i t c fields rest is shallow there
+
+-- The same: "and the closed run returns the largest of them, 0 without parameters." Bytes are read as an input, and this deep, exactly if they are the
+-- prefix form of a closed input within the depth and that is its depth.
+pub depth-exactly : (file : List ℕ) (p : Program) → check file ≡ accepted p
+    → (bytes : List ℕ) (j : Parts) (d : ℕ) → (readInput p bytes ≡ some (j, d)) ↔ (WithinDepth p j × (prefix j ≡ bytes) × (d ≡ depth j))
+depth-exactly file p h bytes j d = ClosedInputs.read-exactly file p h bytes (j, d)
+
+-- The same: "the closed run and the check for refusal 10 rely on the new figure". Bytes of closed values of the parameters' types are an input exactly if
+-- the depth of the deepest is at most D.
+pub too-deep-exactly : (file : List ℕ) (p : Program) → check file ≡ accepted p
+    → (bytes : List ℕ) (j : Parts) → ClosedInput p j → prefix j ≡ bytes → (readInput p bytes ≡ none) ↔ (p .depth < depth j)
+too-deep-exactly file p h bytes j values same = ClosedInputs.too-deep-exactly file p h bytes j values same
+
+-- That values are read below 64 constructors only, the largest D, changes no answer.
+pub bound-changes-nothing : (file : List ℕ) (p : Program) → check file ≡ accepted p
+    → (levels : ℕ) → depthLimit ≤ levels → (bytes : List ℕ) → inputBy levels (p .types) (sourceSlots p) bytes ≡ readInput p bytes
+bound-changes-nothing file p h levels enough bytes = ClosedInputs.bound-changes-nothing file p h levels enough bytes
 
 -- 01, "Turned back", refusal 11: "the work slice of 32-bit words is shorter than 64 × S + 1,024".
 pub work-exactly : (file : List ℕ) (work list : ℕ) (p : Program) → check file ≡ accepted p

@@ -10,10 +10,10 @@ use mathlib.Core.Logic.{_↔_, ⊎-elim}
 use lib.ListN.{length, getD, getElem?}
 use native.Mathlib.Omega.{arith}
 use Rattle.reach.specs.Base.{_∈_, Each}
-use Rattle.reach.specs.Syntax.{Types, fieldTypes}
+use Rattle.reach.specs.Syntax.{Types, Program, fieldTypes, sourceTypes}
 use Rattle.reach.specs.Parts.{Parts, end, opened, bound, width, allOpen, Place, here, after, inside, There}
 use Rattle.reach.specs.Parts.{free, has, at, bindAt, Closed, depth, _⊑_, ⊑-end, ⊑-open, ⊑-bind, ⊑-same}
-use Rattle.reach.specs.Types.{Typed, Slot, slots, slotTypes, slotAt, Fits, leastDepths, shallow, Fork, forksFrom, forks, forksAt}
+use Rattle.reach.specs.Types.{Typed, Slot, slots, slotTypes, slotAt, sourceSlots, ClosedInput, Fits, leastDepths, shallow, Fork, forksFrom, forks, forksAt}
 use Rattle.reach.proofs.Base.{picked}
 use Rattle.reach.proofs.Order.{free-unbound}
 use Rattle.reach.proofs.LeastDepths.{shallow-head, shallow-cons, shallow-covers, shallow-filled}
@@ -228,3 +228,8 @@ module _ (types : Types) where
       let inner = completion (slots (h .1) (h .0)) fs (h .4) in
       let rest = completion ss r (h .5) in
       (bound c (inner .0) (rest .0), ⊑-same (inner .1) (rest .1), (inner .2, rest .2), (h .0, h .1, h .2, h .3, inner .3, rest .3))
+
+-- a closed input is within the depth exactly if its deepest parameter is
+pub within-depth : (p : Program) (j : Parts) → ClosedInput p j → Fits (sourceSlots p) j ↔ (depth j ≤ p .depth)
+unfolding sourceSlots
+within-depth p j h = fits-depth (p .types) (sourceTypes p) (p .depth) j (h .1)

@@ -16,7 +16,7 @@ use Rattle.reach.specs.declared.Kind.{Kind}
 use Rattle.reach.specs.declared.Kind.the-variants.{RE, UN, MI}
 use Rattle.reach.specs.Base.{pick, _∈_, Each}
 use Rattle.reach.specs.Limits.{listLimit, depthLimit}
-use Rattle.reach.specs.Syntax.{Types, Program, fieldTypes}
+use Rattle.reach.specs.Syntax.{Types, Program}
 use Rattle.reach.specs.Parts.{Parts, end, opened, bound, prefix}
 use Rattle.reach.specs.Types.{Typed, Slot, slots, sourceSlots, slotTypes, leastDepths}
 use Rattle.reach.specs.Search.{Entry, entries}
@@ -24,21 +24,21 @@ use Rattle.reach.specs.Lists.{wordBytes, kindBytes, entryBytes, listByte
 use Rattle.reach.specs.Answers.{accepted, check, searchAnswer, listed}
 use Rattle.reach.specs.Text.{textOf, listText}
 use Rattle.reach.specs.Reader.{Got, got, refused, onGot, Reader, orRefuse, demand, byte, word}
-use Rattle.reach.specs.Partial.{deepest, Keeps, partial, slotted}
+use Rattle.reach.specs.Partial.{deepest, Keeps, inEntries, slotted, OpenApart}
 use Rattle.reach.specs.Handed.{Fitting, IsList, kindMark, spanning, entryBy, entry, entriesBy, handed}
 use Rattle.reach.proofs.Base.{clash, picked, each-member, member-each}
 use Rattle.reach.proofs.Limits.{IfFound, if-found-then, accepted-keeps, accepted-rooms}
 use Rattle.reach.proofs.Slots.{source-types}
 use Rattle.reach.proofs.LeastDepths.{shallow-head}
 use Rattle.reach.proofs.Depths.{Fit}
-use Rattle.reach.proofs.WellTyped.{at-getD}
 use Rattle.reach.proofs.EntryLength.{entry-within}
 use Rattle.reach.proofs.Answers.{listed-in}
 use Rattle.reach.proofs.Accepted.{entry-typed, entry-fit}
 use Rattle.reach.proofs.ReadBack.{two-bytes, listed-fits}
 use Rattle.reach.proofs.Text.{entry-some, list-some, list-text}
-use Rattle.reach.proofs.Reading.{Reads, reads-none, reads-then, byte-finds, looked-finds, demand-finds, Found, byte-there}
-use Rattle.reach.proofs.Partial.{AllBelow, slotted-finds, slotted-meets}
+use Rattle.reach.proofs.Reading.{found-at, found-as, Reads, reads-none, reads-then, byte-finds, looked-finds, demand-finds, Found, byte-there}
+use Rattle.reach.proofs.WellTyped.{open-apart}
+use Rattle.reach.proofs.Partial.{AllBelow, entries-lawful, slotted-finds, slotted-meets}
 
 -- two bytes that are the mark of a kind are that mark
 mark-is : (k : Kind) (a b : ℕ) → isMark k a b ≡ true → kindBytes k ≡ a ∷ b ∷ []
@@ -78,17 +78,8 @@ word-is low high l h =
     let b : high % 256 ≡ high = omega arith in
     rw (a, q, b) refl
 
--- the same in other words
-found-as : {A : Type 0} (P Q : A → ℕ → Type 0) (g : Got A) → IfFound P g → ((a : A) (next : ℕ) → P a next → Q a next) → IfFound Q g
-found-as P Q (got a next) h so = so a next h
-found-as P Q (refused why) h so = tt
-
--- what holds of whatever is found holds of this
-of-found : {A : Type 0} (P : A → ℕ → Type 0) (g : Got A) (a : A) (next : ℕ) → IfFound P g → g ≡ got a next → P a next
-of-found P g a next h e = subst (IfFound P) e h
-
 -- From the reader to the bytes.
-module _ (p : Program) (few : (t c : ℕ) (us : List ℕ) → fieldTypes (p .types) t c ≡ some us → c < 255) (s : List ℕ) (bytes : (i : ℕ) → getD s i 0 < 256) where
+module _ (p : Program) (s : List ℕ) (bytes : (i : ℕ) → getD s i 0 < 256) where
   byte-small : (i : ℕ) → IfFound (λ c next. Reads s i (c ∷ []) next × (c < 256)) (byte s i)
   unfolding byte
   byte-small i = both (byte s i) (byte-finds s i) (picked (IfFound (λ c next. c < 256)) (ltb i (length s)) (λ more. bytes i) (λ over. tt))
@@ -131,18 +122,18 @@ module _ (p : Program) (few : (t c : ℕ) (us : List ℕ) → fieldTypes (p .typ
       (λ kind a first. if-found-then _ _ _ (word s a) (word-finds a)
       (λ steps b second. if-found-then _ _ _ (demand (leb steps (p .steps)) BadList s b) (demand-finds (leb steps (p .steps)) BadList s b)
       (λ u c passed. if-found-then _ _ _ (word s c) (word-finds c)
-      (λ n d third. if-found-then _ _ _ (spanning n (slotted (partial (p .types) (leastDepths (p .types)) depthLimit) (sourceSlots p)) s d) (spanning-finds _ n d _ (slotted-finds (p .types) few depthLimit s (sourceSlots p) d))
-      (λ input l last.
-      let counts : n ≡ length (prefix input) = omega (arith, last .1, last .0 .1 .behind) in (
+      (λ n d third. if-found-then _ _ _ (spanning n (slotted (p .types) (inEntries (leastDepths (p .types))) depthLimit (sourceSlots p)) s d) (spanning-finds _ n d _ (slotted-finds (p .types) (inEntries (leastDepths (p .types))) (λ e. Unit {0}) (entries-lawful (p .types)) depthLimit s (sourceSlots p) d))
+      (λ row l last.
+      let counts : n ≡ length (prefix (row .0)) = omega (arith, last .1, last .0 .1 .behind) in (
         record {
-          typed = rw (source-types p) at (last .0 .0 .0);
+          typed = rw (source-types p) at (last .0 .0 .0 .typed);
           deep = last .0 .0 .1;
           in-time = leb-true steps (p .steps) (passed .0);
           counted = omega (arith, counts, third .1);
         },
         reads-then (kindBytes kind) _ first
             (reads-then (wordBytes steps) _ (subst (Reads s a (wordBytes steps)) (passed .1) (second .0))
-            (reads-then (wordBytes (length (prefix input))) (prefix input) (subst (λ (x : ℕ). Reads s c (wordBytes x) d) counts (third .0)) (last .0 .1))),
+            (reads-then (wordBytes (length (prefix (row .0)))) (prefix (row .0)) (subst (λ (x : ℕ). Reads s c (wordBytes x) d) counts (third .0)) (last .0 .1))),
       ))))))
 
   entries-find : (more i : ℕ) → IfFound (λ es next. Each (Fitting p) es × Reads s i (listBytes es) next × (length s ≤ next)) (entriesBy (entry p) more s i)
@@ -180,7 +171,7 @@ module _ (p : Program) (few : (t c : ℕ) (us : List ℕ) → fieldTypes (p .typ
       by-size false is e = absurd (Option·none-ne-some es e)
 
 -- From the bytes to the reader.
-module _ (p : Program) (few : (t c : ℕ) (us : List ℕ) → fieldTypes (p .types) t c ≡ some us → c < 255) (s : List ℕ)
+module _ (p : Program) (few : OpenApart (p .types)) (s : List ℕ)
     (below : AllBelow depthLimit (sourceSlots p)) (limit : p .steps < 65536) where
   mark-meets : (k : Kind) (i : ℕ) (rest : List ℕ) → drop i s ≡ kindBytes k ++ rest → Found kindMark s i k rest
   unfolding kindMark
@@ -198,12 +189,12 @@ module _ (p : Program) (few : (t c : ℕ) (us : List ℕ) → fieldTypes (p .typ
       (suc (suc i), rw (first .0, second .0, two-bytes n l) refl, second .1)
 
   slots-meet : (i : ℕ) (e : Entry) (rest : List ℕ) → Fitting p e → drop i s ≡ prefix (e .input) ++ rest
-      → Found (spanning (length (prefix (e .input))) (slotted (partial (p .types) (leastDepths (p .types)) depthLimit) (sourceSlots p))) s i (e .input) rest
+      → Found (spanning (length (prefix (e .input))) (slotted (p .types) (inEntries (leastDepths (p .types))) depthLimit (sourceSlots p))) s i (e .input, deepest (p .types) (slotTypes (sourceSlots p)) (e .input)) rest
   unfolding spanning
   slots-meet i e rest fits w =
       let typed : Typed (p .types) (slotTypes (sourceSlots p)) (e .input) = rw (source-types p) (fits .typed) in
-      let (next, there, behind) = slotted-meets (p .types) few depthLimit s (sourceSlots p) below i (e .input) rest (typed, fits .deep) w in
-      let ends = of-found _ _ _ _ (slotted-finds (p .types) few depthLimit s (sourceSlots p) i) there .1 .behind in
+      let (next, there, behind) = slotted-meets (p .types) (inEntries (leastDepths (p .types))) (λ e. Unit {0}) (entries-lawful (p .types)) few depthLimit s (sourceSlots p) below i (e .input) rest (typed, fits .deep) tt w in
+      let ends = found-at _ _ (slotted-finds (p .types) (inEntries (leastDepths (p .types))) (λ e. Unit {0}) (entries-lawful (p .types)) depthLimit s (sourceSlots p) i) there .1 .behind in
       (next, rw (there, eq-eqb next (i + length (prefix (e .input))) ends) refl, behind)
 
   entry-meets : (i : ℕ) (e : Entry) (rest : List ℕ) → Fitting p e → drop i s ≡ entryBytes e ++ rest → Found (entry p) s i e rest
@@ -264,17 +255,13 @@ module _ (types : Types) where
 
 -- Of an accepted file.
 module _ (file : List ℕ) (p : Program) (h : check file ≡ accepted p) where
-  pub few : (t c : ℕ) (us : List ℕ) → fieldTypes (p .types) t c ≡ some us → c < 255
-  unfolding fieldTypes
-  few t c us has = omega (arith, (at-getD (getD (p .types) t []) c [] us has) .0, (accepted-keeps file p h) .constructors-limit t)
-
   -- a list is read as its entries
   pub handed-reads : (list : List ℕ) (es : List Entry) → IsList p list es → handed p list ≡ some es
-  handed-reads list = is-read p few list (accepted-rooms file p h) (omega (arith, (accepted-keeps file p h) .steps-limit))
+  handed-reads list = is-read p (open-apart file p h) list (accepted-rooms file p h) (omega (arith, (accepted-keeps file p h) .steps-limit))
 
   -- 02, Slip 2, refusal 14: a list of bytes is read as these entries exactly if it is these entries
   pub handed-exactly : (list : List ℕ) → ((i : ℕ) → getD list i 0 < 256) → (es : List Entry) → (handed p list ≡ some es) ↔ IsList p list es
-  handed-exactly list bytes es = (read-is p few list bytes es, handed-reads list es)
+  handed-exactly list bytes es = (read-is p list bytes es, handed-reads list es)
 
   -- every list that a search wrote, complete or cut short, is one
   pub listed-handed : (work list : ℕ) → IsList p (listBytes (listed (searchAnswer file work list))) (listed (searchAnswer file work list))

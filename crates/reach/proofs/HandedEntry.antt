@@ -15,17 +15,17 @@ use Rattle.reach.specs.declared.Refusal.the-variants.{BadList}
 use Rattle.reach.specs.declared.Kind.{Kind}
 use Rattle.reach.specs.Base.{pick}
 use Rattle.reach.specs.Limits.{depthLimit}
-use Rattle.reach.specs.Syntax.{Types, Program, fieldTypes}
+use Rattle.reach.specs.Syntax.{Types, Program}
 use Rattle.reach.specs.Places.{wordAt}
 use Rattle.reach.specs.Types.{Slot}
 use Rattle.reach.specs.Search.{Entry}
 use Rattle.reach.specs.Lists.{entryBytes, kindOf, entrySize}
 use Rattle.reach.specs.Reader.{Got, got, refused, onGot, _>>=_, _>>_, give, demand, byte, word}
-use Rattle.reach.specs.Partial.{partial, slotted}
+use Rattle.reach.specs.Partial.{inEntries, slotted}
 use Rattle.reach.specs.Handed.{Fitting, kindMark, spanning, entryBy, entry}
 use Rattle.reach.proofs.Limits.{IfFound}
 use Rattle.reach.proofs.ReadBack.{size-of-entry}
-use Rattle.reach.proofs.Partial.{then-same, partial-same, slotted-same}
+use Rattle.reach.proofs.Partial.{then-same, slotted-same}
 use Rattle.reach.proofs.Reading.{Reads}
 use Rattle.reach.proofs.Handed.{entry-finds}
 
@@ -45,8 +45,8 @@ module _ (types : Types) (table : List ℕ) (ss : List Slot) (limit : ℕ) (s : 
   -- the parameters of the entry at i, which has this kind
   abbrev pub parametersFrom : ℕ → Kind → Got Entry
   parametersFrom i kind =
-      onGot {B = Got Entry} (λ input next. got (record { kind = kind; steps = wordAt s (i + 2); input = input }) next) (λ why. refused why)
-      (spanning (wordAt s (i + 4)) (slotted (partial types table depthLimit) ss) s (i + 6))
+      onGot {B = Got Entry} (λ row next. got (record { kind = kind; steps = wordAt s (i + 2); input = row .0 }) next) (λ why. refused why)
+      (spanning (wordAt s (i + 4)) (slotted types (inEntries table) depthLimit ss) s (i + 6))
 
   -- behind a whole header with a known mark: the steps, then the parameters
   pub headed : (i : ℕ) (kind : Kind) → i + 6 ≤ length s → kindOf (getD s i 0) (getD s (i + 1) 0) ≡ some kind
@@ -56,20 +56,20 @@ module _ (types : Types) (table : List ℕ) (ss : List Slot) (limit : ℕ) (s : 
       rw (mark-from i (i + 2) kind (omega arith) refl known, word-from (i + 2) (i + 4) (omega arith) (omega arith))
       (by-test (leb (wordAt s (i + 2)) limit))
     where
-      last : (onGot {B = Got Entry} (λ n d. (spanning n (slotted (partial types table depthLimit) ss) >>= λ input. give (record { kind = kind; steps = wordAt s (i + 2); input = input })) s d) (λ why. refused why) (word s (i + 4)))
+      last : (onGot {B = Got Entry} (λ n d. (spanning n (slotted types (inEntries table) depthLimit ss) >>= λ row. give (record { kind = kind; steps = wordAt s (i + 2); input = row .0 })) s d) (λ why. refused why) (word s (i + 4)))
           ≡ parametersFrom i kind
       last = rw (word-from (i + 4) (i + 6) (omega arith) (omega arith)) refl
 
       by-test : (b : Bool)
-          → onGot {B = Got Entry} (λ u c. (word >>= λ n. spanning n (slotted (partial types table depthLimit) ss) >>= λ input. give (record { kind = kind; steps = wordAt s (i + 2); input = input })) s c) (λ why. refused why) (demand b BadList s (i + 4))
+          → onGot {B = Got Entry} (λ u c. (word >>= λ n. spanning n (slotted types (inEntries table) depthLimit ss) >>= λ row. give (record { kind = kind; steps = wordAt s (i + 2); input = row .0 })) s c) (λ why. refused why) (demand b BadList s (i + 4))
           ≡ pick b (parametersFrom i kind) (refused BadList)
       by-test true = last
       by-test false = refl
 
 -- where no entry stands none is read
-module _ (p : Program) (few : (t c : ℕ) (us : List ℕ) → fieldTypes (p .types) t c ≡ some us → c < 255) (s : List ℕ) (bytes : (i : ℕ) → getD s i 0 < 256) where
+module _ (p : Program) (s : List ℕ) (bytes : (i : ℕ) → getD s i 0 < 256) where
   pub none-read : (i : ℕ) → i ≤ length s → entrySize s i ≡ none → (why : Refusal) × (entry p s i ≡ refused why)
-  none-read i l size = go (entry p s i) (entry-finds p few s bytes i) refl
+  none-read i l size = go (entry p s i) (entry-finds p s bytes i) refl
     where
       go : (g : Got Entry) → IfFound (λ e next. Fitting p e × Reads s i (entryBytes e) next) g → entry p s i ≡ g → (why : Refusal) × (g ≡ refused why)
       go (refused why) h is = (why, refl)
@@ -88,4 +88,4 @@ entry-same types table other same ss limit s i =
     (λ kind a. then-same (word s a) _ _
     (λ steps b. then-same (demand (leb steps limit) BadList s b) _ _
     (λ u c. then-same (word s c) _ _
-    (λ n d. rw (slotted-same (partial types table depthLimit) (partial types other depthLimit) s (λ t k. partial-same types table other same depthLimit s t k) ss d) refl))))
+    (λ n d. rw (slotted-same types table other same depthLimit s ss d) refl))))

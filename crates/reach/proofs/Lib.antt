@@ -17,12 +17,12 @@ pub mod Stages
 pub mod Refusals
 pub mod EntryLength
 pub mod Lists
-pub mod ClosedInputs
 pub mod Partial
 pub mod Answers
 pub mod Places
 pub mod Numbers
 pub mod WellTyped
+pub mod ClosedInputs
 pub mod NeverStuck
 pub mod Reached
 pub mod Encoding

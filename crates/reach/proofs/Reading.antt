@@ -1,7 +1,7 @@
 -- What a reader finds stands there, and what stands there a reader finds: bytes, what was looked up, tests.
 -- Rests on specs/Reader, and on Limits for what is found.
 use Prim.Native.Nat.{ℕ, suc, _+_, _<_}
-use mathlib.Core.Path.{_≡_, refl, ap}
+use mathlib.Core.Path.{_≡_, refl, ap, subst}
 use mathlib.Core.Bool.{Bool, true, false}
 use mathlib.Core.List.{List, [], _∷_, _++_, append-assoc}
 use mathlib.Core.Option.{Option, none, some}
@@ -11,9 +11,18 @@ use lib.Seq.{drop-cons}
 use lib.Dec.{ltb}
 use borrow.Author.Tests.{ltb-true, lt-ltb}
 use Rattle.reach.specs.declared.Refusal.{Refusal}
-use Rattle.reach.specs.Reader.{got, Reader, orRefuse, demand, byte}
+use Rattle.reach.specs.Reader.{Got, got, refused, Reader, orRefuse, demand, byte}
 use Rattle.reach.proofs.Base.{picked}
 use Rattle.reach.proofs.Limits.{IfFound}
+
+-- the same in other words
+pub found-as : {A : Type 0} (P Q : A → ℕ → Type 0) (g : Got A) → IfFound P g → ((a : A) (next : ℕ) → P a next → Q a next) → IfFound Q g
+found-as P Q (got a next) h so = so a next h
+found-as P Q (refused why) h so = tt
+
+-- what holds of anything found holds of this
+pub found-at : {A : Type 0} (P : A → ℕ → Type 0) (g : Got A) {a : A} {next : ℕ} → IfFound P g → g ≡ got a next → P a next
+found-at P g h e = subst (IfFound P) e h
 
 -- the bytes from i up to next are these
 pub record Reads (s : List ℕ) (i : ℕ) (bytes : List ℕ) (next : ℕ) : Type 0 where

@@ -1,6 +1,6 @@
 -- Accepted files are well typed: in an accepted program every number names something, and every function's body has the result type, with
 -- the parameters in view.
--- Rests on specs/Typing, on Reader, RuleFile and Answers, on IfFound of Limits, and on Numbers for the second pass.
+-- Rests on specs/Typing, on Reader, RuleFile and Answers, on Limits, and on Numbers for the second pass.
 use Prim.Native.Nat.{ℕ, zero, suc, _+_, _<_, suc-le-suc, zero-le}
 use mathlib.Core.Path.{_≡_, refl, sym, _∙_, ap, subst}
 use mathlib.Core.Bool.{Bool, true, false}
@@ -18,12 +18,13 @@ use Rattle.reach.specs.Base.{pick, Each}
 use Rattle.reach.specs.Limits.{nestingLimit}
 use Rattle.reach.specs.Syntax.{Expr, Types, Function, Program, fieldTypes, functionAt}
 use Rattle.reach.specs.Types.{leastDepths}
+use Rattle.reach.specs.Partial.{OpenApart}
 use Rattle.reach.specs.Reader.{Got, got, refused, onGot, Reader, demand, byte, atEnd}
 use Rattle.reach.specs.RuleFile.{Head, Declarations, Outline, outline, numbersExist, Below, operandsOf, alternatives, inLimits, variableExpr, callOf, callExpr, constructOf, constructExpr, caseOf, caseExpr, letExpr, targetExpr, expressionBy, expression, bodyOf, functionsOf, programOf, noEmptyType, deepEnough, sizeInLimit, ruleFile}
 use Rattle.reach.specs.Answers.{accepted, turnedBack, check}
 use Rattle.reach.specs.Conditions.{of-field, of-parameter, of-result}
 use Rattle.reach.proofs.Base.{clash, member-each}
-use Rattle.reach.proofs.Limits.{IfFound, if-found-then}
+use Rattle.reach.proofs.Limits.{IfFound, if-found-then, accepted-keeps}
 use Rattle.reach.proofs.Numbers.{numbers-exist-exactly}
 
 -- What stands at a number of a list.
@@ -37,6 +38,11 @@ pub at-getD : {A : Type 0} (xs : List A) (n : ℕ) (d x : A) → getElem? xs n �
 at-getD [] n d x h = absurd (clash (cc))
 at-getD (y ∷ xs) zero d x h = (suc-le-suc zero-le, cc)
 at-getD (y ∷ xs) (suc n) d x h = let k = at-getD xs n d x h in (suc-le-suc (k .0), k .1)
+
+-- no constructor of an accepted file has the number that stands for an open part
+pub open-apart : (file : List ℕ) (p : Program) → check file ≡ accepted p → OpenApart (p .types)
+unfolding fieldTypes
+open-apart file p h t c us has = omega (arith, (at-getD (getD (p .types) t []) c [] us has) .0, (accepted-keeps file p h) .constructors-limit t)
 
 at-map : {A B : Type 0} (f : A → B) (xs : List A) (n : ℕ) (x : A) → getElem? xs n ≡ some x → getElem? (map f xs) n ≡ some (f x)
 at-map f [] n x h = absurd (clash (cc))

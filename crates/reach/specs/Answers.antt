@@ -4,7 +4,6 @@ use Prim.Native.Nat.{ℕ}
 use mathlib.Core.Bool.{Bool, true, false}
 use mathlib.Core.List.{List, []}
 use mathlib.Core.Option.{Option, none, some}
-use lib.ListN.{length}
 use lib.Dec.{leb}
 use Rattle.reach.specs.declared.Refusal.{Refusal}
 use Rattle.reach.specs.declared.Refusal.the-variants.{BadInput, WorkTooShort, ListFull}
@@ -17,9 +16,9 @@ use Rattle.reach.specs.Syntax.{Program}
 use Rattle.reach.specs.Parts.{Parts}
 use Rattle.reach.specs.Eval.{Run, reached, ended, unfinished, missing, halted, run}
 use Rattle.reach.specs.Search.{Entry, entries, verdict}
-use Rattle.reach.specs.Reader.{refused, onGot}
+use Rattle.reach.specs.Reader.{onGot}
 use Rattle.reach.specs.RuleFile.{ruleFile}
-use Rattle.reach.specs.Input.{inputOf}
+use Rattle.reach.specs.Input.{readInput}
 use Rattle.reach.specs.Lists.{cut, roomOf}
 
 -- A file as the check leaves it: accepted, with its program, or refused by 1 to 9.
@@ -72,7 +71,7 @@ verdictOf (cutShort es) = none
 -- The answer of a closed run.
 pub data RunAnswer : Type 0 where
   noRun : Refusal → RunAnswer
-  ran : Outcome → RunAnswer
+  ran : Outcome → ℕ → RunAnswer
 
 -- the end of a closed run as it is answered. (A closed input never halts; a halt would be neither reached nor unfinished, so that it counts here as in
 -- `StopsInside`.)
@@ -83,13 +82,13 @@ outcomeOf (unfinished n) = Unfinished n
 outcomeOf (missing n) = Missing n
 outcomeOf (halted q n) = Ended n
 
-unfoldable pub runInput : Program → ℕ → Option Parts → RunAnswer
+unfoldable pub runInput : Program → ℕ → Option (Parts × ℕ) → RunAnswer
 runInput p work none = noRun BadInput
-runInput p work (some j) = pick (leb (workWords (p .steps)) work) (ran (outcomeOf (run p j))) (noRun WorkTooShort)
+runInput p work (some (j, deep)) = pick (leb (workWords (p .steps)) work) (ran (outcomeOf (run p j)) deep) (noRun WorkTooShort)
 
 unfoldable pub runChecked : List ℕ → ℕ → Checked → RunAnswer
 runChecked input work (turnedBack why) = noRun why
-runChecked input work (accepted p) = runInput p work (inputOf p input)
+runChecked input work (accepted p) = runInput p work (readInput p input)
 
 -- the closed run of a file on an input, with a work slice of this length
 unfoldable pub runAnswer : List ℕ → List ℕ → ℕ → RunAnswer

@@ -7,9 +7,9 @@ use Prim.Native.Nat.{ℕ, _+_, _*_}
 use mathlib.Core.Path.{_≡_, refl}
 use mathlib.Core.Bool.{Bool, true, false}
 use mathlib.Core.List
-use mathlib.Core.List.{List, [], _∷_, map}
+use mathlib.Core.List.{List, [], _∷_, _++_, map}
 use mathlib.Core.Option.{Option, none, some, Option·map}
-use Rattle.reach.specs.declared.Refusal.the-variants.{Truncated, WorkTooShort, TextTooShort, BadList}
+use Rattle.reach.specs.declared.Refusal.the-variants.{BadInput, Truncated, WorkTooShort, TextTooShort, BadList}
 use Rattle.reach.specs.declared.Kind.{Kind}
 use Rattle.reach.specs.declared.Kind.the-variants.{RE, UN, MI}
 use Rattle.reach.specs.declared.Verdict.{Verdict}
@@ -136,8 +136,8 @@ starred =
     ∷ search-of (p-with 7 4 0) ⇒ lists (unfinished 0 (○ ∷ []) ∷ []) Undecided
     ∷ search-of (p-with 8 4 6) ⇒ lists (unfinished 6 (1 ∷ 1 ∷ ○ ∷ []) ∷ []) Undecided
     ∷ search-of (p-with 8 4 7) ⇒ lists [] None
-    ∷ run-of (p-with 7 4 20) (0 ∷ []) ⇒ answers (ran (Ended 3))
-    ∷ run-of (p-with 7 4 20) (1 ∷ 1 ∷ 0 ∷ []) ⇒ answers (ran (Reached 6))
+    ∷ run-of (p-with 7 4 20) (0 ∷ []) ⇒ answers (ran (Ended 3) 1)
+    ∷ run-of (p-with 7 4 20) (1 ∷ 1 ∷ 0 ∷ []) ⇒ answers (ran (Reached 6) 3)
     ∷ bytes-of (p-with 7 4 20) ⇒ bytes (0x52 ∷ 0x45 ∷ 0x06 ∷ 0x00 ∷ 0x03 ∷ 0x00 ∷ 0x01 ∷ 0x01 ∷ 0xff ∷ [])
     ∷ []
 
@@ -170,19 +170,19 @@ at-missing =
     search-of (p-no-end 6) ⇒ lists (missing 6 (1 ∷ 1 ∷ ○ ∷ []) ∷ []) None
     ∷ search-of (p-no-end 5) ⇒ lists (unfinished 5 (1 ∷ ○ ∷ []) ∷ []) Undecided
     ∷ search-of p-no-zero ⇒ lists (missing 6 (1 ∷ 0 ∷ []) ∷ reach 6 (1 ∷ 1 ∷ ○ ∷ []) ∷ []) Found
-    ∷ run-of (p-no-end 6) (1 ∷ 1 ∷ 0 ∷ []) ⇒ answers (ran (Missing 6))
-    ∷ run-of (p-no-end 6) (1 ∷ 0 ∷ []) ⇒ answers (ran (Ended 6))
+    ∷ run-of (p-no-end 6) (1 ∷ 1 ∷ 0 ∷ []) ⇒ answers (ran (Missing 6) 3)
+    ∷ run-of (p-no-end 6) (1 ∷ 0 ∷ []) ⇒ answers (ran (Ended 6) 2)
     ∷ search-of (p-without 7 20) ⇒ lists (missing 3 (0 ∷ []) ∷ reach 6 (1 ∷ 1 ∷ ○ ∷ []) ∷ []) Found
     ∷ search-of (p-without 7 3) ⇒ lists (missing 3 (0 ∷ []) ∷ unfinished 3 (1 ∷ ○ ∷ []) ∷ []) Undecided
     ∷ search-of (p-without 7 2) ⇒ lists (unfinished 2 (○ ∷ []) ∷ []) Undecided
     ∷ search-of (p-without 8 20) ⇒ lists (missing 3 (0 ∷ []) ∷ []) None
-    ∷ run-of (p-without 7 3) (0 ∷ []) ⇒ answers (ran (Missing 3))
-    ∷ run-of (p-without 7 2) (0 ∷ []) ⇒ answers (ran (Unfinished 2))
+    ∷ run-of (p-without 7 3) (0 ∷ []) ⇒ answers (ran (Missing 3) 1)
+    ∷ run-of (p-without 7 2) (0 ∷ []) ⇒ answers (ran (Unfinished 2) 1)
     ∷ bytes-of (p-without 8 20) ⇒ bytes (0x4d ∷ 0x49 ∷ 0x03 ∷ 0x00 ∷ 0x01 ∷ 0x00 ∷ 0x00 ∷ [])
     ∷ search-of (lacking 1) ⇒ lists (unfinished 1 (○ ∷ []) ∷ []) Undecided
     ∷ search-of (lacking 2) ⇒ lists (missing 2 (○ ∷ []) ∷ []) None
-    ∷ run-of (lacking 1) (0 ∷ []) ⇒ answers (ran (Unfinished 1))
-    ∷ run-of (lacking 2) (0 ∷ []) ⇒ answers (ran (Missing 2))
+    ∷ run-of (lacking 1) (0 ∷ []) ⇒ answers (ran (Unfinished 1) 1)
+    ∷ run-of (lacking 2) (0 ∷ []) ⇒ answers (ran (Missing 2) 1)
     ∷ []
 
 -- P's list has 9 bytes, and its S of 20 asks for 2,304 words: with one less the search is refused, and a closed run too; a missing alternative's entry
@@ -194,7 +194,7 @@ rooms =
     ∷ search-of (p-with 7 4 20) with-list 8 ⇒ refused 12 []
     ∷ search-of (p-with 7 4 20) with-work (64 * 20 + 1024) ⇒ lists (reach 6 (1 ∷ 1 ∷ ○ ∷ []) ∷ []) Found
     ∷ search-of (p-with 7 4 20) with-work (64 * 20 + 1023) ⇒ refused 11 []
-    ∷ run-of (p-with 7 4 20) (0 ∷ []) with-work (64 * 20 + 1024) ⇒ answers (ran (Ended 3))
+    ∷ run-of (p-with 7 4 20) (0 ∷ []) with-work (64 * 20 + 1024) ⇒ answers (ran (Ended 3) 1)
     ∷ run-of (p-with 7 4 20) (0 ∷ []) with-work (64 * 20 + 1023) ⇒ answers (noRun WorkTooShort)
     ∷ []
 
@@ -245,6 +245,24 @@ handed-in =
     ∷ write-of [] (p-list []) false 0 ⇒ tells (noText Truncated)
     ∷ []
 
+-- numbers, and a function of no or two of them that gives zero, with D 4 and S 20
+abbrev pub constant : List ℕ → List ℕ
+constant parameters =
+    0x54 ∷ 0x59 ∷ 0x02 ∷ 0x00 ∷ 0x01 ∷ 0x00 ∷ 0x46 ∷ 0x4e ∷ []
+    ++ parameters
+    ++ 0x00 ∷ 0x03 ∷ 0x00 ∷ 0x02 ∷ 0x00 ∷ 0x00 ∷ 0x47 ∷ 0x4f ∷ 0x00 ∷ 0x07 ∷ 0x04 ∷ 0x14 ∷ 0x00 ∷ []
+
+-- The depth of an input is that of its deepest parameter, wherever it stands, and 0 without parameters. At D 4 an input that is 4 deep is run, and one that
+-- is 5 deep is refused.
+abbrev pub inputs-deep : List Row
+inputs-deep =
+    run-of (constant (2 ∷ 0 ∷ 0 ∷ [])) (1 ∷ 1 ∷ 0 ∷ 0 ∷ []) ⇒ answers (ran (Ended 0) 3)
+    ∷ run-of (constant (2 ∷ 0 ∷ 0 ∷ [])) (0 ∷ 1 ∷ 0 ∷ []) ⇒ answers (ran (Ended 0) 2)
+    ∷ run-of (constant (0 ∷ [])) [] ⇒ answers (ran (Ended 0) 0)
+    ∷ run-of (p-with 7 4 20) (1 ∷ 1 ∷ 1 ∷ 0 ∷ []) ⇒ answers (ran (Reached 6) 4)
+    ∷ run-of (p-with 7 4 20) (1 ∷ 1 ∷ 1 ∷ 1 ∷ 0 ∷ []) ⇒ answers (noRun BadInput)
+    ∷ []
+
 -- all the definitions that an answer is made of: to unfold this is to unfold them
 definitions : Unit {0}
 unfolding
@@ -263,13 +281,13 @@ unfolding
     RuleFile.callExpr RuleFile.constructOf RuleFile.constructExpr RuleFile.caseOf RuleFile.caseExpr RuleFile.letExpr RuleFile.targetExpr
     RuleFile.expressionBy RuleFile.expression RuleFile.bodyOf RuleFile.functionsOf RuleFile.programOf RuleFile.noEmptyType
     RuleFile.deepEnough RuleFile.sizeInLimit RuleFile.ruleFile
-    Input.rowBy Input.row Input.inputOf
+    Input.inputBy Input.readInput Input.inputOf
     Lists.wordBytes Lists.kindBytes Lists.entryBytes Lists.listBytes Lists.cut Lists.roomOf Lists.isMark Lists.kindOf
     Answers.check Answers.cutAnswer Answers.searchChecked Answers.searchAnswer Answers.listed Answers.refusalOf Answers.verdictOf Answers.outcomeOf
     Answers.runInput Answers.runChecked Answers.runAnswer
     Text.spaced Text.lineFrom Text.digitsBy Text.decimal Text.kindWord Text.partWord Text.lineSaying Text.share Text.totalLine
     Text.refusalLine Text.lastLine Text.textOf Text.text
-    Partial.valuesBy Partial.valueFrom Partial.partial Partial.slotted
+    Partial.valuesBy Partial.valueFrom Partial.value Partial.slotted
     Handed.kindMark Handed.spanning Handed.entryBy Handed.entriesBy Handed.handed
     Printouts.printoutChecked Printouts.printoutOf Printouts.lengthAnswer Printouts.writeAnswer
     List.flatMap List.zipWith
@@ -299,6 +317,11 @@ printed-text = refl
 pub handed-lists : AsExpected handed-in
 unfolding definitions
 handed-lists = refl
+
+-- depths of inputs
+pub input-depths : AsExpected inputs-deep
+unfolding definitions
+input-depths = refl
 
 -- numbers of one digit and more, and the share of 0 of 0, of 1 of 3 and of 2 of 3
 pub decimals : map decimal (0 ∷ 9 ∷ 10 ∷ 4096 ∷ [])

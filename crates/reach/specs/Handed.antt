@@ -18,7 +18,7 @@ use Rattle.reach.specs.Types.{Typed, Slot, sourceSlots, leastDepths}
 use Rattle.reach.specs.Search.{Entry}
 use Rattle.reach.specs.Lists.{listBytes, kindOf}
 use Rattle.reach.specs.Reader.{Got, got, refused, onGot, Reader, _>>=_, _>>_, give, orRefuse, demand, byte, word}
-use Rattle.reach.specs.Partial.{Keeps, partial, slotted}
+use Rattle.reach.specs.Partial.{Keeps, inEntries, slotted}
 
 -- an entry that may stand in such a list: "with parameters of the rule file's types and depths (an open part is as deep as its type's least depth) and at most
 -- S steps"; and two bytes hold the length of its parameters
@@ -52,8 +52,8 @@ entryBy types table ss limit = do
   steps ← word
   demand (leb steps limit) BadList
   n ← word
-  input ← spanning n (slotted (partial types table depthLimit) ss)
-  give (record { kind = kind; steps = steps; input = input })
+  row ← spanning n (slotted types (inEntries table) depthLimit ss)
+  give (record { kind = kind; steps = steps; input = row .0 })
 
 abbrev pub entry : Program → Reader Entry
 entry p = entryBy (p .types) (leastDepths (p .types)) (sourceSlots p) (p .steps)

@@ -1,33 +1,26 @@
--- Reading a closed input: one closed value per parameter, in prefix form, each of its type and at most D deep; else refusal 10.
--- Rests on Syntax, Parts and Reader.
-use Prim.Native.Nat.{ℕ, zero, suc}
-use mathlib.Core.List.{List, [], _∷_}
-use mathlib.Core.Option.{Option, none, some}
+-- Reading a closed input: one closed value per parameter, in prefix form, each of its type and at most D deep; else refusal 10. 02, Slip 3: with each value
+-- its depth is read, and with the input that of its deepest parameter.
+-- Rests on Syntax, Types, Reader and Partial.
+use Prim.Native.Nat.{ℕ}
+use mathlib.Core.List.{List}
+use mathlib.Core.Option.{Option, none, some, Option·map}
 use Rattle.reach.specs.declared.Refusal.the-variants.{BadInput}
-use Rattle.reach.specs.Syntax.{Types, Program, fieldTypes, sourceTypes}
-use Rattle.reach.specs.Parts.{Parts, end, bound}
-use Rattle.reach.specs.Reader.{onGot, Reader, _>>=_, _>>_, give, refuse, orRefuse, byte, atEnd}
+use Rattle.reach.specs.Limits.{depthLimit}
+use Rattle.reach.specs.Syntax.{Types, Program}
+use Rattle.reach.specs.Parts.{Parts}
+use Rattle.reach.specs.Types.{Slot, sourceSlots}
+use Rattle.reach.specs.Reader.{onGot, _>>=_, _>>_, give, atEnd}
+use Rattle.reach.specs.Partial.{inInputs, slotted}
 
--- a value for each of these types, whose fields the other reader reads
-unfoldable pub rowBy : Types → (List ℕ → Reader Parts) → List ℕ → Reader Parts
-rowBy types fields [] = give end
-rowBy types fields (t ∷ ts) = do
-  c ← byte
-  us ← orRefuse BadInput (fieldTypes types t c)
-  fs ← fields us
-  rest ← rowBy types fields ts
-  give (bound c fs rest)
+-- the closed values of these slots whose bytes these are, if they fit the slots and nothing is left over, and how deep the deepest is; the reading goes
+-- below at most so many constructors, one inside another
+unfoldable pub inputBy : ℕ → Types → List Slot → List ℕ → Option (Parts × ℕ)
+inputBy levels types ss s = onGot (λ row next. some row) (λ why. none) ((slotted types inInputs levels ss >>= λ row. atEnd BadInput >> give row) s 0)
 
-abbrev pub noValue : List ℕ → Reader Parts
-noValue [] = give end
-noValue (t ∷ ts) = refuse BadInput
+-- the closed input of the program, and the depth of its deepest parameter. Below the largest D nothing that fits is missed, however long or deep the bytes are.
+unfoldable pub readInput : Program → List ℕ → Option (Parts × ℕ)
+readInput p s = inputBy depthLimit (p .types) (sourceSlots p) s
 
--- a closed value for each of these types, each at most d deep
-unfoldable pub row : Types → ℕ → List ℕ → Reader Parts
-row types zero = noValue
-row types (suc d) = rowBy types (row types d)
-
--- the closed input whose bytes these are, if they are those of one that fits
+-- the input alone
 unfoldable pub inputOf : Program → List ℕ → Option Parts
-inputOf p s =
-    onGot (λ j next. some j) (λ why. none) ((row (p .types) (p .depth) (sourceTypes p) >>= λ j. atEnd BadInput >> give j) s 0)
+inputOf p s = Option·map (λ row. row .0) (readInput p s)

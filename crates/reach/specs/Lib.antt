@@ -10,8 +10,8 @@ pub mod Limits
 pub mod Reader
 pub mod RuleFile
 pub mod Conditions
-pub mod Input
 pub mod Partial
+pub mod Input
 pub mod Lists
 pub mod Handed
 pub mod Answers

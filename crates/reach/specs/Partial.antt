@@ -1,13 +1,15 @@
--- Reading partial values in prefix form, each of its type, with how deep it is: 02, Slip 2. A constructor without fields is 1 deep, any other 1 more than its
--- deepest field, and an open part as deep as its type's least depth. The reading goes below so many constructors, one inside another, and no deeper: so it
--- ends, and as D is at most 64, nothing that fits is missed below 64.
+-- Reading values in prefix form, partial or closed, each of its type, with how deep it is: 02, Slips 2 and 3. A constructor without fields is 1 deep, any
+-- other 1 more than its deepest field, and an open part as deep as its type's least depth. The reading goes below so many constructors, one inside another,
+-- and no deeper: so it ends, and as D is at most 64, nothing that fits is missed below 64.
 -- Rests on Syntax, Parts, Types and Reader.
-use Prim.Native.Nat.{ℕ, zero, suc, max, _≤_}
+use Prim.Native.Nat.{ℕ, zero, suc, max, _≤_, _<_}
+use mathlib.Core.Path.{_≡_}
 use mathlib.Core.List.{List, [], _∷_, head?, tail}
 use mathlib.Core.Option.{Option, none, some}
 use lib.ListN.{getD}
 use lib.Dec.{eqb, leb}
-use Rattle.reach.specs.declared.Refusal.the-variants.{BadList}
+use Rattle.reach.specs.declared.Refusal.{Refusal}
+use Rattle.reach.specs.declared.Refusal.the-variants.{BadInput, BadList}
 use Rattle.reach.specs.Base.{pick}
 use Rattle.reach.specs.Syntax.{Types, fieldTypes}
 use Rattle.reach.specs.Parts.{Parts, end, opened, bound}
@@ -64,22 +66,39 @@ valuesBy value (t ∷ ts) = do
   rest ← valuesBy value ts
   give (v before (rest .0), max (deepOf v) (rest .1))
 
--- the value of type t whose first byte is b: 0xFF for an open part, as deep as the table of least depths says, else a constructor's number before its fields
-unfoldable pub valueFrom : Types → List ℕ → (List ℕ → Reader (Parts × ℕ)) → ℕ → ℕ → Reader Value
-valueFrom types table fields t b = λ s here.
-    pick (eqb b 0xff) (give (unbound (getD table t 0)) s here)
-    ((orRefuse BadList (fieldTypes types t b) >>= λ us. fields us >>= λ fs. give (built b (fs .0) (suc (fs .1)))) s here)
+-- How values are read: how deep an open part of a type is, none where nothing may be open; and how what is no value is refused.
+pub record Manner : Type 0 where
+  pub open-part : ℕ → Option ℕ
+  pub misfit : Refusal
 
--- a partial value of type t, below at most so many constructors
-unfoldable pub partial : Types → List ℕ → ℕ → ℕ → Reader Value
-partial types table zero t = byte >>= valueFrom types table (λ us. refuse BadList) t
-partial types table (suc levels) t = byte >>= valueFrom types table (valuesBy (partial types table levels)) t
+-- the entries of a list: an open part is as deep as this table of least depths says; 02, Slip 2
+abbrev pub inEntries : List ℕ → Manner
+inEntries table = record { open-part = λ t. some (getD table t 0); misfit = BadList }
 
--- a value for each slot, at most as deep as the slot allows
-unfoldable pub slotted : (ℕ → Reader Value) → List Slot → Reader Parts
-slotted value [] = give end
-slotted value (s ∷ ss) = do
-  v ← value (s .type)
-  demand (leb (deepOf v) (s .room)) BadList
-  rest ← slotted value ss
-  give (v before rest)
+-- a closed input: nothing is open; 02, Slip 3
+abbrev pub inInputs : Manner
+inInputs = record { open-part = λ t. none; misfit = BadInput }
+
+-- no constructor of the types has the number that stands for an open part
+abbrev pub OpenApart : Types → Type 0
+OpenApart types = (t c : ℕ) (us : List ℕ) → fieldTypes types t c ≡ some us → c < 0xff
+
+-- the value of type t whose first byte is b: 0xFF for an open part, else a constructor's number before its fields
+unfoldable pub valueFrom : Types → Manner → (List ℕ → Reader (Parts × ℕ)) → ℕ → ℕ → Reader Value
+valueFrom types m fields t b = λ s here.
+    pick (eqb b 0xff) ((orRefuse (m .misfit) (m .open-part t) >>= λ d. give (unbound d)) s here)
+    ((orRefuse (m .misfit) (fieldTypes types t b) >>= λ us. fields us >>= λ fs. give (built b (fs .0) (suc (fs .1)))) s here)
+
+-- a value of type t, below at most so many constructors
+unfoldable pub value : Types → Manner → ℕ → ℕ → Reader Value
+value types m zero t = byte >>= valueFrom types m (λ us. refuse (m .misfit)) t
+value types m (suc levels) t = byte >>= valueFrom types m (valuesBy (value types m levels)) t
+
+-- a value for each slot, at most as deep as the slot allows; and how deep the deepest is
+unfoldable pub slotted : Types → Manner → ℕ → List Slot → Reader (Parts × ℕ)
+slotted types m levels [] = give (end, zero)
+slotted types m levels (s ∷ ss) = do
+  v ← value types m levels (s .type)
+  demand (leb (deepOf v) (s .room)) (m .misfit)
+  rest ← slotted types m levels ss
+  give (v before (rest .0), max (deepOf v) (rest .1))

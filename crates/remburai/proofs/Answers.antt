@@ -88,11 +88,15 @@ full-small file work list n is = length-small file work list (Answer.Full n) is
 
 pub no-run-number : (a : Answers.RunAnswer) (why : Refusal) → Ended.Refused why ≡ Closed.answerOf a → numberOf why ≡ runNumber a
 no-run-number (Answers.noRun by) why is = let same : why ≡ by = cc in ap numberOf same
-no-run-number (Answers.ran o) why is = absurd (clash (cc))
+no-run-number (Answers.ran o deep) why is = absurd (clash (cc))
 
-pub ran-number : (a : Answers.RunAnswer) (o : Outcome) → Ended.Ran o ≡ Closed.answerOf a → 256 * outcomeNumber o + 65536 * stepsOf o ≡ runNumber a
-ran-number (Answers.noRun by) o is = absurd (clash (cc))
-ran-number (Answers.ran other) o is = let same : o ≡ other = cc in ap (λ (x : Outcome). 256 * outcomeNumber x + 65536 * stepsOf x) same
+pub ran-number : (a : Answers.RunAnswer) (o : Outcome) (deep : ℕ)
+    → Ended.Ran o deep ≡ Closed.answerOf a → 256 * outcomeNumber o + 65536 * stepsOf o + 4294967296 * deep ≡ runNumber a
+ran-number (Answers.noRun by) o deep is = absurd (clash (cc))
+ran-number (Answers.ran other d) o deep is =
+    let same : o ≡ other = cc in
+    let as-deep : deep ≡ d = cc in
+    rw (same, as-deep) refl
 
 -- The entry.
 

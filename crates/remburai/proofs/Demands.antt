@@ -1,6 +1,6 @@
 -- The number that a call for C answered with says one answer only. What a caller reads off it, by specs/Unpacking, is what the definition's answer says,
 -- for every file, every input and all lengths of the slices (`..-decodes`); so two answers with one number say the same (`..-one`). And what is counted
--- in it fits the types that a caller reads it into (`..-fits`): 32 bits for a length, 16 for steps.
+-- in it fits the types that a caller reads it into (`..-fits`): 32 bits for a length, 16 for steps, 8 for a depth.
 -- 01, "The forms we expect": "For an answer that is an enum, a definition gives this paper's number and values for each of its cases, and the promises use
 -- that definition."
 -- Rests on packing's Unpacked; for the bounds on search's Called, closed's Demands, printout's Demands and reach's Limits.
@@ -15,9 +15,9 @@ use lib.ListN.{length, getD, take}
 use lib.Dec.{eqb}
 use Rattle.reach.specs.declared.Refusal.{Refusal}
 use Rattle.reach.specs.declared.Refusal.the-variants.{WorkTooShort, ListFull}
-use Rattle.reach.specs.Words.{numberOf}
+use Rattle.reach.specs.Words.{numberOf, stepsOf}
 use Rattle.reach.specs.Syntax.{Program}
-use Rattle.reach.specs.Limits.{workWords, listLimit, stepLimit}
+use Rattle.reach.specs.Limits.{workWords, listLimit, stepLimit, depthLimit}
 use Rattle.reach.specs.Lists.{listBytes, roomOf, entryPart}
 use Rattle.reach.specs.Answers.{Checked, accepted, turnedBack, check, SearchAnswer, noSearch, complete, cutShort, searchAnswer, listed, refusalOf, RunAnswer, noRun, ran, runAnswer}
 use Rattle.reach.specs.Text as Text
@@ -27,18 +27,18 @@ use Rattle.reach.proofs.Limits.{accepted-keeps}
 use Rattle.search.proofs.Called.{listed-room, written-take, refused-when, complete-when, full-when}
 use Rattle.search.specs.Answering as Search
 use Rattle.closed.specs.Answering.{answerOf}
-use Rattle.closed.proofs.Demands.{refused-file, steps-spent}
+use Rattle.closed.proofs.Demands.{refused-file, steps-spent, depth-within}
 use Rattle.printout.specs.declared.Answer.{Answer as Told}
 use Rattle.printout.specs.declared.Answer.the-variants as Told
 use Rattle.printout.specs.Answering as Calls
 use Rattle.printout.proofs.Demands.{searched-length, searched-text}
 use Rattle.entries.specs.Spans.{partPlace}
 use Rattle.packing.specs.Packing.{checkNumber, searchNumber, runNumber, textNumber, partNumber}
-use Rattle.packing.specs.Unpacking.{refusalBits, countBits, decodedCheck, checkRead, SearchRead, decodedSearch, searchRead, decodedRun, runRead, TextRead, decodedText, textRead, refusalNamed, decodedPart}
+use Rattle.packing.specs.Unpacking.{refusalBits, countBits, stepBits, depthBits, decodedCheck, checkRead, SearchRead, decodedSearch, searchRead, decodedRun, runRead, TextRead, decodedText, textRead, refusalNamed, decodedPart}
 use Rattle.remburai.specs.Answering as Answered
 use Rattle.remburai.proofs.Answers.{length-text-small, write-text-small}
 use Rattle.remburai.specs.Answering.{Checks, Searches, Runs, Finds, Measures, Writes}
-use Rattle.packing.proofs.Unpacked.{refused-parted, ran-parted, check-reads, search-reads, run-reads, read-one, text-reads, text-read-one, part-reads}
+use Rattle.packing.proofs.Unpacked.{Small, refused-parted, ran-parted, check-reads, search-reads, run-reads, read-one, text-reads, text-read-one, part-reads}
 
 -- The check. `Checks file r` is the contract of `remburai_check`: the call answered r. Of the other calls likewise.
 
@@ -64,28 +64,54 @@ search-fits file work work′ list list′ r call =
     let long : countBits r ≡ _ = ap (λ (s : SearchRead). s .bytes) (search-decodes file work work′ list list′ r call) in
     omega (arith, long, listed-room file (length work) (length list))
 
--- The closed run: its refusal, or how it ended and its steps.
+-- The closed run: its refusal, or how it ended and its steps, and the depth of its input.
 
-pub run-decodes : (file input work work′ : List ℕ) (r : ℕ) → Runs file input work work′ r → decodedRun r ≡ runRead (runAnswer file input (length work))
-run-decodes file input work work′ r call = rw (call .number-is) (run-reads (runAnswer file input (length work)))
+-- the steps of an answer and the depth, 0 with a refusal
+abbrev stepsIn : RunAnswer → ℕ
+stepsIn (noRun why) = 0
+stepsIn (ran o deep) = stepsOf o
 
--- nothing else is in the answer, so the number says it whole
-pub run-one : (a b : RunAnswer) → runNumber a ≡ runNumber b → a ≡ b
-run-one a b same = read-one a b (sym (run-reads a) ∙ ap decodedRun same ∙ run-reads b)
+abbrev depthIn : RunAnswer → ℕ
+depthIn a = runRead a .depth
 
--- the steps are at most the largest step limit, 4,096
-pub run-fits : (file input work work′ : List ℕ) (r : ℕ) → Runs file input work work′ r → countBits r ≤ stepLimit
-run-fits file input work work′ r call = rw (call .number-is) (answered (runAnswer file input (length work)) refl (check file) refl)
-  where
-    answered : (a : RunAnswer) → runAnswer file input (length work) ≡ a → (c : Checked) → check file ≡ c → countBits (runNumber a) ≤ stepLimit
-    answered (noRun why) is c checked = omega (arith, refused-parted why .count-is)
-    answered (ran o) is (accepted p) checked =
-        let spent = steps-spent file input work work′ (answerOf (runAnswer file input (length work))) (call .leaves) p checked o (ap answerOf is) in
-        omega (arith, spent, accepted-keeps file p checked .steps-limit, ran-parted o .count-is)
-    answered (ran o) is (turnedBack why) checked =
-        let refused = refused-file file input work work′ (answerOf (runAnswer file input (length work))) (call .leaves) why checked in
-        let ended = ap answerOf is in
-        absurd (clash (cc))
+-- the steps are at most the largest step limit, 4,096, and the depth is at most the largest D, 64
+module _ (file input work work′ : List ℕ) (r : ℕ) (call : Runs file input work work′ r) where
+  within : (a : RunAnswer) → runAnswer file input (length work) ≡ a → (c : Checked) → check file ≡ c → (stepsIn a ≤ stepLimit) × (depthIn a ≤ depthLimit)
+  within (noRun why) is c checked = (omega arith, omega arith)
+  within (ran o deep) is (accepted p) checked =
+      let answer = answerOf (runAnswer file input (length work)) in
+      let limits = accepted-keeps file p checked in (
+        omega (arith, steps-spent file input work work′ answer (call .leaves) p checked o deep (ap answerOf is), limits .steps-limit),
+        omega (arith, depth-within file input work work′ answer (call .leaves) p checked o deep (ap answerOf is), limits .depth-limit .1),
+      )
+  within (ran o deep) is (turnedBack why) checked =
+      let refused = refused-file file input work work′ (answerOf (runAnswer file input (length work))) (call .leaves) why checked in
+      let ended = ap answerOf is in
+      absurd (clash (cc))
+
+  few : (stepsIn (runAnswer file input (length work)) ≤ stepLimit) × (depthIn (runAnswer file input (length work)) ≤ depthLimit)
+  few = within (runAnswer file input (length work)) refl (check file) refl
+
+  small : (a : RunAnswer) → stepsIn a ≤ stepLimit → depthIn a ≤ depthLimit → Small a
+  small (noRun why) steps deep = tt
+  small (ran o d) steps deep = (omega arith, omega arith)
+
+  pub run-decodes : decodedRun r ≡ runRead (runAnswer file input (length work))
+  run-decodes = rw (call .number-is) (run-reads (runAnswer file input (length work)) (small (runAnswer file input (length work)) (few .0) (few .1)))
+
+  pub run-fits : (stepBits r ≤ stepLimit) × (depthBits r ≤ depthLimit)
+  run-fits = rw (call .number-is) (fits (runAnswer file input (length work)) (few .0) (few .1))
+    where
+      fits : (a : RunAnswer) → stepsIn a ≤ stepLimit → depthIn a ≤ depthLimit → (stepBits (runNumber a) ≤ stepLimit) × (depthBits (runNumber a) ≤ depthLimit)
+      fits (noRun why) steps deep = let z = refused-parted why in (omega (arith, z .count-is), omega (arith, z .count-is))
+      fits (ran o d) steps deep = let z = ran-parted o d (omega arith, omega arith) in (omega (arith, z .steps-are), omega (arith, z .depth-is))
+
+-- nothing else is in the answer, so the number says it whole: two runs with one number have one answer
+pub run-one : (file input work work′ file₂ input₂ work₂ work₂′ : List ℕ) (r : ℕ) → Runs file input work work′ r → Runs file₂ input₂ work₂ work₂′ r
+    → runAnswer file input (length work) ≡ runAnswer file₂ input₂ (length work₂)
+run-one file input work work′ file₂ input₂ work₂ work₂′ r call call₂ =
+    read-one (runAnswer file input (length work)) (runAnswer file₂ input₂ (length work₂))
+    (sym (run-decodes file input work work′ r call) ∙ run-decodes file₂ input₂ work₂ work₂′ r call₂)
 
 -- The entry: where the part begins that `entry` of crate entries hands back, and how long it is. What stands there is the entry's part (`part-lies` in
 -- Demands of that crate).

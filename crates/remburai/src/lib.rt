@@ -46,7 +46,9 @@ pub extern "C" fn remburai_run<'a>(file: &'a [u8], input: &'a [u8], work: &mut [
 {
     match closed::run(file, input, work) {
         closed::Answer::Refused(why) => number(why),
-        closed::Answer::Ran(outcome) => 256 * outcome_number(outcome) + 65536 * steps_of(outcome),
+        closed::Answer::Ran(outcome, depth) => 256 * outcome_number(outcome)
+            + 65536 * steps_of(outcome)
+            + 4294967296 * (depth as u64),
     }
 }
 

@@ -11,6 +11,7 @@ use Rattle.reach.specs.Syntax.{Types, Program}
 use Rattle.reach.specs.Parts.{Parts, free, at, bindAt, There}
 use Rattle.reach.specs.Types.{Slot, sourceSlots, WithinDepth}
 use Rattle.reach.specs.Eval.{State, Question, answered, next, goes, waits}
+use Rattle.reach.specs.Partial.{OpenApart}
 use Rattle.reach.specs.Places.{typeAt}
 use Rattle.reach.proofs.Base.{clash}
 use Rattle.reach.proofs.Order.{bind-has, bind-refines}
@@ -20,11 +21,11 @@ use Rattle.reach.proofs.Limits.{accepted-keeps, accepted-rooms}
 use Rattle.reach.specs.States.{one-more}
 use Rattle.reach.proofs.Reached.{steps-more}
 use Rattle.reach.proofs.Places.{bytes-length}
+use Rattle.reach.proofs.WellTyped.{open-apart}
 use Rattle.lookups.specs.Fields.{fieldsIn, FieldCount}
 use Rattle.machine.specs.Cells.{cellWord, cellOf, Cells, Unmoved}
 use Rattle.machine.proofs.Cells.{kept-cells}
 use Rattle.cells.proofs.Rooms.{cell-room}
-use Rattle.inputs.specs.Positions.{Placed}
 use Rattle.values.specs.Notes.{FollowsInput}
 use Rattle.values.proofs.Binding.{OpenStands, open-stands, bound-follows}
 use Rattle.registers.specs.declared.Registers.{Registers}
@@ -36,7 +37,6 @@ use Rattle.choosing.specs.Entering.{AtBoundPart}
 use Rattle.registers.proofs.Waiting.{waits-control}
 use Rattle.machine.proofs.Words.{records-same}
 use Rattle.registers.proofs.Standing.{stands-after, stands-below}
-use Rattle.loaded.specs.Beginning.{GivenFile}
 use Rattle.running.specs.Running.{GivenInput, Running, Underway, notedNumber, Bindable, BoundAs, Advances, AdvancesAll, ComesTo, BoundSoFar}
 use Rattle.running.proofs.Bound.{head-now, first-now, no-fewer, fields-now}
 use Rattle.running.proofs.Reached.{below-width, reached-in, reached-sound, run-goes, run-demands, run-lacks, run-stops, run-spent}
@@ -80,13 +80,9 @@ with-binds no-fewer now = record {
   long = now .long;
 }
 
--- the types and the source's parameters of a checked file stand at its places
-pub placed : {file types functions : List ℕ} {p : Program} → GivenFile file types functions p → Placed p file types functions
-placed given = record { types-there = given .file-of .types-there; source-there = given .parameters-there }
-
 module _ {file types functions input : List ℕ} {p : Program} {j : Parts} (given : GivenInput file types functions input p j) where
   pub within : WithinDepth p j
-  within = input-exactly p input j .0 (given .reads) .0
+  within = input-exactly file p (given .of-file .checked) input j .0 (given .reads) .0
 
   module _ {limit : ℕ} {w : List ℕ} {base cells done binds : ℕ} {r : Registers} {s : State} (now : Running file types functions p j limit w base cells done binds r s) where
     -- after a step
@@ -142,7 +138,7 @@ module _ {file types functions input : List ℕ} {p : Program} {j : Parts} (give
       there = subst There (sym unbound) tt
 
       value : OpenStands (map (typeAt file) types) (sourceSlots p) input w (now .input) j (q .place)
-      value = open-stands (placed (given .of-file)) input (given .reads) (q .place) (now .follows) unbound
+      value = open-stands file types (given .of-file .checked) (given .of-file .file-of .types-there) input (given .reads) (q .place) (now .follows) unbound
 
       -- no constructor has more than 6 fields
       few-fields : (t c : ℕ) (us : List ℕ) → fieldsIn file types t c ≡ some us → length us ≤ 6
@@ -153,7 +149,6 @@ module _ {file types functions input : List ℕ} {p : Program} {j : Parts} (give
         in-use = now .follows .cells .in-use (q .place) there;
         room = omega (arith, now .few-cells, now .base-is, now .long);
         narrow = now .stands .space .narrow;
-        deep = value .stands .deep;
         shallow =
             omega (arith, cell-room depthLimit (q .place) (accepted-rooms file p (given .of-file .checked)) (now .follows .cells) there (value .slot-there));
         small-place = value .stands .in-bytes;
@@ -177,7 +172,7 @@ module _ {file types functions input : List ℕ} {p : Program} {j : Parts} (give
           let few : k ≤ 6 = omega (arith, many, few-fields (cellWord w x 2) c (value .stands .fields) known) in
           let fits : 5 * (cells + k) ≤ base = omega (arith, now .few-cells, now .base-is) in
           let (unmoved, follows) =
-          bound-follows fields (q .place) (now .follows) unbound value (value .stands .number) (sym same) (omega (arith, now .long)) (bound .binds) refl refl (bound .noted) in
+          bound-follows (subst OpenApart (given .of-file .file-of .types-there) (open-apart file p (given .of-file .checked))) fields (q .place) (now .follows) unbound value (value .stands .number) (sym same) (omega (arith, now .long)) (bound .binds) refl (bound .noted) in
           let steps = steps-more p (bind-refines (q .place) c k e) (below-width file p (given .of-file .checked) j within (now .follows .below)) (now .steps) in
           let same-length = bound .noted .same-length ∙ bound .binds .same-length in
           rw more-is (

@@ -37,15 +37,15 @@ module _
       fields-few bindable = omega (arith, bindable .few (bytesAt file fields k) these, bytes-length file fields k)
 
       pub bound-known :
-          {v w′ : List ℕ} {room : ℕ} → room ≡ cellWord w x 3 → Binds w v x c cells k (bytesAt file fields k) (cellWord w x 3 - 1)
-          → Noted file types input v w′ cells (bytesAt file fields k) (place + 1) (room - 1) → BoundAs file types input w w′ cells x (cells + k)
-      bound-known {v} room-is binds noted us known =
+          {v w′ : List ℕ} → Binds w v x c cells k (bytesAt file fields k) (cellWord w x 3 - 1)
+          → Noted file types input v w′ cells (bytesAt file fields k) (place + 1) → BoundAs file types input w w′ cells x (cells + k)
+      bound-known {v} binds noted us known =
           let number : c ≡ notedNumber input w x = c-is ∙ ap (λ i. getD input i 0) place-is in (
             fields,
             k,
             Option·some-injective _ _ (sym known ∙ these),
             refl,
-            record { between = v; binds = rw number at binds; noted = rw (place-is, room-is) at noted },
+            record { between = v; binds = rw number at binds; noted = rw place-is at noted },
           )
 
 -- The words of a cell that was bound to the constructor at its noted place, whose fields have these types.

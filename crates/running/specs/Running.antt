@@ -57,12 +57,11 @@ pub record Underway (file types functions input : List ℕ) (label limit : ℕ) 
 abbrev pub notedNumber : List ℕ → List ℕ → ℕ → ℕ
 notedNumber input w x = getD input (notedPlace w x) 0
 
--- Cell x can be bound to it: its fields are no more than 6, there is room for their cells, and it may have fields at all.
+-- Cell x can be bound to it: its fields are no more than 6, and there is room for their cells.
 pub record Bindable (file types input w : List ℕ) (cells x : ℕ) : Type 0 where
   pub in-use : x < cells
   pub room : 5 * (cells + 6) ≤ length w
   pub narrow : length w ≤ 1000000
-  pub deep : 1 ≤ cellWord w x 3
   pub shallow : cellWord w x 3 ≤ 255
   pub small-place : notedPlace w x < length input
   pub few : (us : List ℕ) → fieldsIn file types (cellWord w x 2) (notedNumber input w x) ≡ some us → length us ≤ 6
@@ -71,7 +70,7 @@ pub record Bindable (file types input w : List ℕ) (cells x : ℕ) : Type 0 whe
 pub record BoundCell (file types input w w′ : List ℕ) (cells x fields k : ℕ) : Type 0 where
   pub between : List ℕ
   pub binds : Binds w between x (notedNumber input w x) cells k (bytesAt file fields k) (cellWord w x 3 - 1)
-  pub noted : Noted file types input between w′ cells (bytesAt file fields k) (notedPlace w x + 1) (cellWord w x 3 - 1)
+  pub noted : Noted file types input between w′ cells (bytesAt file fields k) (notedPlace w x + 1)
 
 -- so it was, if the constructor is known, and so many cells are in use now
 abbrev pub BoundAs : List ℕ → List ℕ → List ℕ → List ℕ → List ℕ → ℕ → ℕ → ℕ → Type 0

@@ -38,22 +38,11 @@ fn bind_asked<'a>(
     let place = noted(work, x);
     let c = byte_or_zero(input, place);
     let t = cell_word(work, x, 2);
-    let room = cell_word(work, x, 3);
     let Fields::At(fields, k) = fields_of(file, types, t, c) else {
         return cells;
     };
     bind_cell(file, work, x, c, fields, k, cells);
-    note_values(
-        file,
-        types,
-        input,
-        work,
-        cells,
-        fields,
-        k,
-        place + 1,
-        room - 1,
-    );
+    note_values(file, types, input, work, cells, fields, k, place + 1);
     cells + k
 }
 

@@ -1,60 +1,32 @@
 -- The bytes of a list determine its entries: a partial input of the source's types is determined by its prefix form, so that an entry is determined by
 -- what is read back of it.
--- Rests on specs/Answering, on reach's ReadBack for the bytes of a list, on its Handed (a constructor's number is not 0xFF) and on its Accepted and EntryLength
--- (an entry has the source's types).
+-- Rests on specs/Answering, on reach's ReadBack for the bytes of a list, on its Partial (prefix forms differ) and WellTyped (a constructor's number is not
+-- 0xFF), and on its Accepted and EntryLength (an entry has the source's types).
 use Prim.Native.Nat.{ℕ, zero, suc, _≤_, _<_}
 use native.Mathlib.Omega.{arith}
-use mathlib.Core.Path.{_≡_, refl, sym, ap, subst, _∙_}
+use mathlib.Core.Path.{_≡_, refl, sym, ap, _∙_}
 use mathlib.Core.Logic.{_⊎_, inl, inr, _↔_}
-use mathlib.Core.List.{List, [], _∷_, _++_, append-assoc, append-nil}
+use mathlib.Core.List.{List, [], _∷_, append-nil}
 use mathlib.Core.Option.{Option, none, some, Option·none-ne-some}
 use lib.ListN.{length, getElem?}
 use Rattle.reach.specs.Base.{_∈_}
 use Rattle.reach.specs.Limits.{listLimit}
-use Rattle.reach.specs.Syntax.{Types, Program, fieldTypes, sourceTypes}
-use Rattle.reach.specs.Parts.{Parts, end, opened, bound, prefix}
-use Rattle.reach.specs.Types.{Typed}
+use Rattle.reach.specs.Syntax.{Program, sourceTypes}
+use Rattle.reach.specs.Parts.{Parts, prefix}
+use Rattle.reach.specs.Types.{Typed, leastDepths}
 use Rattle.reach.specs.Search.{Entry, entries}
 use Rattle.reach.specs.Lists.{entryBytes, listBytes, entryPart, Decoded, decoded}
+use Rattle.reach.specs.Partial.{inEntries}
 use Rattle.reach.specs.Answers.{accepted, check}
 use Rattle.reach.proofs.Base.{clash, nth-member}
 use Rattle.reach.proofs.Limits.{accepted-keeps}
 use Rattle.reach.proofs.Accepted.{entry-typed}
 use Rattle.reach.proofs.EntryLength.{entry-within}
-use Rattle.reach.proofs.Handed.{few}
+use Rattle.reach.proofs.WellTyped.{open-apart}
+use Rattle.reach.proofs.Partial.{entries-lawful, row-one}
 use Rattle.reach.proofs.ReadBack.{decoded-entry, entry-read-back, beyond-end}
 use Rattle.listing.proofs.Bytes.{entry-length}
 use Rattle.search.specs.Answering.{ReadsAs}
-
--- the same bytes, put together the other way
-regroup : (x y r x′ y′ r′ : List ℕ) → x ++ y ++ r ≡ x′ ++ y′ ++ r′ → x ++ (y ++ r) ≡ x′ ++ (y′ ++ r′)
-regroup x y r x′ y′ r′ is = cc (append-assoc x y r, append-assoc x′ y′ r′)
-
--- With the types fixed, and no constructor's number 0xFF, bytes that begin with a prefix form determine the row and the rest.
-row-unique :
-    (types : Types) → ((t c : ℕ) (us : List ℕ) → fieldTypes types t c ≡ some us → c < 255)
-    → (ts : List ℕ) (x y : Parts) (r r′ : List ℕ) → Typed types ts x → Typed types ts y → prefix x ++ r ≡ prefix y ++ r′ → (x ≡ y) × (r ≡ r′)
-unfolding prefix
-row-unique types low [] end end r r′ a b is = (refl, is)
-row-unique types low [] end (opened y) r r′ a b is = absurd b
-row-unique types low [] end (bound c gs y) r r′ a b is = absurd b
-row-unique types low [] (opened x) y r r′ a b is = absurd a
-row-unique types low [] (bound c fs x) y r r′ a b is = absurd a
-row-unique types low (t ∷ ts) end y r r′ a b is = absurd a
-row-unique types low (t ∷ ts) (opened x) end r r′ a b is = absurd b
-row-unique types low (t ∷ ts) (opened x) (opened y) r r′ a b is =
-    let rest = row-unique types low ts x y r r′ a b (cc) in
-    (ap opened (rest .0), rest .1)
-row-unique types low (t ∷ ts) (opened x) (bound c gs y) r r′ a b is = let z : 0xff ≡ c = cc in absurd (omega (arith, low t c (b .0) (b .1)))
-row-unique types low (t ∷ ts) (bound c fs x) end r r′ a b is = absurd b
-row-unique types low (t ∷ ts) (bound c fs x) (opened y) r r′ a b is = let z : c ≡ 0xff = cc in absurd (omega (arith, low t c (a .0) (a .1)))
-row-unique types low (t ∷ ts) (bound c fs x) (bound d gs y) r r′ a b is =
-    let same : c ≡ d = cc in
-    let fields : b .0 ≡ a .0 = cc (a .1, b .1) in
-    let typed : Typed types (a .0) gs = subst (λ (us : List ℕ). Typed types us gs) fields (b .2) in
-    let first = row-unique types low (a .0) fs gs (prefix x ++ r) (prefix y ++ r′) (a .2) typed (regroup (prefix fs) (prefix x) r (prefix gs) (prefix y) r′ (cc)) in
-    let rest = row-unique types low ts x y r r′ (a .3) (b .3) (first .1) in
-    (cc (first .0, rest .0), rest .1)
 
 -- a number that no entry has is beyond the last
 missing : (es : List Entry) (k : ℕ) → getElem? es k ≡ none → length es ≤ k
@@ -72,7 +44,8 @@ same-entry e f k s i =
 module _ (file : List ℕ) (p : Program) (h : check file ≡ accepted p) where
   -- partial inputs of the source's types that have one prefix form are one
   pub prefix-unique : (i j : Parts) → Typed (p .types) (sourceTypes p) i → Typed (p .types) (sourceTypes p) j → prefix i ≡ prefix j → i ≡ j
-  prefix-unique i j a b is = (row-unique (p .types) (few file p h) (sourceTypes p) i j [] [] a b (ap (λ (l : List ℕ). l ++ []) is)) .0
+  prefix-unique i j a b is =
+      row-one (p .types) (inEntries (leastDepths (p .types))) (λ e. Unit {0}) (entries-lawful (p .types)) (open-apart file p h) (sourceTypes p) i j a b tt tt is
 
   -- its steps fit their two bytes
   entry-steps : (e : Entry) → e ∈ entries p → e .steps < 65536

@@ -1,5 +1,5 @@
 -- What is noted in the open cells of the input, while it is bound as a closed input says: the place of the part's value in the bytes.
--- Rests on specs/Notes, on the inputs' Closed and Positions, on the cells' Binding and on machine's laws of cells.
+-- Rests on specs/Notes, on Standing, on the cells' Binding and on machine's laws of cells.
 use Prim.Native.Nat.{ℕ, _+_, _*_, _-_, _≤_, _<_}
 use mathlib.Core.Path.{_≡_, refl, sym, _∙_, ap, subst}
 use mathlib.Core.List.{List, head?, tail, map}
@@ -10,19 +10,20 @@ use lib.ListN.{length}
 use Rattle.reach.specs.Syntax.{Types, Program, sourceTypes}
 use Rattle.reach.specs.Parts.{Parts, end, opened, allOpen, Place, here, after, inside, Seen, free, has, at, part, within, bindAt, _⊑_, ⊑-end, ⊑-open, ⊑-bind, ⊑-same, There}
 use Rattle.reach.specs.Types.{Slot, fieldSlots, slotAt, sourceSlots}
-use Rattle.reach.specs.Reader.{got}
-use Rattle.reach.specs.Input.{row, inputOf}
+use Rattle.reach.specs.Input.{inputOf}
+use Rattle.reach.specs.Answers.{check, accepted}
+use Rattle.reach.specs.Partial.{OpenApart}
 use Rattle.reach.specs.Places.{bytesAt, typeAt}
 use Rattle.reach.proofs.Order.{free-unbound, ⊑-there, bind-refines, bind-has, bind-below, bind-new, open-unbound, open-least}
+use Rattle.reach.proofs.Depths.{typed-width}
 use Rattle.reach.proofs.Places.{bytes-length}
+use Rattle.reach.proofs.WellTyped.{open-apart}
 use Rattle.machine.specs.Cells.{cellWord, cellOf, Cells, Binds, Unmoved}
 use Rattle.machine.proofs.Cells.{field, walk-part, walk-kept, OneOf, bind-places, bind-elsewhere}
 use Rattle.cells.proofs.Binding.{bound-cells}
-use Rattle.inputs.specs.Positions.{Placed, byteOf}
-use Rattle.inputs.proofs.Closed.{input-row, ValueStands, row-width}
-use Rattle.inputs.proofs.Rows.{sourceRow}
-use Rattle.inputs.proofs.Positions.{PartStands, input-part}
+use Rattle.values.specs.Positions.{RowStands, byteOf}
 use Rattle.values.specs.Notes.{notedPlace, Noted, NotesStand, FollowsInput}
+use Rattle.values.proofs.Standing.{ValueStands, PartStands, input-stands, input-part}
 
 free-there : {s : Seen} → s ≡ free → There s
 free-there h = subst There (sym h) tt
@@ -46,7 +47,7 @@ unfolding at slotAt
 
 -- what is noted in the cells before stays
 pub noted-before :
-    {file places input w w′ ts : List ℕ} {first i room : ℕ} → Noted file places input w w′ first ts i room → (x : ℕ) → x < first
+    {file places input w w′ ts : List ℕ} {first i : ℕ} → Noted file places input w w′ first ts i → (x : ℕ) → x < first
     → notedPlace w′ x ≡ notedPlace w x
 noted-before noted x l =
     let low = noted .elsewhere (5 * x + 4) (λ m less. (omega arith, omega arith)) in
@@ -55,8 +56,8 @@ noted-before noted x l =
 
 -- Notes in cells that no bound part has: every part stays in its cell, and the words stand for the same input.
 module _
-    {types : Types} {ss : List Slot} {file places input w w′ ts : List ℕ} {top first i room : ℕ} {e : Parts} (cells : Cells types ss w top e)
-    (noted : Noted file places input w w′ first ts i room) (below : (r : Place) (c k : ℕ) → at e r ≡ has c k → cellOf w r < first)
+    {types : Types} {ss : List Slot} {file places input w w′ ts : List ℕ} {top first i : ℕ} {e : Parts} (cells : Cells types ss w top e)
+    (noted : Noted file places input w w′ first ts i) (below : (r : Place) (c k : ℕ) → at e r ≡ has c k → cellOf w r < first)
   where
     -- words 0, 2 and 3 of every cell
     kept : (x n : ℕ) → n < 5 → n ≢ 1 → n ≢ 4 → cellWord w′ x n ≡ cellWord w x n
@@ -93,43 +94,31 @@ open-places n r t = by-place (bind-places here 0 n (opened end) (inside r) refl 
 -- The parameters' open cells, and in these the places from the first byte on, as `note_values` notes them: the words stand for the input with every
 -- parameter open, and follow the closed one.
 pub start-follows :
-    {p : Program} {file types functions : List ℕ} (placed : Placed p file types functions) (input : List ℕ) {j : Parts}
-    {v w′ ts : List ℕ} {n depth : ℕ} → inputOf p input ≡ some j → ts ≡ sourceTypes p → depth ≡ p .depth → length ts ≡ n
-    → Cells (map (typeAt file) types) (sourceSlots p) v n (allOpen n) → Noted file types input v w′ 0 ts 0 depth
-    → FollowsInput (map (typeAt file) types) (sourceSlots p) w′ n (allOpen n) j
-start-follows {p} {file} {types} {functions} placed input {j} {v} {w′} {ts} {n} {depth} reads source deep count cells noted = record {
+    {p : Program} (file types : List ℕ) → check file ≡ accepted p → p .types ≡ map (typeAt file) types → (input : List ℕ) {j : Parts} {v w′ ts : List ℕ} {n : ℕ}
+    → inputOf p input ≡ some j → ts ≡ sourceTypes p → length ts ≡ n → Cells (map (typeAt file) types) (sourceSlots p) v n (allOpen n)
+    → Noted file types input v w′ 0 ts 0 → FollowsInput (map (typeAt file) types) (sourceSlots p) w′ n (allOpen n) j
+start-follows {p} file types checked there input {j} {v} {w′} {ts} {n} reads source count cells noted = record {
   cells = noted-cells cells noted (λ r c k h. absurd (open-unbound n r h));
-  below = rw (← count, ← (row-width known input depth ts 0 whole)) (open-least j);
+  below = rw (← count, ← (typed-width (p .types) ts j (rw source (input-stands file checked input reads .typed)))) (open-least j);
   notes = λ r h. by-part r (open-places n r (free-there h));
 }
   where
-    known : Types
-    known = map (typeAt file) types
-
-    next : ℕ
-    next = input-row placed input reads .0
-
-    whole : row known depth ts input 0 ≡ got j next
-    whole =
-        let same : row known depth ts input 0 ≡ sourceRow file types functions (p .source) (p .depth) input = rw (source, deep, placed .source-there) in
-        same ∙ input-row placed input reads .1
+    whole : RowStands (map (typeAt file) types) ts input 0 j
+    whole = rw (source, ← there) (input-stands file checked input reads)
 
     by-part : (r : Place) → OneOf n part r → notedPlace w′ (cellOf w′ r) ≡ byteOf j r 0
     by-part r f =
         let cell : cellOf w′ r ≡ 0 + f .0 = ap (cellOf w′) (f .2) ∙ walk-part w′ 0 (f .0) in
-        rw cell (noted .there j next whole (f .0) (omega (arith, f .1)) ∙ ap (λ q. byteOf j q 0) (sym (f .2)))
+        rw cell (noted .there (subst OpenApart there (open-apart file p checked)) j whole (f .0) (omega (arith, f .1)) ∙ ap (λ q. byteOf j q 0) (sym (f .2)))
 
--- At an open part of the input whose place is noted a value of the closed input j stands, of the type and no deeper than its cell says; its fields are
--- from the next byte on.
+-- At an open part of the input whose place is noted a value of the closed input j stands, of the type that its cell says; its fields are from the next byte on.
 pub record OpenStands (types : Types) (ss : List Slot) (input w : List ℕ) (e j : Parts) (q : Place) : Type 0 where
   pub slot : Slot
   pub slot-there : slotAt types e q ss ≡ some slot
-  pub others : List ℕ
+  pub deep : 0 < cellWord w (cellOf w q) 3
   pub number : ℕ
   pub fields : Parts
-  pub rest : Parts
-  pub next : ℕ
-  pub stands : ValueStands types (cellWord w (cellOf w q) 3) (cellWord w (cellOf w q) 2) others input (notedPlace w (cellOf w q)) number fields rest next
+  pub stands : ValueStands types (cellWord w (cellOf w q) 2) input (notedPlace w (cellOf w q)) number fields
   pub seen : at j q ≡ has number (length (stands .fields))
   pub field-parts : (r : Place) → byteOf j (within q r) 0 ≡ byteOf fields r (notedPlace w (cellOf w q) + 1)
 
@@ -140,20 +129,15 @@ open-by :
 open-by p there type room place = record {
   slot = p .slot;
   slot-there = there;
-  others = p .others;
+  deep = rw room (p .deep);
   number = p .number;
   fields = p .fields;
-  rest = p .rest;
-  next = p .next;
   stands = record {
     in-bytes = rw place (p .stands .in-bytes);
     number = rw place (p .stands .number);
-    deep = rw room (p .stands .deep);
     fields = p .stands .fields;
     known = rw type (p .stands .known);
-    behind = p .stands .behind;
-    inner = rw (room, place) (p .stands .inner);
-    outer = rw room (p .stands .outer);
+    inner = rw place (p .stands .inner);
   };
   seen = p .seen;
   field-parts = rw place (p .field-parts);
@@ -161,12 +145,12 @@ open-by p there type room place = record {
 
 -- so it is where the input is bound as its closed bytes say
 pub open-stands :
-    {p : Program} {file types functions : List ℕ} (placed : Placed p file types functions) (input : List ℕ) {w : List ℕ} {top : ℕ} {e j : Parts}
+    {p : Program} (file types : List ℕ) → check file ≡ accepted p → p .types ≡ map (typeAt file) types → (input : List ℕ) {w : List ℕ} {top : ℕ} {e j : Parts}
     → inputOf p input ≡ some j → (q : Place) → FollowsInput (map (typeAt file) types) (sourceSlots p) w top e j → at e q ≡ free
     → OpenStands (map (typeAt file) types) (sourceSlots p) input w e j q
-open-stands {p} {file} {types} placed input {w} {e = e} {j} reads q follows unbound =
+open-stands {p} file types checked types-there input {w} {e = e} {j} reads q follows unbound =
     let there = free-there unbound in
-    let stands = input-part placed input reads q (⊑-there (follows .below) q there) in
+    let stands = subst (λ (known : Types). PartStands known input j q (sourceSlots p) 0) types-there (input-part file checked input reads q (⊑-there (follows .below) q there)) in
     let slot : slotAt (map (typeAt file) types) e q (sourceSlots p) ≡ some (stands .slot) =
     sym (⊑-slot (map (typeAt file) types) (follows .below) q (sourceSlots p) there) ∙ stands .slot-there in
     let says = follows .cells .slot q (stands .slot) there slot in
@@ -176,18 +160,17 @@ open-stands {p} {file} {types} placed input {w} {e = e} {j} reads q follows unbo
 -- in these the places from the next byte on, as `note_values` notes them: the words stand for the input with the part bound, which the closed input
 -- still completes, every part is in the cell where it was, and in each open one is noted where its value stands.
 module _
-    {file types input w v w′ : List ℕ} {ss : List Slot} {top c k i room : ℕ} {e j : Parts} (fields : ℕ) (q : Place)
+    {file types input w v w′ : List ℕ} {ss : List Slot} {top c k i : ℕ} {e j : Parts} (few : OpenApart (map (typeAt file) types)) (fields : ℕ) (q : Place)
     (follows : FollowsInput (map (typeAt file) types) ss w top e j) (unbound : at e q ≡ free)
     (open-part : OpenStands (map (typeAt file) types) ss input w e j q) (constructor : c ≡ open-part .number)
     (typed : bytesAt file fields k ≡ open-part .stands .fields) (fits : 5 * (top + k) ≤ length w)
     (binds : Binds w v (cellOf w q) c top k (bytesAt file fields k) (cellWord w (cellOf w q) 3 - 1))
-    (place : i ≡ notedPlace w (cellOf w q)) (deep : room ≡ cellWord w (cellOf w q) 3 - 1)
-    (noted : Noted file types input v w′ top (bytesAt file fields k) (i + 1) room)
+    (place : i ≡ notedPlace w (cellOf w q)) (noted : Noted file types input v w′ top (bytesAt file fields k) (i + 1))
   where
     after-bind : Cells (map (typeAt file) types) ss v (top + k) (bindAt q c k e) × Unmoved w v e × ((n : ℕ) → cellOf v (field q n) ≡ top + n)
     after-bind =
         let says = follows .cells .slot q (open-part .slot) (free-there unbound) (open-part .slot-there) in
-        bound-cells file fields q (follows .cells) unbound (open-part .slot-there) (omega (arith, says .1, open-part .stands .deep))
+        bound-cells file fields q (follows .cells) unbound (open-part .slot-there) (omega (arith, says .1, open-part .deep))
         (rw (constructor, ← (says .0)) (open-part .stands .known)) (sym typed) fits binds
 
     -- every bound part has a cell below the old top
@@ -220,7 +203,7 @@ module _
     -- a field's place is noted in its new cell
     new-note : (n : ℕ) → n < k → notedPlace w′ (top + n) ≡ byteOf j (field q n) 0
     new-note n l =
-        noted .there (open-part .fields) (open-part .stands .behind) (rw (typed, place, deep) (open-part .stands .inner)) n (omega (arith, bytes-length file fields k))
+        noted .there few (open-part .fields) (rw (typed, place) (open-part .stands .inner)) n (omega (arith, bytes-length file fields k))
         ∙ rw place (sym (open-part .field-parts (part n)))
 
     notes : NotesStand w′ (bindAt q c k e) j

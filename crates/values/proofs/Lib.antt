@@ -1,2 +1,3 @@
+pub mod Standing
 pub mod Noting
 pub mod Binding

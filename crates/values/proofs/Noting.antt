@@ -1,28 +1,22 @@
 -- Noting where the values of a row stand, one after the other: one note, and what the loop over a row of values has noted so far.
--- Rests on specs/Notes, on the inputs' Closed and Positions, and on reach's Slots.
+-- Rests on specs/Notes and on Standing.
 use Prim.Native.Nat.{ℕ, _+_, _*_, _-_, _/_, _%_, _≤_, _<_}
 use mathlib.Core.Path.{_≡_, refl, sym, _∙_, ap}
 use mathlib.Core.List.{List, map}
 use mathlib.Core.Logic.{_≢_}
-use mathlib.Core.Option.{some, Option·some-injective}
 use native.Mathlib.Numerals.{add-one}
 use native.Mathlib.Omega.{arith}
 use lib.ListN.{length, getD, set, length-set}
 use lib.Seq.{getD-set-same, getD-set-other}
 use borrow.Author.Count.{below-more}
-use Rattle.reach.specs.Parts.{Parts, width, part}
-use Rattle.reach.specs.Types.{Slot, slots}
-use Rattle.reach.specs.Reader.{got}
-use Rattle.reach.specs.Input.{row}
+use Rattle.reach.specs.Parts.{Parts, part}
+use Rattle.reach.specs.Partial.{OpenApart}
 use Rattle.reach.specs.Places.{bytesAt, typeAt}
-use Rattle.reach.proofs.Order.{part-there}
 use Rattle.reach.proofs.Places.{bytes-length}
-use Rattle.reach.proofs.Slots.{slots-nth, part-slot}
 use Rattle.cells.proofs.Writing.{bytes-nth}
-use Rattle.inputs.proofs.Closed.{ValueStands, row-width, value-answer}
-use Rattle.inputs.specs.Positions.{byteOf}
-use Rattle.inputs.proofs.Positions.{following-part, part-stands}
-use Rattle.values.specs.Notes.{notedPlace, notePlace, placeOr, behindValue, NotedFirst}
+use Rattle.values.specs.Positions.{RowStands, byteOf}
+use Rattle.values.specs.Notes.{notedPlace, notePlace, behindValue, NotedFirst}
+use Rattle.values.proofs.Standing.{next-read}
 
 -- One note.
 
@@ -48,47 +42,37 @@ module _ (w : List ℕ) (x i : ℕ) where
 
 -- The next value of a row.
 
--- behind a value that stands there the rest of its row begins
-pub behind-stands :
-    (file types input : List ℕ) {d t d′ t′ : ℕ} {ts : List ℕ} {i i′ c : ℕ} {fs r : Parts} {next : ℕ} (v : ValueStands (map (typeAt file) types) d t ts input i c fs r next)
-    → i′ ≡ i → t ≡ t′ → d ≡ d′ → behindValue file types input i′ t′ d′ ≡ v .behind
-unfolding behindValue
-behind-stands file types input {i = i} v place type room = rw (place, ← type, ← room) (ap (placeOr i) (value-answer file types input v refl))
-
-module _ (file types input : List ℕ) (ts : List ℕ) (at room : ℕ) where
-  -- where a row is read, value n of it stands at this place
+module _ (file types input : List ℕ) (ts : List ℕ) (at : ℕ) where
+  -- where a row stands, value n of it stands at this place
   abbrev pub Reached : ℕ → ℕ → Type 0
-  Reached n place = (j : Parts) (next : ℕ) → row (map (typeAt file) types) room ts input at ≡ got j next → place ≡ byteOf j (part n) at
+  Reached n place = OpenApart (map (typeAt file) types) → (j : Parts) → RowStands (map (typeAt file) types) ts input at j → place ≡ byteOf j (part n) at
 
   pub reached-first : Reached 0 at
   unfolding byteOf part
-  reached-first j next e = refl
+  reached-first few j row = refl
 
   -- behind a value stands the next one
-  pub reached-next : (n : ℕ) {place : ℕ} → n < length ts → Reached n place → Reached (n + 1) (behindValue file types input place (getD ts n 0) room)
-  reached-next n l reached j next e =
-      let known = map (typeAt file) types in
-      let wide : n < width j = omega (arith, row-width known input room ts at e) in
-      let p = part-stands known input j (part n) room ts at e (part-there j n wide) in
-      let slot = Option·some-injective _ _ (sym (p .slot-there) ∙ part-slot known j n (slots ts room) wide ∙ slots-nth ts room n l) in
-      behind-stands file types input (p .stands) (reached j next e) (ap (λ (s : Slot). s .type) slot) (ap (λ (s : Slot). s .room) slot) ∙ sym (p .next-part)
-      ∙ ap (λ q. byteOf j q at) (following-part n ∙ ap part (sym (add-one n)))
+  pub reached-next : (n : ℕ) {place : ℕ} → n < length ts → Reached n place → Reached (n + 1) (behindValue file types input place (getD ts n 0))
+  unfolding behindValue
+  reached-next n l reached few j row =
+      let (v, read) = next-read few j n ts at row l in
+      rw (reached few j row, read) (ap (λ (m : ℕ). byteOf j (part m) at) (sym (add-one n)))
 
   module _ (first : ℕ) where
-    pub noted-none : (w : List ℕ) → NotedFirst file types input w w first ts at room 0
-    noted-none w = record { same-length = refl; elsewhere = λ i out. refl; there = λ j next e m l. absurd (omega arith) }
+    pub noted-none : (w : List ℕ) → NotedFirst file types input w w first ts at 0
+    noted-none w = record { same-length = refl; elsewhere = λ i out. refl; there = λ few j row m l. absurd (omega arith) }
 
     -- one more place noted
     pub noted-more :
-        {w v : List ℕ} {n place : ℕ} → NotedFirst file types input w v first ts at room n → Reached n place → 5 * (first + n) + 5 ≤ length v
-        → NotedFirst file types input w (notePlace v (first + n) place) first ts at room (n + 1)
+        {w v : List ℕ} {n place : ℕ} → NotedFirst file types input w v first ts at n → Reached n place → 5 * (first + n) + 5 ≤ length v
+        → NotedFirst file types input w (notePlace v (first + n) place) first ts at (n + 1)
     noted-more {w} {v} {n} {place} noted reached fits = record {
       same-length = note-length v _ _ ∙ noted .same-length;
       elsewhere = λ i out.
           note-other v (first + n) place i (out n (omega arith) .0) (out n (omega arith) .1)
           ∙ noted .elsewhere i (λ m l. out m (omega arith));
-      there = λ j next e.
-          below-more _ _ (λ m l. kept m l ∙ noted .there j next e m l) (note-there v _ _ fits ∙ reached j next e);
+      there = λ few j row.
+          below-more _ _ (λ m l. kept m l ∙ noted .there few j row m l) (note-there v _ _ fits ∙ reached few j row);
     }
       where
         -- the cells before keep what is noted in them
@@ -99,23 +83,23 @@ module _ (file types input : List ℕ) (ts : List ℕ) (at room : ℕ) where
             rw (low, high)
 
 -- the same where the types are bytes of the file, of which `more` are left: the next cell is noted, and the next type is the byte at the next place
-module _ (file types input : List ℕ) (fields k at room more : ℕ) (some : 0 < more) (left : more ≤ k) where
+module _ (file types input : List ℕ) (fields k at more : ℕ) (some : 0 < more) (left : more ≤ k) where
   pub noted-next :
-      {w v v′ : List ℕ} {place : ℕ} (first cell : ℕ) → NotedFirst file types input w v first (bytesAt file fields k) at room (k - more)
-      → Reached file types input (bytesAt file fields k) at room (k - more) place → 5 * (first + k) ≤ length w → cell + more ≡ first + k
-      → v′ ≡ notePlace v cell place → NotedFirst file types input w v′ first (bytesAt file fields k) at room (k - (more - 1))
+      {w v v′ : List ℕ} {place : ℕ} (first cell : ℕ) → NotedFirst file types input w v first (bytesAt file fields k) at (k - more)
+      → Reached file types input (bytesAt file fields k) at (k - more) place → 5 * (first + k) ≤ length w → cell + more ≡ first + k
+      → v′ ≡ notePlace v cell place → NotedFirst file types input w v′ first (bytesAt file fields k) at (k - (more - 1))
   noted-next first cell noted reached fits number written =
       let n = k - more in
       let count : k - (more - 1) ≡ n + 1 = omega arith in
       let spot : cell ≡ first + n = omega arith in
-      rw (written, count, spot) (noted-more file types input (bytesAt file fields k) at room first noted reached (omega (arith, noted .same-length)))
+      rw (written, count, spot) (noted-more file types input (bytesAt file fields k) at first noted reached (omega (arith, noted .same-length)))
 
   pub reached-more :
-      {place next t : ℕ} (field : ℕ) → Reached file types input (bytesAt file fields k) at room (k - more) place → field + more ≡ fields + k
-      → t ≡ getD file field 0 → next ≡ behindValue file types input place t room → Reached file types input (bytesAt file fields k) at room (k - (more - 1)) next
+      {place next t : ℕ} (field : ℕ) → Reached file types input (bytesAt file fields k) at (k - more) place → field + more ≡ fields + k
+      → t ≡ getD file field 0 → next ≡ behindValue file types input place t → Reached file types input (bytesAt file fields k) at (k - (more - 1)) next
   reached-more field reached number read told =
       let n = k - more in
       let count : k - (more - 1) ≡ n + 1 = omega arith in
       let spot : field ≡ fields + n = omega arith in
       let typed : getD (bytesAt file fields k) n 0 ≡ getD file (fields + n) 0 = bytes-nth file fields k n (omega arith) in
-      rw (told, count, read, spot, ← typed) (reached-next file types input (bytesAt file fields k) at room n (omega (arith, bytes-length file fields k)) reached)
+      rw (told, count, read, spot, ← typed) (reached-next file types input (bytesAt file fields k) at n (omega (arith, bytes-length file fields k)) reached)

@@ -1,15 +1,15 @@
 // Where the values of a closed input stand, noted in the open cells: the low half of the place in word 4, the high half in word 1,
-// which a bound cell needs for its first field and an open one does not. Rests on crates marks, machine and inputs;
-// the definitions also on cells.
+// which a bound cell needs for its first field and an open one does not. Rests on crates marks, machine and partials,
+// the proofs also on cells.
 ghost use mathlib.Core.Path.{_≡_};
 ghost use Prim.Native.Nat.{_+_, _*_, _≤_, _<_};
 ghost use lib.ListN.{length};
 ghost use Rattle.reach.specs.Places.{bytesAt};
 ghost use Rattle.values.specs.Notes.{Noted, notedPlace, notePlace, behindValue};
-use inputs::Behind;
-use inputs::value;
 use machine::cell_word;
 use marks::byte_or_zero;
+use partials::Measured;
+use partials::value;
 
 // The place that is noted in an open cell.
 pub fn noted(work: &[u32], cell: usize) -> usize
@@ -29,7 +29,7 @@ fn note(work: &mut [u32], cell: usize, place: usize)
 }
 
 // Notes in the k cells from `first` on where their values stand, one behind the other from a place of the input on; the values' types
-// stand from a place of the file on, and each value is at most so deep.
+// stand from a place of the file on.
 pub fn note_values<'a>(
     file: &'a [u8],
     types: &'a [u16],
@@ -39,10 +39,9 @@ pub fn note_values<'a>(
     fields: usize,
     k: usize,
     at: usize,
-    room: usize,
 )
     requires { ⌜ (5 * (first + k) ≤ length (now work)) × (k ≤ 255) × (fields ≤ 1000000) ⌝ }
-    ensures { λ _. ⌜ Noted (now (file .entry)) (now (types .entry)) (now (input .entry)) (now (work .entry)) (now (work .exit)) first (bytesAt (now (file .entry)) fields k) at room ⌝ }
+    ensures { λ _. ⌜ Noted (now (file .entry)) (now (types .entry)) (now (input .entry)) (now (work .entry)) (now (work .exit)) first (bytesAt (now (file .entry)) fields k) at ⌝ }
 {
     let mut cell = first;
     let mut field = fields;
@@ -51,25 +50,18 @@ pub fn note_values<'a>(
     while 0 < more {
         note(work, cell, place);
         let t = byte_or_zero(file, field);
-        place = next_place(file, types, input, place, t, room, more);
+        place = next_place(file, types, input, place, t, more);
         cell += 1;
         field += 1;
         more -= 1;
     }
 }
 
-// The place behind the value of type t that stands at a place, or that place where there is none.
-fn behind_value<'a>(
-    file: &'a [u8],
-    types: &'a [u16],
-    input: &'a [u8],
-    at: usize,
-    t: usize,
-    room: usize,
-) -> usize
-    ensures { λ r. ⌜ r ≡ behindValue (now (file .entry)) (now (types .entry)) (now (input .entry)) at t room ⌝ }
+// The place behind the closed value of type t that stands at a place, or that place where there is none. The empty table says that nothing may be open.
+fn behind_value<'a>(file: &'a [u8], types: &'a [u16], input: &'a [u8], at: usize, t: usize) -> usize
+    ensures { λ r. ⌜ r ≡ behindValue (now (file .entry)) (now (types .entry)) (now (input .entry)) at t ⌝ }
 {
-    let Behind::At(next) = value(file, types, input, at, t, room) else {
+    let Measured::At(next, _) = value(file, types, &input[..0], input, at, t, 64) else {
         return at;
     };
     next
@@ -82,13 +74,12 @@ fn next_place<'a>(
     input: &'a [u8],
     at: usize,
     t: usize,
-    room: usize,
     left: usize,
 ) -> usize
-    ensures { λ r. ⌜ (1 < left → r ≡ behindValue (now (file .entry)) (now (types .entry)) (now (input .entry)) at t room) ⌝ }
+    ensures { λ r. ⌜ (1 < left → r ≡ behindValue (now (file .entry)) (now (types .entry)) (now (input .entry)) at t) ⌝ }
 {
     if left <= 1 {
         return at;
     }
-    behind_value(file, types, input, at, t, room)
+    behind_value(file, types, input, at, t)
 }

@@ -51,7 +51,9 @@ fn names_that_no_case_covers() {
     let wanted = r#"{"kind":"missing","steps":3,"parameters":["zero"]}"#;
     assert_eq!(called.lines(0), [wanted]);
     let called = call_with(&["run", "-", "zero"], uncovered.as_bytes());
-    let wanted = "missing an alternative after 3 steps, within depth 4, 20 steps: no case covers the input, which stops there, off target.";
+    let wanted =
+        "missing an alternative after 3 steps on an input of depth 1, within depth 4, 20 steps: \
+                  no case covers the input, which stops there, off target.";
     assert_eq!(called.lines(1), [wanted]);
 }
 
@@ -108,7 +110,7 @@ fn json_and_entries_by_names() {
 #[test]
 fn runs_by_names() {
     let text = path("examples/p.txt");
-    let reached = "reached after 6 steps, within depth 4, 20 steps.";
+    let reached = "reached after 6 steps on an input of depth 3, within depth 4, 20 steps.";
     assert_eq!(call(&["run", &text, "suc (suc zero)"]).lines(0), [reached]);
     assert_eq!(call(&["run", &text, "1 1 0"]).lines(0), [reached]);
     assert_eq!(call(&["run", &text, "zero"]).status, Some(1));
@@ -121,7 +123,10 @@ fn runs_by_names() {
     // too deep is a refusal, as it is for a rule file
     let deep = "suc (suc (suc (suc zero)))";
     assert!(call(&["run", &text, deep]).lines(3)[0].starts_with("refused 10 input"));
-    assert_eq!(call(&["run", &text, deep, "--depth", "5"]).status, Some(0));
+    assert_eq!(
+        call(&["run", &text, deep, "--depth", "5"]).lines(0),
+        ["reached after 6 steps on an input of depth 5, within depth 5, 20 steps."]
+    );
 }
 
 /// A depth above that of the text: its entries have their names too.

@@ -108,10 +108,13 @@ fn missing() {
 fn a_run_into_a_missing_alternative() {
     let rule = Scratch::file("run.rule", &uncovered());
     let called = call(&["run", rule.name(), "0", "--steps", "3"]);
-    let wanted = "missing an alternative after 3 steps, within depth 4, 3 steps: no case covers the input, which stops there, off target.";
+    let wanted =
+        "missing an alternative after 3 steps on an input of depth 1, within depth 4, 3 steps: \
+                  no case covers the input, which stops there, off target.";
     assert_eq!(called.lines(1), [wanted]);
     let called = call(&["run", rule.name(), "0", "--steps", "2"]);
-    assert!(called.lines(2)[0].starts_with("unfinished after 2 steps, within depth 4, 2 steps: "));
+    assert!(called.lines(2)[0]
+        .starts_with("unfinished after 2 steps on an input of depth 1, within depth 4, 2 steps: "));
 }
 
 /// D and S of the command line give what a rule file with these D and S gives.
@@ -146,24 +149,44 @@ fn runs() {
     };
     assert_eq!(
         run(&["1", "1", "0"], 0),
-        "reached after 6 steps, within depth 4, 20 steps."
+        "reached after 6 steps on an input of depth 3, within depth 4, 20 steps."
     );
     assert_eq!(
         run(&["1 1", " 0"], 0),
-        "reached after 6 steps, within depth 4, 20 steps."
+        "reached after 6 steps on an input of depth 3, within depth 4, 20 steps."
     );
     assert_eq!(
         run(&["0"], 1),
-        "ended off target after 3 steps, within depth 4, 20 steps."
+        "ended off target after 3 steps on an input of depth 1, within depth 4, 20 steps."
     );
     let open =
-        "unfinished after 5 steps, within depth 3, 5 steps: whether the input reaches the target, \
+        "unfinished after 5 steps on an input of depth 3, within depth 3, 5 steps: whether the input reaches the target, \
                 or runs into a missing alternative, is not known; a larger --steps may tell.";
     assert_eq!(run(&["1 1 0", "--steps", "5", "--depth", "3"], 2), open);
-    assert_eq!(
-        call(&["run", &Stored::named("no_parameters_found").rule]).status,
-        Some(0)
-    );
+}
+
+/// The depth of the deepest value, which is 0 where there is none; and none where the input is refused.
+#[test]
+fn how_deep_an_input_is() {
+    let without = call(&["run", &Stored::named("no_parameters_found").rule]);
+    assert!(without.lines(0)[0].contains(" on an input of depth 0, within depth "));
+    let deepest = "1 1 1 0";
+    let rule = Stored::named("equal_numbers").rule;
+    for values in [["0", deepest], [deepest, "1 0"]] {
+        let called = call(&["run", &rule, values[0], values[1]]);
+        let wanted = " on an input of depth 4, within depth 6, 40 steps.";
+        assert!(called.lines(1)[0].ends_with(wanted), "{called:?}");
+    }
+    let rule = path("examples/p.rule");
+    let called = call(&["run", &rule, "--depth", "3", deepest]);
+    assert!(called.lines(3).iter().all(|line| !line.contains("depth")));
+    let called = call(&["run", &rule, "--depth", "4", deepest]);
+    assert!(called.lines(0)[0].contains(" on an input of depth 4, within depth 4, "));
+    let number = |depth: usize| "1 ".repeat(depth - 1) + "0";
+    let called = call(&["run", &rule, "--depth", "64", &number(64)]);
+    assert!(called.lines(0)[0].contains(" on an input of depth 64, within depth 64, "));
+    let called = call(&["run", &rule, "--depth", "64", &number(65)]);
+    assert!(called.lines(3)[0].starts_with("refused 10 input"));
 }
 
 /// A search that is given up has no verdict: no word of one is printed.

@@ -2,6 +2,7 @@
 use Prim.Native.Nat.{ℕ, _+_}
 use mathlib.Core.Path.{_≡_, refl, ap}
 use mathlib.Core.Bool.{false}
+use lib.ListN.{length}
 use lib.Dec.{eqb}
 use native.Mathlib.Omega.{arith}
 use borrow.Author.Needs.{needs}
@@ -26,36 +27,40 @@ returns c =
     let args = c .before .before .before .before .before .before .args in
     entry-late (args .file .now) (args .types .now) (args .functions .now) (args .least .of) (args .list .now) (args .source) (args .depth) (args .steps) (args .at) (args .n) (c .before .before .before .before .before .before .pre) (omega (arith, c .before .word-at .ensures, c .if1 .taken))
 
-add-slots-fit : tie.Need-add-slots-fit
-add-slots-fit c =
-    let args = c .before .before .before .before .before .before .before .args in
-    omega (arith, entry-inside (args .file .now) (args .types .now) (args .functions .now) (args .least .of) (args .list .now) (args .source) (args .depth) (args .steps) (args .at) (args .n) (c .before .before .before .before .before .before .before .pre) .0)
+add-slots : tie.Need-add-slots
+add-slots c =
+    let args = c .before .before .before .before .before .before .before .before .before .args in
+    omega (arith, entry-inside (args .file .now) (args .types .now) (args .functions .now) (args .least .of) (args .list .now) (args .source) (args .depth) (args .steps) (args .at) (args .n) (c .before .before .before .before .before .before .before .before .before .pre) .0)
+
+-- the table has a number for each type that there may be
+long : (c : tie.Start) → length (c .args .least .of) ≡ 32
+long c = search needs
 
 returns-2 : tie.Need-returns-2
 returns-2 c =
-    let args = c .before .before .before .before .before .before .before .before .before .before .args in
-    let head = c .before .before .before .head-of in
-    let told = rw (parameters-are _ (head .result) (head .ensures .0)) at (c .before .before .slots-fit .ensures) in
+    let args = c .before .before .before .before .before .before .before .before .before .before .before .before .args in
+    let head = c .before .before .before .before .before .head-of in
+    let told = rw (parameters-are _ (head .result) (head .ensures .0)) at (c .before .before .slots .ensures) in
     let is = c .enum-told .given .1 in
-    entry-told (args .file .now) (args .types .now) (args .functions .now) (args .least .of) (args .list .now) (args .source) (args .depth) (args .steps) (args .at) (args .n) (c .before .before .before .before .before .before .before .before .before .before .pre) (omega (arith, c .before .before .before .before .before .word-at .ensures, c .before .before .before .before .if1 .left)) told false (λ place e. absurd (clash (cc (is, e)))) (λ e. refl)
+    entry-told (args .file .now) (args .types .now) (args .functions .now) (args .least .of) (args .list .now) (args .source) (args .depth) (args .steps) (args .at) (args .n) (c .before .before .before .before .before .before .before .before .before .before .before .before .pre) (omega (arith, c .before .before .before .before .before .before .before .word-at .ensures, c .before .before .before .before .before .before .if1 .left)) (λ e. clash (omega (arith, e, long (c .before .before .before .before .before .before .before .before .before .before .before .before)))) told false (λ place deep e. absurd (clash (cc (is, e)))) (λ e. refl)
 
 add-result : tie.Need-add-result
 add-result c =
-    let args = c .before .before .before .before .before .before .before .before .before .before .before .args in
-    omega (arith, entry-inside (args .file .now) (args .types .now) (args .functions .now) (args .least .of) (args .list .now) (args .source) (args .depth) (args .steps) (args .at) (args .n) (c .before .before .before .before .before .before .before .before .before .before .before .pre) .1)
+    let args = c .before .before .before .before .before .before .before .before .before .before .before .before .before .args in
+    omega (arith, c .before .before .before .before .before .before .before .before .before .before .before .before .before .good, entry-inside (args .file .now) (args .types .now) (args .functions .now) (args .least .of) (args .list .now) (args .source) (args .depth) (args .steps) (args .at) (args .n) (c .before .before .before .before .before .before .before .before .before .before .before .before .before .pre) .1)
 
 returns-3 : tie.Need-returns-3
 returns-3 c =
-    let args = c .before .before .before .before .before .before .before .before .before .before .before .args in
-    let head = c .before .before .before .before .head-of in
-    let told = rw (parameters-are _ (head .result) (head .ensures .0)) at (c .before .before .before .slots-fit .ensures) in
+    let args = c .before .before .before .before .before .before .before .before .before .before .before .before .before .args in
+    let head = c .before .before .before .before .before .before .head-of in
+    let told = rw (parameters-are _ (head .result) (head .ensures .0)) at (c .before .before .before .slots .ensures) in
     let is = c .before .place .given .1 in
-    entry-told (args .file .now) (args .types .now) (args .functions .now) (args .least .of) (args .list .now) (args .source) (args .depth) (args .steps) (args .at) (args .n) (c .before .before .before .before .before .before .before .before .before .before .before .pre) (omega (arith, c .before .before .before .before .before .before .word-at .ensures, c .before .before .before .before .before .if1 .left)) told _
-    (λ place e. let same : c .before .place .given .0 .0 ≡ place = cc (is, e) in ap (λ (x : ℕ). eqb x (args .at + c .before .before .before .before .before .before .before .before .before .before .before .args .n)) same)
+    entry-told (args .file .now) (args .types .now) (args .functions .now) (args .least .of) (args .list .now) (args .source) (args .depth) (args .steps) (args .at) (args .n) (c .before .before .before .before .before .before .before .before .before .before .before .before .before .pre) (omega (arith, c .before .before .before .before .before .before .before .before .word-at .ensures, c .before .before .before .before .before .before .before .if1 .left)) (λ e. clash (omega (arith, e, long (c .before .before .before .before .before .before .before .before .before .before .before .before .before)))) told _
+    (λ place deep e. let same : c .before .place .given .0 .0 ≡ place = cc (is, e) in ap (λ (x : ℕ). eqb x (args .at + c .before .before .before .before .before .before .before .before .before .before .before .before .before .args .n)) same)
     (λ e. absurd (clash (cc (is, e))))
 
 pub entry-fits-spec : {M : Type 1} → statement M
 entry-fits-spec =
     tie.close
-    (tie.spec add-word-at word-at-requires returns (λ c κs. search needs) add-slots-fit (λ c κs. search needs) (λ c. search needs) (λ c. search needs) returns-2 add-result
+    (tie.spec add-word-at word-at-requires returns (λ c κs. search needs) (λ c. search needs) add-slots (λ c κs. search needs) (λ c. search needs) (λ c. search needs) returns-2 add-result
     returns-3)

@@ -18,7 +18,7 @@ returns-2 : tie.Need-returns-2
 returns-2 c =
     let a = c .before .before .before .before .before .before .before .before .before .before .before .before .args in
     let ended = c .before .before .before .before .before .before .before .run .ensures in
-    record { number-is = rw (c .steps-of .ensures .0, c .before .outcome-number .ensures .0) (ran-number (runAnswer (a .file .now) (a .input .now) (length (a .work .now))) _ (sym (c .before .before .before .outcome .given .1) ∙ ended .answer-is)); leaves = run-so ended }
+    record { number-is = rw (c .steps-of .ensures .0, c .before .outcome-number .ensures .0) (ran-number (runAnswer (a .file .now) (a .input .now) (length (a .work .now))) _ _ (sym (c .before .before .before .outcome .given .1) ∙ ended .answer-is)); leaves = run-so ended }
 
 pub remburai-run-spec : {M : Type 1} → statement M
 remburai-run-spec =
@@ -31,6 +31,9 @@ remburai-run-spec =
     (λ c κs. search needs)
     (λ c. search needs)
     (λ c κs. search needs)
+    (λ c. search needs)
+    (λ c. search needs)
+    (λ c. search needs)
     (λ c. search needs)
     (λ c. search needs)
     (λ c. search needs)

@@ -13,23 +13,23 @@ use Rattle.values.proofs.note_values.Statement.{statement}
 use Rattle.values.proofs.note_values.Tie as tie
 
 abbrev Inv-loop : tie.InvT-loop
-Inv-loop file types input work₀ first fields k at room cell₀ field₀ place₀ more₀ work cell field place more =
-    (NotedFirst file types input work₀ work first (bytesAt file fields k) at room (k - more))
-    × (0 < more → Reached file types input (bytesAt file fields k) at room (k - more) place)
+Inv-loop file types input work₀ first fields k at cell₀ field₀ place₀ more₀ work cell field place more =
+    (NotedFirst file types input work₀ work first (bytesAt file fields k) at (k - more))
+    × (0 < more → Reached file types input (bytesAt file fields k) at (k - more) place)
     × (cell + more ≡ first + k)
     × (field + more ≡ fields + k)
     × (more ≤ k)
 
 abbrev μ-loop : tie.MeasureT-loop
-μ-loop file types input work₀ first fields k at room cell₀ field₀ place₀ more₀ work cell field place more = more
+μ-loop file types input work₀ first fields k at cell₀ field₀ place₀ more₀ work cell field place more = more
 
 loop-holds : tie.Need-loop-holds Inv-loop μ-loop
 loop-holds c =
     let args = c .before .before .before .before .args in
     let none : args .k - args .k ≡ 0 = omega arith in
     let types = bytesAt (args .file .now) (args .fields) (args .k) in
-    let first = reached-first (args .file .now) (args .types .now) (args .input .now) types (args .at) (args .room) in
-    (rw none (noted-none _ _ _ _ _ _ _ _), λ some. rw none first, omega arith, omega arith, omega arith)
+    let first = reached-first (args .file .now) (args .types .now) (args .input .now) types (args .at) in
+    (rw none (noted-none _ _ _ _ _ _ _), λ some. rw none first, omega arith, omega arith, omega arith)
 
 note-requires : tie.Need-note-requires Inv-loop μ-loop
 note-requires c κs = omega (arith, c .before .before .loop .inv .0 .same-length)
@@ -39,8 +39,8 @@ loop-again c =
     let loop = c .before .before .before .before .before .before .before .loop in
     let taken = c .before .before .before .before .before .before .loop-test .taken in
     let fits = c .before .before .before .before .before .before .before .before .before .before .before .before .pre .0 in (
-      noted-next _ _ _ _ _ _ _ _ taken (loop .inv .4) _ _ (loop .inv .0) (loop .inv .1 taken) fits (loop .inv .2) (c .before .before .before .before .note .ensures),
-      λ some. reached-more _ _ _ _ _ _ _ _ taken (loop .inv .4) _ (loop .inv .1 taken) (loop .inv .3) (c .before .byte-or-zero .ensures) (c .next-place .ensures (omega arith)),
+      noted-next _ _ _ _ _ _ _ taken (loop .inv .4) _ _ (loop .inv .0) (loop .inv .1 taken) fits (loop .inv .2) (c .before .before .before .before .note .ensures),
+      λ some. reached-more _ _ _ _ _ _ _ taken (loop .inv .4) _ (loop .inv .1 taken) (loop .inv .3) (c .before .byte-or-zero .ensures) (c .next-place .ensures (omega arith)),
       omega arith,
       omega arith,
       omega arith,

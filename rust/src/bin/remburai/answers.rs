@@ -16,7 +16,7 @@ pub fn answer(request: &Request, out: &mut Output) -> Result<Status, Stop> {
     let given = Subject::of(request).and_then(|subject| match request.command {
         Command::List => list(request, &subject, out),
         Command::Entry => one_entry(request, &subject, out),
-        Command::Run => outcome(request, &subject, out),
+        Command::Run => closed_run(request, &subject, out),
         Command::Check => accepted(&subject, out),
         Command::Print => print(request, &subject, out),
     });
@@ -178,16 +178,16 @@ fn one_entry(request: &Request, subject: &Subject, out: &mut Output) -> Result<S
     Ok(Status::No)
 }
 
-fn outcome(request: &Request, subject: &Subject, out: &mut Output) -> Result<Status, Stop> {
+fn closed_run(request: &Request, subject: &Subject, out: &mut Output) -> Result<Status, Stop> {
     let input = match &subject.text {
         Some(text) => text.input(&request.more)?,
         None => numbers(request)?,
     };
     let goal = subject.rule.goal();
     let mut work = vec![0; work_words(goal.steps as usize)];
-    let outcome = run(&subject.file, &input, &mut work).map_err(Stop::Refused)?;
-    out.line(wording::outcome(outcome, goal))?;
-    Ok(outcome.into())
+    let ran = run(&subject.file, &input, &mut work).map_err(Stop::Refused)?;
+    out.line(wording::ran(ran, goal))?;
+    Ok(ran.outcome.into())
 }
 
 /// A closed input in numbers: the words of a request, or what stands between spaces in them.

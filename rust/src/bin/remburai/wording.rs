@@ -1,5 +1,5 @@
 //! What an answer stands for, in sentences: never without the depth and the step limit within which it holds.
-use remburai::{Goal, Outcome, Refusal, Total, Verdict, STEP_LIMIT};
+use remburai::{Goal, Outcome, Ran, Refusal, Total, Verdict, STEP_LIMIT};
 
 /// The depth and the step limit.
 pub fn limits(goal: Goal) -> String {
@@ -89,26 +89,21 @@ pub fn handed_in(goal: Goal) -> String {
     format!("what is printed speaks for the rule only if its search {within} returned this list")
 }
 
-/// What the outcome of a run stands for.
-pub fn outcome(outcome: Outcome, goal: Goal) -> String {
-    let within = within(goal);
-    match outcome {
-        Outcome::Reached(n) => format!("reached after {}, {within}.", steps(n)),
-        Outcome::Ended(n) => format!("ended off target after {}, {within}.", steps(n)),
+/// What the outcome of a run stands for, and how deep its input goes.
+pub fn ran(ran: Ran, goal: Goal) -> String {
+    let (depth, within) = (ran.depth, within(goal));
+    let after = |n| format!("after {} on an input of depth {depth}, {within}", steps(n));
+    match ran.outcome {
+        Outcome::Reached(n) => format!("reached {}.", after(n)),
+        Outcome::Ended(n) => format!("ended off target {}.", after(n)),
         Outcome::Missing(n) => {
             let uncovered = "no case covers the input, which stops there, off target";
-            format!(
-                "missing an alternative after {}, {within}: {uncovered}.",
-                steps(n)
-            )
+            format!("missing an alternative {}: {uncovered}.", after(n))
         }
         Outcome::Unfinished(n) => {
             let unknown = "whether the input reaches the target, or runs into a missing alternative, is not known";
             let more = more_steps(goal);
-            format!(
-                "unfinished after {}, {within}: {unknown}; {more}.",
-                steps(n)
-            )
+            format!("unfinished {}: {unknown}; {more}.", after(n))
         }
     }
 }
