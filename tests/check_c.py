@@ -5,6 +5,8 @@ docs/FORMAT.md, and `print` and `text`, built with the slices of reachlist, what
 verdict; with the library's whole limits they refuse by neither 11 nor 12 what reachlist does. The list's end is where the header says. The
 text of a list fits a slice of just its length, a shorter slice and a list that is too long are refused, and no other byte is changed. A run
 answers with its steps and with the depth of the input, 0 without parameters and 0 where it is refused, also on an input of a million bytes.
+`names` prints the names of rule files with a record NA, with the slices of namelist and with the library's own; their text is cut off where the
+slice is too short, words and list are left as by a search, and no other byte is changed.
 The version is one in header and Rust crate, and the library asks for memset and nothing else.
 
 It needs gcc, g++ and nm. The exit status is 1 where anything differs, and where there is nothing to compare.
@@ -20,6 +22,8 @@ sys.dont_write_bytecode = True
 
 from blind.build import call as calling, case, con, fn, go, target, ty, var
 from blind.compare import Different, same
+from check_format import dump, section
+from hand_names import NAMED
 
 ROOT = os.path.dirname(os.path.dirname(os.path.abspath(__file__)))
 STORED = os.path.join(ROOT, "tests", "reachlist")
@@ -107,6 +111,50 @@ int main(void) {
 }
 """
 
+# Standard input has per call the rule file behind its length, then the bytes of the list slice and those of the text slice, four bytes each, low
+# byte first. Printed are the answer, the refusal at the end of the text where all of it is there, whether words and list are those of a search,
+# whether all but the text is as before, and what there is of the text.
+NAMES = """
+#include <inttypes.h>
+#include <stdio.h>
+#include <string.h>
+#include "remburai.h"
+static uint8_t file[REMBURAI_FILE_LIMIT], list[2][4096], text[4 * 4096], before[sizeof text];
+static uint32_t work[2][16384];
+static size_t read_number(void) {
+    size_t number = 0;
+    int at;
+    for (at = 0; at < 4; at++)
+        number += (size_t)getchar() << 8 * at;
+    return number;
+}
+static void print_names(size_t file_length, size_t list_length, size_t text_length) {
+    memset(work, 0x5A, sizeof work);
+    memset(list, 0x5A, sizeof list);
+    memset(text, 0x5A, sizeof text);
+    (void)remburai_search(file, file_length, work[0], 16384, list[0] + 1, list_length);
+    uint64_t answer = remburai_names(file, file_length, work[1], 16384, list[1] + 1, list_length, text + 1, text_length);
+    size_t at, length = answer < text_length ? (size_t)answer : text_length, end = 1 + length;
+    int same = memcmp(work[0], work[1], sizeof work[0]) == 0 && memcmp(list[0], list[1], sizeof list[0]) == 0;
+    int kept = text[0] == 0x5A && memcmp(text + end, before, sizeof text - end) == 0;
+    printf("%" PRIu64 " %u ", answer, length == answer ? remburai_names_refusal(text + 1, length) : 0);
+    printf("%s %s ", same ? "same" : "other", kept ? "kept" : "changed");
+    for (at = 1; at < end; at++)
+        printf("%02x", (unsigned)text[at]);
+    printf("\\n");
+}
+int main(void) {
+    int next;
+    memset(before, 0x5A, sizeof before);
+    while ((next = getchar()) != EOF) {
+        ungetc(next, stdin);
+        size_t length = fread(file, 1, read_number(), stdin), room = read_number();
+        print_names(length, room, read_number());
+    }
+    return 0;
+}
+"""
+
 
 def stored(*path):
     with open(os.path.join(ROOT, *path), "rb") as file:
@@ -173,7 +221,7 @@ def check_list(programs):
 
 def check_answers(programs):
     page = stored("docs", "FORMAT.md").decode()
-    shown = re.findall(r"(?:^    (?:check|search|entry|run|length|text)\b.*\n)+", page, re.M)
+    shown = re.findall(r"(?:^    (?:check|search|entry|run|length|text|names)\b.*\n)+", page, re.M)
     same("the lines of answers", ["    " + line for line in made([programs.example("answers")]).decode().splitlines(True)],
          "".join(shown).splitlines(True))
 
@@ -210,8 +258,12 @@ def check_whole_limits_of(program):
     said, status, _ = call([program], input=stored(STORED, "list_lacks_entries.rule"))
     first = stored(STORED, "list_lacks_entries.out").rpartition(b"refused")[0]
     same("the list of list_lacks_entries.rule", (said[:len(first)], len(said) > len(first), status), (first, True, 0))
+    check_full_disk(program, stored("examples", "p.rule"))
+
+
+def check_full_disk(program, rule):
     with open("/dev/full", "wb") as full:
-        done = subprocess.run([program], input=stored("examples", "p.rule"), stdout=full, stderr=subprocess.DEVNULL, timeout=SECONDS, check=False)
+        done = subprocess.run([program], input=rule, stdout=full, stderr=subprocess.DEVNULL, timeout=SECONDS, check=False)
     same("the exit status on a full disk", done.returncode, 4)
 
 
@@ -287,8 +339,48 @@ def check_runs(programs):
         same(f"the answer to run {number}, {len(closed)} bytes of input with D {rule[-3]}", line, wanted)
 
 
+# Names.
+
+def check_names(programs):
+    program, whole = programs.example("names", AS_REACHLIST), programs.example("names")
+    for what, rule, text in NAMED:
+        status = 3 if "refused" in text else 0
+        same(f"the names with {what}", call([program], input=rule), (text.encode(), status, ""))
+        if what != "S 241":
+            same(f"the same with the whole limits, {what}", call([whole], input=rule), (text.encode(), status, ""))
+    same("the names with S 241, with the whole limits", call([whole], input=NAMED[-1][1]), (b"\n", 0, ""))
+    check_full_disk(program, NAMED[0][1])
+
+
+def check_names_of_the_page(programs):
+    text = section(stored("docs", "FORMAT.md").decode(), "Names")
+    said = made([programs.example("names")], input=dump(text)).decode()
+    same("the names on the page", re.findall(r"printed for it is filled:\n\n((?:    .*\n)+)", text), ["".join("    " + line for line in said.splitlines(True))])
+
+
+def names_line(text, room):
+    """What the program of NAMES has to print for a text slice of so many bytes."""
+    refusal = re.findall(r"refused (\d+)\n", text) if len(text) <= room else []
+    return f"{len(text)} {refusal[0] if refusal else 0} same kept {text.encode()[:room].hex()}\n"
+
+
+def check_names_slices(programs):
+    """Text slices from empty to longer than the text; and list slices that hold some of the entries, 10 bytes each."""
+    lists = [(rule, 4000, text) for _, rule, text in NAMED]
+    each, lines = next((rule, text.splitlines(True)) for what, rule, text in NAMED if what == "each first half")
+    lists += [(each, room, "".join(lines[:room // 10]) + "refused 12\n" * (room < 160)) for room in (0, 9, 10, 11, 25, 159, 160, 161)]
+    calls = []
+    for rule, room, text in lists:
+        calls += [(rule, room, text, space) for space in sorted({0, 1, max(len(text) - 1, 0), len(text), len(text) + 1, 4 * room + 64})]
+    data = b"".join(len(rule).to_bytes(4, "little") + rule + room.to_bytes(4, "little") + space.to_bytes(4, "little") for rule, room, _, space in calls)
+    said = made([programs.written("names_slices", NAMES)], input=data).decode().splitlines(True)
+    same("how many names calls were made", len(said), len(calls))
+    for (_, room, text, space), line in zip(calls, said):
+        same(f"the answer for the text {text!r}, in slices of {room} and {space} bytes", line, names_line(text, space))
+
+
 CHECKS = (check_header, check_version, check_needs, check_list, check_answers, check_text_of_the_page, check_print, check_whole_limits, check_end,
-          check_texts, check_runs)
+          check_texts, check_runs, check_names, check_names_of_the_page, check_names_slices)
 
 
 def main():

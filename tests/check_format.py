@@ -1,6 +1,7 @@
 """Checks docs/FORMAT.md: its dumps are the bytes of examples/p.rule, of an input that the blind side runs and of the list that it gives; the
 depth of that input, the steps of its run, the limits, the marks of entries, the answers of the calls for C and the text of the list are those
-of the blind side.
+of the blind side. The names are those that Python's own Latin-1 and UTF-8 give, in the list that the blind side gives the rule file of the page
+without its record NA.
 The exit status is 1 where anything differs, and where the page lacks what is to be compared."""
 
 import os
@@ -20,6 +21,7 @@ from make_boundary import file_of_size
 
 ROOT = os.path.dirname(os.path.dirname(os.path.abspath(__file__)))
 WORDS = 64 * 20 + 1024  # the step limit of P is 20
+OPEN = 0xFF
 DUMPED = re.compile(r"    ([0-9A-F]{4})  ((?:[0-9A-F]{2} )+) +\S")
 VERDICTS = {None: 0, "found": 1, "undecided": 2, "none": 3}
 OUTCOMES = {"reached": 1, "ended": 2, "unfinished": 3, "missing": 4}
@@ -238,10 +240,67 @@ def check_text(page):
     check_lines(lines, partial(packed_text, data, listed))
 
 
+# Names.
+
+NAMES_CALLS = {"names, 3 bytes": 64, "names, 64 bytes": 64, "names, full": 8}  # with the bytes of the list slice
+
+
+def filled_name(value):
+    """The bytes in Latin-1 of the name that a value spells, its open parts filled, and what stands behind the value."""
+    name = b""
+    while value[0] == 1:
+        high, low = (0 if half == OPEN else half for half in value[1:3])
+        name, value = name + bytes([16 * high + low]), value[3:]
+    same("what ends a name", value[0] in (0, OPEN), True)
+    return name, value[1:]
+
+
+def name_line(name):
+    return " ".join(str(byte) for byte in name + name.decode("latin-1").encode("utf-8"))
+
+
+def names_text(data, room):
+    """The text of the names, for a rule file whose one parameter is of the named type and whose record NA stands before GO."""
+    same("the record before GO", (data[-10:-8], data[-7:-5]), (b"NA", b"GO"))
+    listing = search(data[:-10] + data[-7:], WORDS, room)
+    lines = [name_line(filled_name(entry.record()[6:])[0]) for entry in listing.entries]
+    return "".join(line + "\n" for line in lines + ([f"refused {listing.refusal}"] if listing.refusal else []))
+
+
+def packed_names(data, call):
+    length = len(names_text(data, NAMES_CALLS[call]))
+    return length, f"{length} bytes"
+
+
+def check_utf_8(text):
+    first, by, second, modulus = map(int, only("the rule of UTF-8", re.findall(r"two: (\d+) \+ v div (\d+) and (\d+) \+ v mod (\d+)\.", text)))
+    for v in range(128, 256):
+        same(f"the bytes of {v} in UTF-8", bytes([first + v // by, second + v % modulus]), chr(v).encode("utf-8"))
+    same("the bytes of É", re.findall(r"É, (\d+), is (\d+) and (\d+)\.", text), [tuple(name_line(b"\xC9").split())])
+
+
+def check_names(page):
+    text = section(page, "Names")
+    check_utf_8(text)
+    for value, latin, line in table(text, "Value"):
+        name, rest = filled_name(bytes.fromhex(value.strip("`")))
+        wanted = (f"`{name.hex(' ').upper()}`", f"`{name_line(name)}`") if name else ("none", "empty")
+        same(f"the name of {value}", ((latin, line), rest), (wanted, b""))
+    data = dump(text)
+    same("the length of the rule file", re.findall(r"A rule file of (\d+) bytes", text), [str(len(data))])
+    record = search(data[:-10] + data[-7:], WORDS, 64).record()
+    same("its list", re.findall(r"Its list has one entry, `([^`]*)`", text), [record.hex(" ").upper()])
+    shown = only("the text of the names", [block for block in blocks(text) if re.fullmatch(r"    [\d ]+", block[0])])
+    same("the text of the names", "".join(line[4:] + "\n" for line in shown), names_text(data, 64))
+    lines = only("the answers of the names call", [block for block in blocks(text) if block[0].startswith("    names")])
+    same("the names calls", [called(line) for line in lines], list(NAMES_CALLS))
+    check_lines(lines, partial(packed_names, data))
+
+
 def main():
     page = stored("docs", "FORMAT.md").decode()
     wrong = 0
-    for part in check_rule_file, check_input, check_list, check_limits, check_answers, check_text:
+    for part in check_rule_file, check_input, check_list, check_limits, check_answers, check_text, check_names:
         try:
             part(page)
         except Different as different:

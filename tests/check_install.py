@@ -1,6 +1,6 @@
 """Tests `make install`: into a new folder it puts the files that it should, and no others; pkg-config finds header and library there, and
-the C examples that are built by what it says print the list of examples/p.rule; the command says its help and lists a text, and the tool beside it builds
-a rule file; a second `make install` proves and builds nothing; `make uninstall` leaves no file.
+the C examples that are built by what it says print the list of examples/p.rule and the names of a rule file; the command says its help, lists a text and
+prints names, and the tool beside it builds a rule file; a second `make install` proves and builds nothing; `make uninstall` leaves no file.
 
 It needs make, gcc, pkg-config, and what `make build` needs. The exit status is 1 where anything differs.
 """
@@ -14,6 +14,7 @@ sys.dont_write_bytecode = True
 
 from blind.compare import Different, same
 from check_c import PRINTING, ROOT, call, stored
+from hand_names import NAMED
 
 FILES = {
     "bin/remburai", "include/remburai.h", "lib/libremburai.a", "lib/pkgconfig/remburai.pc", "lib/remburai/rule",
@@ -47,10 +48,12 @@ def wanted():
 def check_program(prefix):
     words = dict(os.environ, PKG_CONFIG_PATH=os.path.join(prefix, "lib", "pkgconfig"))
     flags = made(["pkg-config", "--cflags", "--libs", "remburai"], env=words).decode().split()
-    for name in PRINTING:
+    _, named, names = NAMED[0]
+    prints = [(name, stored("examples", "p.rule"), stored("tests", "reachlist", "p.out")) for name in PRINTING] + [("names", named, names.encode())]
+    for name, rule, printed in prints:
         program = os.path.join(prefix, name)
         made(["gcc", "-o", program, os.path.join(ROOT, "examples", "c", name + ".c"), *flags])
-        same(f"what {name} prints", made([program], input=stored("examples", "p.rule")), stored("tests", "reachlist", "p.out"))
+        same(f"what {name} prints", made([program], input=rule), printed)
         os.remove(program)
 
 
@@ -60,6 +63,7 @@ def check_tools(prefix):
     words = {name: word for name, word in os.environ.items() if name != "REMBURAI_RULE"}
     listed = made([command, "list", os.path.join(ROOT, "examples", "p.txt")], env=words)
     same("the first line of a text's list", listed.splitlines()[0], b"reach 6  suc (suc _)")
+    same("the names of a rule file", made([command, "names", "-"], input=NAMED[0][1]), NAMED[0][2].encode())
     built = made([sys.executable, "-B", os.path.join(prefix, "lib", "remburai", "rule"), "build", os.path.join(ROOT, "examples", "p.txt")])
     same("what the tool builds", built, stored("examples", "p.rule"))
 

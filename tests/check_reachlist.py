@@ -1,11 +1,11 @@
-"""Runs the program reachlist, whose path is the one argument, and compares what it prints with what it should.
+"""Runs the programs reachlist and namelist, whose paths are the two arguments, and compares what they print with what they should.
 
-Its inputs are the rule files of tests/reachlist, whose texts are stored beside them, and some of 1,000,000 bytes, whose texts the
+Their inputs are the rule files of tests/reachlist, whose texts are stored beside them, and some of 1,000,000 bytes, whose texts the
 blind side gives. Each is read from a file, through a pipe, and through a pipe in small pieces, of which the next one comes once the
-last was taken. The program takes no more than 16,385 bytes, one more than a rule file may have: so the rest of a file is left as it
+last was taken. A program takes no more than 16,385 bytes, one more than a rule file may have: so the rest of a file is left as it
 is, and an input that is longer is also read through a pipe that stays open and through one into which bytes are written without end.
 
-The exit status is 1 where anything differs, where the program cannot be run, and where there is no rule file.
+The exit status is 1 where anything differs, where a program cannot be run, and where there is no rule file.
 """
 
 import array
@@ -21,12 +21,16 @@ from tempfile import TemporaryFile
 
 from blind.compare import Different, same
 from blind.enumerate import reachlist
+from blind.names import namelist
 
 FOLDER = os.path.join(os.path.dirname(os.path.abspath(__file__)), "reachlist")
 MOST_TAKEN = 16385  # bytes of an input
 LONG = 1000000  # bytes of the longest inputs
 PIECES = 50  # into which an input is cut, about
 SECONDS = 30  # after which a run is given up
+
+# Per program the ending of its stored texts, and the text that the blind side gives.
+PROGRAMS = {"reachlist": (".out", reachlist), "namelist": (".names", namelist)}
 
 
 class Stuck(Exception):
@@ -135,37 +139,44 @@ def stored(name):
         return file.read()
 
 
-def inputs():
-    """Per name an input, and the text that it must give."""
+def inputs(ending, text_of):
+    """Per name an input, and the text that it must give: the stored one with this ending, or what the blind side gives."""
     names = sorted(name[:-5] for name in os.listdir(FOLDER) if name.endswith(".rule"))
     if not names:
         sys.exit(f"check_reachlist: there is no rule file in {FOLDER}")
-    found = {f"{name}.rule": (stored(name + ".rule"), stored(name + ".out")) for name in names}
-    for name in ("empty.rule", "p.rule", "size_16384_found.rule"):
+    found = {f"{name}.rule": (stored(name + ".rule"), stored(name + ending)) for name in names}
+    for name in ("empty.rule", "p.rule", "size_16384_found.rule", "name_relay.rule"):
         data = found[name][0].ljust(LONG, b"\0")
-        found[f"{name} with zeros up to {LONG} bytes"] = (data, reachlist(data).encode())
+        found[f"{name} with zeros up to {LONG} bytes"] = (data, text_of(data).encode())
     return found
 
 
-def main():
-    if len(sys.argv) != 2:
-        sys.exit("usage: check_reachlist.py PROGRAM")
-    program = os.path.abspath(sys.argv[1])
-    if not os.path.isfile(program):
-        sys.exit(f"check_reachlist: there is no program {program}; 'rt check reachlist' proves and builds it")
+def runs(word, program):
+    """Runs a program on all inputs. The result is the number of runs that went wrong."""
     done, wrong = 0, 0
-    for name, (data, wanted) in inputs().items():
+    for name, (data, wanted) in inputs(*PROGRAMS[word]).items():
         for way, check in {**WAYS, **(LONGER if len(data) >= MOST_TAKEN else {})}.items():
             done += 1
             try:
                 check(program, data, wanted)
             except Different as different:
                 wrong += 1
-                print(f"reachlist: {name}, {way}: {different}", file=sys.stderr)
+                print(f"{word}: {name}, {way}: {different}", file=sys.stderr)
             except Stuck as stuck:
-                sys.exit(f"reachlist: {name}, {way}: {stuck}")
-    print(f"reachlist: {done} runs, {wrong} wrong")
-    return 1 if wrong else 0
+                sys.exit(f"{word}: {name}, {way}: {stuck}")
+    print(f"{word}: {done} runs, {wrong} wrong")
+    return wrong
+
+
+def main():
+    if len(sys.argv) != 1 + len(PROGRAMS):
+        sys.exit("usage: check_reachlist.py REACHLIST NAMELIST")
+    programs = dict(zip(PROGRAMS, map(os.path.abspath, sys.argv[1:])))
+    for word, program in programs.items():
+        if not os.path.isfile(program):
+            sys.exit(f"check_reachlist: there is no program {program}; 'rt check {word}' proves and builds it")
+    wrong = [runs(word, program) for word, program in programs.items()]
+    return 1 if any(wrong) else 0
 
 
 if __name__ == "__main__":

@@ -1,7 +1,7 @@
 """Tests tools/rule. Here: every text in examples builds to the rule file beside it without a warning, and its comment has the lines
-that the blind search gives with the text's names; `show` and `build` give back the bytes of the examples and of the stored rule
-files that are accepted, and of no others. Then what the other files check_rule_*.py test. The exit status is 1 where anything
-differs, and where there is nothing to compare."""
+that the blind search gives with the text's names, and those of namelist where it declares names; `show` and `build` give back the
+bytes of the examples and of the stored rule files that are accepted, and of no others. Then what the other files check_rule_*.py
+test. The exit status is 1 where anything differs, and where there is nothing to compare."""
 
 import os
 import sys
@@ -12,10 +12,12 @@ import check_rule_commands
 import check_rule_damaged
 import check_rule_equal
 import check_rule_faults
+import check_rule_names
 import check_rule_warnings
 from blind.enumerate import fill, printed
 from blind.narrow import Narrowing
 from blind.rulefile import Program, check, read
+from name_lines import name_lines
 from rulelib.faults import Fault, Faults
 from rulelib.reader import show
 from rulelib.values import named_line
@@ -23,9 +25,10 @@ from rulelib.values import named_line
 LIST_BYTES = 32768  # the list buffer of reachlist
 
 
-def commented(text):
-    """The lines of output that the first comment of a text shows."""
-    return [line[5:] for line in text.split("\n\n")[0].split("\n") if line.startswith("--   ")]
+def commented(text, program):
+    """The lines that the first comment of a text shows for a program."""
+    shown = text.split("\n\n")[0].partition(f"\n-- ./{program} ")[2].split("\n--\n")[0]
+    return [line[5:] for line in shown.split("\n") if line.startswith("--   ")]
 
 
 def check_example(name):
@@ -35,9 +38,10 @@ def check_example(name):
     compare(f"warnings of {name}.txt", warnings_of(text), [])
     compare(f"{name}.rule with the names of its text", build(show(data, rule)), data)
     output = printed(fill(list(Narrowing(read(data)).entries({})), LIST_BYTES))
-    lines = [named_line(rule, line) for line in output.splitlines()]
-    if not agree(commented(text), lines):
-        wrong.append(f"the comment of {name}.txt shows other lines than {lines}")
+    lines = {"reachlist": [named_line(rule, line) for line in output.splitlines()], "namelist": name_lines(data, output).splitlines()}
+    for program, printed_ in lines.items():
+        if not agree(commented(text, program), printed_):
+            wrong.append(f"the comment of {name}.txt shows other lines for {program} than {printed_}")
     count("examples")
 
 
@@ -82,10 +86,10 @@ def main():
             {name for name in os.listdir(EXAMPLES) if name.endswith(".txt")})
     check_files()
     check_vectors()
-    for part in (check_rule_faults, check_rule_warnings, check_rule_equal, check_rule_commands, check_rule_damaged):
+    for part in (check_rule_faults, check_rule_warnings, check_rule_equal, check_rule_names, check_rule_commands, check_rule_damaged):
         part.check_all()
     wanted = {"examples", "rule files there and back", "cases of check_vectors", "faults", "texts with several faults", "warnings",
-              "pairs of values", "commands", "processes", "damaged texts"}
+              "pairs of values", "names", "damaged rule files", "commands", "processes", "damaged texts"}
     compare("what was tested", set(counts), wanted)
     for fault in wrong:
         print(f"rule: {fault}", file=sys.stderr)

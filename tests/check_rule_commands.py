@@ -3,12 +3,15 @@ cannot be written."""
 
 import json
 import os
+import re
 import shutil
 import unicodedata
 from tempfile import TemporaryDirectory
 from textwrap import dedent
 
 from rule_tool import ROOT, TOOL, agree, build, changed, compare, count, run, shell, start, stored, wrong
+from check_rule_names import again, shown as shown_as
+from name_lines import name_lines
 from blind.enumerate import fill, printed
 from blind.evaluate import MISSING, REACHED, run as closed_run
 from blind.narrow import Narrowing
@@ -44,18 +47,29 @@ def named(name, lines):
 
 
 def check_page():
-    """What the page shows is so: its first example, what names prints as JSON, and the two ways to a list."""
+    """What the page shows is so: its first example, what names prints as JSON and as text, and the two ways to a list."""
     first, *parts = stored("docs", "RULES.md").decode().split("\n## ")
     compare("the first example of docs/RULES.md", build("\n".join(quoted(first)) + "\n"), P_RULE)
     objects = [line for line in quoted(parts[3]) if line.startswith("{")]
     lines = listed(stored("examples", "group.rule")).splitlines()
     shown = b"\n".join([lines[0], lines[3], lines[-1], b"refused 12"])
     compare("its JSON", run("names", "--json", "group.txt", stdin=shown)[1].decode().splitlines(), objects)
-    check_way("relay", parts[4])
-    check_way("group", parts[5])
-    check_relay(parts[4])
-    check_group(parts[5])
+    check_spelling(parts[4])
+    check_way("relay", parts[5])
+    check_way("group", parts[6])
+    check_relay(parts[5])
+    check_group(parts[6])
     check_unseen()
+
+
+def check_spelling(part):
+    """The types, the lines and the printed names of the part about names."""
+    text, lines = stored("examples", "relay.txt").decode(), quoted(part)
+    compare("types of names that relay.txt has not", [line for line in lines if line.startswith("type") and line not in text.split("\n")], [])
+    shown = b"reach 40 1 12 9 _\n"
+    compare("its names", [run("names", "relay.txt", asked, stdin=shown)[1].decode().strip() for asked in ("--constructors", "--json")], lines[-2:])
+    cells = [cell for row in part.split("\n| Printed |")[1].split("\n\n")[0].split("\n")[2:] for cell in re.findall("`(.*?)`", row.split("|")[1])]
+    compare("what it shows as printed", [cell for cell in cells if shown_as(again(cell)) != cell] or len(cells), 10)
 
 
 def check_way(name, way):
@@ -70,7 +84,13 @@ def check_way(name, way):
 
 
 def check_relay(way):
-    text = stored("examples", "relay.txt").decode()
+    text, data = stored("examples", "relay.txt").decode(), stored("examples", "relay.rule")
+    names = [line.strip() for line in way[way.index("$ ./namelist"):].split("\n\n")[0].split("\n")[1:]]
+    lines = name_lines(data, listed(data).decode()).splitlines()
+    compare("its lines of namelist", (agree(names, lines), lines.index("201 195 137")), (True, 13))
+    closed = [closed_run(data, bytes([1, byte // 16, byte % 16, 0]), 16384) for byte in (int(line.split()[0]) for line in lines)]
+    compare("what becomes of its names", [["reach", str(outcome.steps)] for outcome in closed if outcome.end == REACHED],
+            [line.split()[:2] for line in listed(data).decode().splitlines()[:-1]])
     message = "no target has label 8; there are targets with label 7"
     compare("its message", (message in way, run("build", "--strict", "-", stdin=changed(text, "enter label 7", "enter label 8").encode())),
             (True, (1, b"", f"standard input:{len(text.splitlines())}: {message}\n")))
@@ -173,7 +193,7 @@ def check_show():
     command("show -", run("show", "-", stdin=P_RULE), (0, SHOWN, ""))
     command("show with names", run("show", "p.rule", "p.txt")[1].split(b"\n")[:3],
             [b"type nat = zero | suc nat", b"fn isTwo (n : nat) : nat =", b"  case n : nat of"])
-    command("a text with faults", run("show", "p.rule", "p.rule"), (1, b"", "p.rule:1: 'type', 'fn', 'equal' or 'go' is expected, not "
+    command("a text with faults", run("show", "p.rule", "p.rule"), (1, b"", "p.rule:1: 'type', 'fn', 'equal', 'names' or 'go' is expected, not "
                                                                         "'TY' (a line that goes on is indented further, an alternative "
                                                                         "as the one above it)\n"))
     command("no rule file", run("show", "p.txt"), (1, b"", "p.txt: byte 2: a mark is unknown or out of its turn\n"))
@@ -206,7 +226,7 @@ BAD_LINES = [
     ("missing 6 _ _", "the entry is too long for the rule"),
 ] + [(line, "this is no line of reachlist") for line in ("reach", "reach x 1", "reached", "missing", "missing x 1", "missed 6 1 1 _", "",
                                                           "total 1 0 0 0 lost", "total 1 0 x 0 found", "totals 1 0 0 0 found", "refused 0",
-                                                          "refused 15", "refused")
+                                                          "refused 16", "refused")
      ] + [(line, f"the total has {words} and not 6: total REACH UNFINISHED MISSING SHARE VERDICT") for line, words in
           (("total 1 0 0 found", "5 words"), ("total 1 0 0 0", "5 words"), ("total 1 0 0 0 0 found", "7 words"), ("total", "1 word"),
            ("total " + "9" * 5000, "2 words"))]
@@ -325,10 +345,10 @@ def check_input():
     command("no parameters", run("input", "-", stdin=changed(PAIR, "go f", "go g").encode()), (0, b"", ""))
     command("a faulty text", run("input", "-", "zero", "ω", stdin=PAIR.replace("depth 3", "").encode())[::2],
             (1, "standard input:5: 'depth' is expected, not 'steps'\n"))
-    status, data, _ = run("input", "relay.txt", "byte hC h3 (byte h8 h9 end)")
-    command("an É in UTF-8", (status, data), (0, bytes([1, 12, 3, 1, 8, 9, 0])))
+    status, data, _ = run("input", "relay.txt", "byte hC h9 end")
+    command("an É in Latin-1", (status, data), (0, bytes([1, 12, 9, 0])))
     outcome = closed_run(stored("examples", "relay.rule"), data, 16384)
-    compare("what becomes of it", (outcome.end, outcome.steps, outcome.depth), (REACHED, 64, 3))
+    compare("what becomes of it", (outcome.end, outcome.steps, outcome.depth), (REACHED, 40, 2))
 
 
 # Processes of their own.

@@ -9,11 +9,12 @@ from tempfile import TemporaryDirectory
 from rule_tool import EXAMPLES, compare, count, run, start, stored, wrong
 from check_rule_equal import CROWDED
 from check_rule_faults import RIGHT, SEVERAL
+from check_rule_names import TEXT as NAMES
 from check_rule_warnings import CLEAN, LETTERS, SHORT
 from blind.rulefile import Program, check
 
 DAMAGED, PROCESSES = 600, 10  # of the texts so many are tried with a process of their own
-WORDS = ["type", "fn", "go", "case", "of", "let", "in", "target", "equal", "as", "then", "else", "_", "->", "(", ")", "=", "|", ":", "--",
+WORDS = ["type", "fn", "go", "case", "of", "let", "in", "target", "equal", "as", "then", "else", "names", "_", "->", "(", ")", "=", "|", ":", "--",
          "\n", "\t", "  ", "\r", "7", "99999999999", "label", "depth", "steps", "É", "e\u0301", "\u200b", "'", "-", "?", "\x00", "²"]
 
 
@@ -86,7 +87,8 @@ def judge(what, data, answer):
 def check_all():
     rng = random.Random(14)
     names = sorted(name for name in os.listdir(EXAMPLES) if name.endswith(".txt"))
-    texts = [stored("examples", name).decode() for name in names] + [RIGHT, CLEAN, SHORT, LETTERS, CROWDED] + [text for text, _ in SEVERAL]
+    texts = [stored("examples", name).decode() for name in names] + [RIGHT, CLEAN, SHORT, LETTERS, CROWDED, NAMES] + \
+        [text for text, _ in SEVERAL]
     statuses = []
     for number in range(DAMAGED):
         data = damaged(rng, texts)

@@ -67,16 +67,16 @@ FAULTS = [
     ("go ", f"fn g{PARAMETERS} : nat = zero\ngo ", 8, "'g' has 9 parameters; a function may have 8"),
     ("go ", f"fn g : nat =\n  {NEST}\ngo ", 9, "expressions nest more than 32 deep here"),
     ("suc zero", "(" * 65 + "zero" + ")" * 65, 5, "parentheses nest more than 64 deep here"),
-    ("suc zero", "zero\n  _ -> zero", 6, "'type', 'fn', 'equal' or 'go' is expected, not '_' " + INDENT),
+    ("suc zero", "zero\n  _ -> zero", 6, "'type', 'fn', 'equal', 'names' or 'go' is expected, not '_' " + INDENT),
     ("zero -> suc zero", "_ -> zero", 6, "an alternative behind '_', which stands for all others and comes last"),
     ("suc k -> let l : nat = small k k in\n      target 3 l", "_ k -> zero", 6,
      "'_' stands for all other constructors and names no fields"),
-    ("suc zero", "suc _", 5, "'type', 'fn', 'equal' or 'go' is expected, not '_'"),
+    ("suc zero", "suc _", 5, "'type', 'fn', 'equal', 'names' or 'go' is expected, not '_'"),
     ("suc zero", "(_)", 5, "an expression is expected, not '_'"),
-    ("    suc k", "      suc k", 6, "'type', 'fn', 'equal' or 'go' is expected, not '->'; "
+    ("    suc k", "      suc k", 6, "'type', 'fn', 'equal', 'names' or 'go' is expected, not '->'; "
                                     "the alternatives of a case begin in one column"),
     ("-> suc zero", "suc zero", 5, "'->' is missing at the end of this line " + INDENT),
-    ("suc zero", "suc case n of", 5, "'type', 'fn', 'equal' or 'go' is expected, not 'case'; "
+    ("suc zero", "suc case n of", 5, "'type', 'fn', 'equal', 'names' or 'go' is expected, not 'case'; "
                                      "as a scrutinee or an argument it needs parentheses"),
     ("suc zero", "suc (zero", 5, "')' is missing at the end of this line " + INDENT),
     (" in\n", "\n", 7, "'in' is expected, not 'target'"),
@@ -99,7 +99,7 @@ FAULTS = [
     ("go ", "type bool = no | yes\nequal nat then yes else no\ngo ", 9, "'as' is expected, not 'then'"),
     ("go ", "type bool = no | yes\nequal nat as same then yes\ngo ", 9, "'else' is missing at the end of this line " + INDENT),
     ("go ", " equal nat as same then zero else suc\ngo ", 8,
-     "'type', 'fn', 'equal' or 'go' is expected, not 'equal' " + INDENT),
+     "'type', 'fn', 'equal', 'names' or 'go' is expected, not 'equal' " + INDENT),
 ]
 
 
@@ -146,7 +146,7 @@ fn j : nat = f (g zero) (i zero)
 go k label 3 depth 400 steps 3
 """, [(2, "there is no type 'bool'"), (3, "the character '?' has no meaning here"), (8, "')' is expected, not ':'"),
       (9, "there is no type 'none'"), (9, "there is no type 'nothing'"), (9, "'f' takes 1 argument, and 2 are given"),
-      (10, "'type', 'fn', 'equal' or 'go' is expected, not 'fun' " + INDENT),
+      (10, "'type', 'fn', 'equal', 'names' or 'go' is expected, not 'fun' " + INDENT),
       (11, "'f' takes 1 argument, and 3 are given"), (13, "depth 400 is out of range: 1 to 64")]),
     # Without a type's constructors nothing is said of what may be one of them, and of nothing else that rests on it.
     ("""type nat = zero | suc nat |
@@ -186,7 +186,7 @@ fn g (o : order) : order =
     equal -> o
     greater -> o
 go f label 0 depth 1 steps 0
-""", [(5, "'type', 'fn', 'equal' or 'go' is expected, not 'equal' " + INDENT),
+""", [(5, "'type', 'fn', 'equal', 'names' or 'go' is expected, not 'equal' " + INDENT),
       (9, "there is no variable in view, function or constructor 'les'")]),
     # What follows a type or a function in its line spoils it: nothing is said of how it is used.
     ("""type nat = zero | suc nat
@@ -195,7 +195,7 @@ fn f (n : nat) : pair = pair n n
 fn g (n : nat) : nat = f 3
 fn h (n : nat) : pair = f n n
 go f label 0 depth 1 steps 0
-""", [(2, "'type', 'fn', 'equal' or 'go' is expected, not '('"), (4, "'type', 'fn', 'equal' or 'go' is expected, not '3'"),
+""", [(2, "'type', 'fn', 'equal', 'names' or 'go' is expected, not '('"), (4, "'type', 'fn', 'equal', 'names' or 'go' is expected, not '3'"),
       (5, "'f' takes 1 argument, and 2 are given")]),
     # A type without a closed value, a depth that is too small, and the fault of a body.
     ("""type a = a

@@ -1,11 +1,11 @@
-"""Runs the scripts ./reachlist and ./remburai.
+"""Runs the scripts ./reachlist, ./namelist and ./remburai.
 
-./reachlist is run with the program as it stands in target/bin, which has to be current, on the rule files of tests/reachlist: what it
-prints, its exit status, and what it says on standard error; and with streams that are closed or full, by links, with texts, and with
-words that it does not know.
+./reachlist and ./namelist are run with the programs as they stand in target/bin, which have to be current, on the rule files of
+tests/reachlist: what they print, their exit status, and what they say on standard error; and with streams that are closed or full, by
+links, with texts, and with words that they do not know. What ./namelist is to print is worked out from what ./reachlist is.
 
-That both prove and build what they need, once, and say so, is tried on a copy of them in a folder with a small crates.txt, where 'rt' and
-'cargo' are stand-ins that write down what they are called for.
+That all of them prove and build what they need, once, and say so, is tried on a copy of them in a folder with a small crates.txt, where 'rt'
+and 'cargo' are stand-ins that write down what they are called for, and the programs print what they are told.
 
 The exit status is 1 where anything differs.
 """
@@ -25,14 +25,17 @@ sys.dont_write_bytecode = True
 
 from blind.compare import Different, same
 from blind.enumerate import reachlist
+from name_lines import name_lines, named_type
+from rule_tool import build
 
 ROOT = os.path.dirname(os.path.dirname(os.path.abspath(__file__)))
-SCRIPT = os.path.join(ROOT, "reachlist")
-PROGRAM = os.path.join(ROOT, "target", "bin", "reachlist")
+SCRIPT, NAMES = os.path.join(ROOT, "reachlist"), os.path.join(ROOT, "namelist")
+PROGRAMS = [os.path.join(ROOT, "target", "bin", name) for name in ("reachlist", "namelist")]
 STORED = os.path.join(ROOT, "tests", "reachlist")
 SECONDS = 30  # after which a run is given up
-WORDS = ["", "short", "mark", "range", "stranger", "code", "misfit", "tail", "hollow", "shallow", "input", "bench", "full"]
-P = os.path.join(STORED, "p.rule")
+WORDS = ["", "short", "mark", "range", "stranger", "code", "misfit", "tail", "hollow", "shallow", "input", "bench", "full", "page", "scrap",
+         "spelling"]
+P, RELAY = os.path.join(STORED, "p.rule"), os.path.join(ROOT, "examples", "relay.rule")
 
 
 def run(words, **how):
@@ -73,12 +76,17 @@ def wanted(data, printed):
     last = printed.splitlines()[-1].split()
     if last[0] == "refused":
         number = int(last[1])
-        hint = "the rule is too large for this program: try ./remburai list" if number > 10 else "README.md says what to do about it"
+        hint = "the rule is too large for this program: try ./remburai list" if number in (11, 12) else "README.md says what to do about it"
         return 3, f"reachlist: refused {number} {WORDS[number]}\nreachlist: {hint}\n"
     same("words of the total", len(last), 6)
     depth, steps, verdict = data[-3], data[-2] + 256 * data[-1], last[5]
     unit = "step" if steps == 1 else "steps"
     return ["found", "none", "undecided"].index(verdict), f"reachlist: {verdict} within depth {depth}, {steps} {unit}\n"
+
+
+def of_names(said):
+    """What ./namelist says where ./reachlist says this."""
+    return said.replace("reachlist: ", "namelist: ").replace("remburai list", "remburai names")
 
 
 def test_stored_rule_files():
@@ -116,29 +124,99 @@ def test_limits_in_words():
     same("one step", run([SCRIPT], input=data)[2], "reachlist: undecided within depth 4, 1 step\n")
 
 
+# ./namelist.
+
+def wanted_names(data, printed):
+    """The exit status, what is printed and what is said of a rule file for which reachlist prints this."""
+    status, said = wanted(data, printed)
+    names = name_lines(data, printed)
+    if status == 3:
+        return 3, names, of_names(said)
+    if named_type(data) is None:
+        return 0, "", "namelist: the rule file does not say which type spells names; in a text, 'names' does\n"
+    number = names.count("\n")
+    return 0, names, f"namelist: {number} {'name' if number == 1 else 'names'} {said.split(' ', 2)[2]}"
+
+
+def test_names_of_stored_rule_files():
+    for name in sorted(name[:-5] for name in os.listdir(STORED) if name.endswith(".rule")):
+        path = os.path.join(STORED, name)
+        same(f"names of {name}", run([NAMES, path + ".rule"]), wanted_names(read(path + ".rule"), read(path + ".out").decode()))
+
+
+def test_names_of_relays():
+    data = read(RELAY)
+    found = run([NAMES, RELAY])
+    same("the relay", found, wanted_names(data, reachlist(data)))
+    same("what is said", found[2], "namelist: 23 names within depth 2, 100 steps\n")
+    same("an É", "\n201 195 137\n" in found[1], True)
+    for words in ([NAMES], [NAMES, "-"]):
+        same("the relay on standard input", run(words, input=data), found)
+
+
+# The list has one entry, of which the first name is empty and the second is open: both are empty lines.
+EMPTY = """type half = h0 | h1 | h2 | h3 | h4 | h5 | h6 | h7 | h8 | h9 | hA | hB | hC | hD | hE | hF
+type name = end | byte half half name
+names name
+fn f (n : name) (_ : name) (_ : half) : half =
+  case n of
+    end -> target 1 h0
+    byte _ _ _ -> h0
+go f label 1 depth 2 steps 9
+"""
+
+
+def test_empty_names():
+    same("two empty names", run([NAMES], input=build(EMPTY)), (0, "\n\n", "namelist: 2 names within depth 2, 9 steps\n"))
+    none = EMPTY.replace("label 1", "label 2")
+    same("no entry", run([NAMES], input=build(none)), (0, "", "namelist: 0 names within depth 2, 9 steps\n"))
+    other = build(EMPTY.replace("names name\n", ""))[:-7] + b"NA\0" + build(EMPTY)[-7:]
+    for script, name in ((SCRIPT, "reachlist"), (NAMES, "namelist")):
+        same("a type of another form", run([script], input=other),
+             (3, "refused 15\n", f"{name}: refused 15 spelling\n{name}: README.md says what to do about it\n"))
+
+
+# Both.
+
+def long_lists(folder):
+    """By script, a rule file for which it prints more than a pipe takes here. That of the names is the relay's with one byte more."""
+    path = os.path.join(folder, "deep.rule")
+    with open(path, "wb") as file:
+        file.write(read(RELAY)[:-3] + b"\3" + read(RELAY)[-2:])
+    return {SCRIPT: os.path.join(STORED, "many_entries.rule"), NAMES: path}
+
+
 def test_streams():
-    fault("a closed output", by_shell(">&-", [SCRIPT, P]), "standard output is closed")
-    fault("a closed input", by_shell("<&-", [SCRIPT]), "standard input is closed")
-    fault("closed streams", by_shell("<&- >&-", [SCRIPT, P]), "standard output is closed")
-    fault("an output not for writing", by_shell("1< /dev/null", [SCRIPT, P]), "the list cannot be written")
-    same("a closed input and a file", by_shell("<&-", [SCRIPT, P])[:2], (0, read(P[:-5] + ".out").decode()))
-    same("a closed standard error", by_shell("2>&-", [SCRIPT, P])[:2], (0, read(P[:-5] + ".out").decode()))
-    for words in ([SCRIPT, P], [SCRIPT, os.path.join(STORED, "many_entries.rule")]):
-        with open("/dev/full", "wb") as full:
-            fault("a full disk", run(words, stdout=full), "the list cannot be written")
-    with open("/dev/full", "wb") as full:
-        same("a full disk and help", run([SCRIPT, "--help"], stdout=full)[0], 4)
+    relay = read(RELAY)
+    for script, rule, printed, what in ((SCRIPT, P, read(P[:-5] + ".out").decode(), "the list"),
+                                        (NAMES, RELAY, name_lines(relay, reachlist(relay)), "the names")):
+        fault("a closed output", by_shell(">&-", [script, rule]), "standard output is closed")
+        fault("a closed input", by_shell("<&-", [script]), "standard input is closed")
+        fault("closed streams", by_shell("<&- >&-", [script, rule]), "standard output is closed")
+        fault("an output not for writing", by_shell("1< /dev/null", [script, rule]), f"{what} cannot be written")
+        same("a closed input and a file", by_shell("<&-", [script, rule])[:2], (0, printed))
+        same("a closed standard error", by_shell("2>&-", [script, rule])[:2], (0, printed))
+        with TemporaryDirectory() as folder, open("/dev/full", "wb") as full:
+            for words in ([script, rule], [script, long_lists(folder)[script]]):
+                fault("a full disk", run(words, stdout=full), f"{what} cannot be written")
+            same("a full disk and help", run([script, "--help"], stdout=full)[0], 4)
 
 
-def test_a_reader_that_goes():
-    """Nothing is said then. The pipe takes less than the list."""
-    process = subprocess.Popen([SCRIPT, os.path.join(STORED, "many_entries.rule")], stdout=subprocess.PIPE, stderr=subprocess.PIPE)
+def reader_goes(script, rule):
+    """The exit status and what is said where the reader of a script goes after one byte. The pipe takes less than the list."""
+    process = subprocess.Popen([script, rule], stdout=subprocess.PIPE, stderr=subprocess.PIPE)
     fcntl.fcntl(process.stdout, fcntl.F_SETPIPE_SZ, 4096)
     process.stdout.read(1)
     process.stdout.close()
     said = process.stderr.read()
     process.stderr.close()
-    same("a reader that goes", (process.wait(SECONDS), said), (4, b""))
+    return process.wait(SECONDS), said
+
+
+def test_a_reader_that_goes():
+    with TemporaryDirectory() as folder:
+        for script, rule in long_lists(folder).items():
+            same(f"a reader of {script} that goes", reader_goes(script, rule), (4, b""))
 
 
 def test_links():
@@ -164,36 +242,43 @@ def test_texts():
         same(what, (status, printed), (3, f"refused {number}\n"))
         if "this is a text, not a rule file: try ./remburai list" not in said:
             raise Different(f"{what}: no hint in {said!r}")
+        same(f"{what} and its names", run([NAMES], input=data), (status, printed, of_names(said)))
     for what, data in (("a rule file", b"TY"), ("nothing", b""), ("another file", b"\x7fELF")):
         if "text" in run([SCRIPT], input=data)[2]:
             raise Different(f"{what} is taken for a text")
 
 
+HELP = {
+    SCRIPT: ("reach, unfinished or missing", "0  found", "1  none", "2  undecided", "3  refused", "4  a fault"),
+    NAMES: ("in Latin-1", "in UTF-8", "0  printed", "3  refused", "4  a fault"),
+}
+
+
 def test_use():
-    status, printed, said = run([SCRIPT, "--help"])
-    same("the help", (status, said, run([SCRIPT, "-h"])[1]), (0, "", printed))
-    for part in ("reach, unfinished or missing", "0  found", "1  none", "2  undecided", "3  refused", "4  a fault"):
-        if part not in printed:
-            raise Different(f"{part!r} is not in the help")
-    fault("an option", run([SCRIPT, "--raw"]), "there is no option --raw")
-    fault("two files", run([SCRIPT, P, P]), "one rule file at a time")
-    fault("no file", run([SCRIPT, "no such file"]), "there is no file 'no such file'")
-    fault("a folder", run([SCRIPT, ROOT]), "is a folder")
-    if os.geteuid() != 0:
-        with TemporaryDirectory() as folder:
-            path = os.path.join(folder, "rule")
-            with open(path, "wb"):
-                os.chmod(path, 0)
-            fault("a file that is not for reading", run([SCRIPT, path]), "cannot be read")
+    for script, parts in HELP.items():
+        status, printed, said = run([script, "--help"])
+        same("the help", (status, said, run([script, "-h"])[1]), (0, "", printed))
+        same("what the help lacks", [part for part in parts if part not in printed], [])
+        fault("an option", run([script, "--raw"]), f"there is no option --raw; see ./{os.path.basename(script)} --help")
+        fault("two files", run([script, P, P]), f"one rule file at a time; see ./{os.path.basename(script)} --help")
+        fault("no file", run([script, "no such file"]), "there is no file 'no such file'")
+        fault("a folder", run([script, ROOT]), "is a folder")
+        if os.geteuid() != 0:
+            with TemporaryDirectory() as folder:
+                path = os.path.join(folder, "rule")
+                with open(path, "wb"):
+                    os.chmod(path, 0)
+                fault("a file that is not for reading", run([script, path]), "cannot be read")
 
 
-# Both scripts, in a folder where they have nothing built.
+# All scripts, in a folder where they have nothing built.
 
 CRATES = """# a comment: with a colon
 one:
 two: one
 three: two one  # other
 reachlist: three io libc
+namelist: three io libc
 other: one
 remburai: two three
 """
@@ -208,10 +293,10 @@ check)
     echo "fn two::f: proved"
     echo "rt: two proved (unchanged since it was last proved)" >&2
     echo "rt: three proved (1 s)"
-    [ "$2" = reachlist ] || exit 0
-    echo "rt: reachlist proved (1 s)"
+    case "$2" in reachlist | namelist) ;; *) exit 0 ;; esac
+    echo "rt: $2 proved (1 s)"
     mkdir -p target/bin
-    [ -e target/bin/reachlist ] || cp "$LISTING" target/bin/reachlist ;;
+    [ -e "target/bin/$2" ] || cp "$LISTING" "target/bin/$2" ;;
 staticlib)
     for crate in one two three; do echo "rt: $crate proved (unchanged since it was last proved)" >&2; done
     mkdir -p target/staticlib
@@ -226,8 +311,8 @@ mkdir -p "$2/release"
 [ -e "$2/release/remburai" ] || cp "$COMMAND" "$2/release/remburai"
 """
 
-# What stands for the programs: one prints a list, the other what it is called with.
-LISTING = "#!/bin/sh\ncat > /dev/null\necho 'total 0 0 0 0 none'\n"
+# What stands for the programs: those of rule files print what they are told, or a total, the other what it is called with.
+LISTING = "#!/bin/sh\ncat > /dev/null\nprintf \"${PRINTED-total 0 0 0 0 none\\n}\"\n"
 COMMAND = "#!/bin/sh\necho \"$REMBURAI_RULE\"\nfor word in \"$@\"; do echo \"<$word>\"; done\nexit 3\n"
 
 
@@ -236,7 +321,7 @@ class Copy:
 
     def __init__(self, folder):
         self.root, self.bin, self.calls = os.path.join(folder, "a root"), os.path.join(folder, "bin"), os.path.join(folder, "calls")
-        for name in ("reachlist", "remburai", "tools/build.sh", "rust/src/bin/remburai/help"):
+        for name in ("reachlist", "namelist", "remburai", "tools/build.sh", "tools/listing.sh", "rust/src/bin/remburai/help"):
             source, copy = os.path.join(ROOT, name), os.path.join(self.root, name)
             os.makedirs(os.path.dirname(copy), exist_ok=True)
             (shutil.copytree if os.path.isdir(source) else shutil.copy)(source, copy)
@@ -307,6 +392,54 @@ def test_first_use_of_reachlist(copy):
         same(f"after that of {name}", copy.called(), [])
 
 
+NAMED = read(P)[:-7] + b"NA\0" + read(P)[-7:]  # the stand-in does not look at its type
+
+# What stands for the program prints this, and what the script then says, and its exit status.
+PRINTED = [
+    ("", "0 names within depth 4, 20 steps\n", 0),
+    ("\n", "1 name within depth 4, 20 steps\n", 0),
+    ("\n\n\n", "3 names within depth 4, 20 steps\n", 0),
+    ("201 195 137\n", "1 name within depth 4, 20 steps\n", 0),
+    ("\n201 195 137\n\n", "3 names within depth 4, 20 steps\n", 0),
+    ("\n\nrefused 12\n", "refused 12 full\nthe rule is too large for this program: try ./remburai names\n", 3),
+    ("refused 11\n", "refused 11 bench\nthe rule is too large for this program: try ./remburai names\n", 3),
+    ("refused 15\n", "refused 15 spelling\nREADME.md says what to do about it\n", 3),
+    ("total 0 0 0 0 none\n", "the program has printed something else than names\n", 4),
+]
+
+
+@in_a_copy
+def test_first_use_of_namelist(copy):
+    copy.words["PRINTED"] = "201 195 137\\n\\n"
+    status, printed, said = copy.run("namelist", input=NAMED)
+    same("first use", (status, printed, copy.called()), (0, "201 195 137\n\n", ["rt check namelist"]))
+    same("what is shown", progress("namelist", said), FOUR)
+    same("second use", (copy.run("namelist", input=NAMED)[2], copy.called()), ("namelist: 2 names within depth 4, 20 steps\n", []))
+    copy.run("reachlist", input=NAMED)
+    same("first use of the other", copy.called(), ["rt check reachlist"])
+    copy.change("crates.txt")
+    copy.run("namelist", input=NAMED)
+    copy.run("namelist", input=NAMED)
+    same("after a change", copy.called(), ["rt check namelist"])
+
+
+@in_a_copy
+def test_what_namelist_prints(copy):
+    """Each line is a name, also one that is empty and the last."""
+    copy.words["PRINTED"] = ""
+    copy.run("namelist", input=NAMED)
+    for printed, lines, status in PRINTED:
+        copy.words["PRINTED"] = printed.replace("\n", "\\n")
+        said = "".join(f"namelist: {line}\n" for line in lines.splitlines())
+        same(repr(printed), copy.run("namelist", input=NAMED), (status, printed, said))
+    copy.words["PRINTED"] = ""
+    same("no names", copy.run("namelist", P), (0, "", "namelist: the rule file does not say which type spells names; in a text, 'names' does\n"))
+    copy.words["PRINTED"] = "refused 15\\n"
+    copy.run("reachlist", input=NAMED)
+    same("a refused type", copy.run("reachlist", input=NAMED),
+         (3, "refused 15\n", "reachlist: refused 15 spelling\nreachlist: README.md says what to do about it\n"))
+
+
 @in_a_copy
 def test_first_use_of_remburai(copy):
     tool = os.path.join(copy.root, "tools", "rule")
@@ -333,6 +466,16 @@ def test_first_use_of_remburai(copy):
 
 
 @in_a_copy
+def test_commands_of_remburai(copy):
+    """Each that has a page of help is handed to the program."""
+    pages = os.listdir(os.path.join(copy.root, "rust/src/bin/remburai/help"))
+    names = sorted({page[:-len(".txt")] for page in pages} - {"remburai"})
+    same("whether there are commands", len(names) >= 6, True)
+    for name in names:
+        same(name, copy.run("remburai", name, "a rule")[:2], (3, f"{os.path.join(copy.root, 'tools', 'rule')}\n<{name}>\n<a rule>\n"))
+
+
+@in_a_copy
 def test_one_proof_at_a_time(copy):
     words = [os.path.join(copy.root, "reachlist"), P]
     both = [subprocess.Popen(words, env=copy.words, stdout=subprocess.PIPE, stderr=subprocess.DEVNULL) for _ in range(3)]
@@ -345,8 +488,9 @@ def test_what_is_not_proved(copy):
     copy.write(copy.calls + ".fail", "")
     log = os.path.join(copy.root, "target")
     fault("reachlist", copy.run("reachlist", P), f"not proved; see {log}/reachlist.log")
+    fault("namelist", copy.run("namelist", P), f"not proved; see {log}/namelist.log")
     fault("remburai", copy.run("remburai", "list", P), f"not proved; see {log}/remburai.log")
-    same("what was tried", copy.called(), ["rt check reachlist", "rt check two three"])
+    same("what was tried", copy.called(), ["rt check reachlist", "rt check namelist", "rt check two three"])
     same("the log", "rt: two NOT PROVED" in read(os.path.join(log, "remburai.log")).decode(), True)
 
 
@@ -376,6 +520,7 @@ def test_without_a_proof(copy):
     for words, name in asked.items():
         same(words, copy.run("remburai", *words.split()), (0, read(os.path.join(pages, name + ".txt")).decode(), ""))
     same("help of reachlist", copy.run("reachlist", "--help")[0], 0)
+    same("help of namelist", copy.run("namelist", "--help")[0], 0)
     fault("no command", copy.run("remburai"), "there is no command ''")
     fault("an unknown command", copy.run("remburai", "lists"), "there is no command 'lists'")
     fault("no file", copy.run("reachlist", "no such file"), "there is no file")
@@ -405,7 +550,7 @@ def test_number_of_crates():
         crate, colon, words = line.split("#")[0].partition(":")
         if colon:
             needs[crate.strip()] = words.split()
-    for crate in ("reachlist", "remburai"):
+    for crate in ("reachlist", "namelist", "remburai"):
         below, new = set(), {crate}
         while new:
             below |= new
@@ -416,19 +561,24 @@ def test_number_of_crates():
 
 
 def current():
-    """Whether the program is there, and no crate is newer."""
-    if not os.path.exists(PROGRAM):
+    """Whether the programs are there, and no crate is newer."""
+    if not all(map(os.path.exists, PROGRAMS)):
         return False
-    built = os.stat(PROGRAM).st_mtime_ns
+    built = min(times())
     below = os.walk(os.path.join(ROOT, "crates"))
     paths = [os.path.join(place, name) for place, folders, names in below for name in [".", *names]]
     return all(os.stat(path).st_mtime_ns <= built for path in [*paths, os.path.join(ROOT, "crates.txt")])
 
 
+def times():
+    return [os.stat(program).st_mtime_ns for program in PROGRAMS]
+
+
 def main():
     if not current():
-        sys.exit("scripts: target/bin/reachlist is not there or older than a crate; 'rt check reachlist' proves and builds it")
-    built = os.stat(PROGRAM).st_mtime_ns
+        sys.exit("scripts: target/bin/reachlist or target/bin/namelist is not there or older than a crate; 'rt check reachlist namelist' proves and "
+                 "builds them")
+    built = times()
     tests = [test for name, test in sorted(globals().items()) if name.startswith("test_")]
     wrong = 0
     for test in tests:
@@ -437,9 +587,9 @@ def main():
         except (Different, subprocess.TimeoutExpired) as fault:
             wrong += 1
             print(f"scripts: {test.__name__}: {fault}", file=sys.stderr)
-    if os.stat(PROGRAM).st_mtime_ns != built:
+    if times() != built:
         wrong += 1
-        print("scripts: the program was built anew", file=sys.stderr)
+        print("scripts: a program was built anew", file=sys.stderr)
     print(f"scripts: {len(tests)} tests, {wrong} wrong")
     return 1 if wrong else 0
 

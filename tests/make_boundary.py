@@ -1,18 +1,26 @@
-"""Makes the test data for the checker of rule files: boundary files, competing faults, random and damaged files.
+"""Makes the test data for the checker of rule files: boundary files, competing faults, random and damaged files; behind them those
+with NA, which stand in tests/named_files.py.
 
 Writes what the program check_vectors reads and what it must print: its stdin, per case a two-byte length, low byte
 first, and the bytes of a rule file, and its stdout, per case a line `accepted` or `refused N`. With --check it compares
 instead of writing and exits 1 where the stored files differ. Each boundary case states the answer expected, and the
-blind checker must agree.
+blind checker must agree. Either way the exit status is 1 where a misreading of `blind.misfile` would show in too few answers to
+the cases with NA.
 """
 
 import random
 import sys
 from collections import Counter
+from functools import partial
 
+import named_files
 from blind.build import call, case, con, fn, go, let, random_program, target, two, ty, var
 from blind.compare import same
-from blind.rulefile import (CODE, HOLLOW, MARK, MISFIT, RANGE, SHALLOW, SHORT, STRANGER, TAIL, Program, check)
+from blind.misfile import FILES, FORM
+from blind.misfile import answer as answer_by
+from blind.rulefile import CODE, HOLLOW, MARK, MISFIT, RANGE, SHALLOW, SHORT, SPELLING, STRANGER, TAIL, RuleFile
+from blind.wrong import changes
+from damage import random_damaged
 from vectors import store
 
 ACCEPTED = 0
@@ -652,93 +660,24 @@ def random_accepted(rng, count):
     return [random_program(rng, **(large if number % 10 == 9 else small)) for number in range(count)]
 
 
-EDGES = [0, 1, 2, 5, 6, 7, 8, 9, 16, 17, 32, 33, 64, 65, 255, *b"TYFNGO"]
+# The blind checker's answer.
+answer = partial(answer_by, RuleFile)
 
 
-def flip_bit(rng, data):
-    place = rng.randrange(len(data))
-    return data[:place] + bytes([data[place] ^ 1 << rng.randrange(8)]) + data[place + 1:]
-
-
-def replace(rng, data):
-    place = rng.randrange(len(data))
-    return data[:place] + bytes([rng.choice(EDGES)]) + data[place + 1:]
-
-
-def nudge(rng, data):
-    place = rng.randrange(len(data))
-    return data[:place] + bytes([(data[place] + rng.choice((-1, 1))) % 256]) + data[place + 1:]
-
-
-def truncate(rng, data):
-    return data[:rng.randrange(len(data))]
-
-
-def insert(rng, data):
-    place = rng.randrange(len(data) + 1)
-    return data[:place] + bytes(rng.choice(EDGES) for _ in range(rng.randint(1, 3))) + data[place:]
-
-
-def remove(rng, data):
-    place = rng.randrange(len(data))
-    return data[:place] + data[place + rng.randint(1, 3):]
-
-
-def splice(rng, data, other):
-    """The beginning of one file and the end of another."""
-    return data[:rng.randrange(len(data))] + other[rng.randrange(len(other)):]
-
-
-def retype(rng, data):
-    """Another small number somewhere in the types."""
-    place = rng.randrange(3, data.index(b"FN"))
-    return data[:place] + bytes([rng.randrange(4)]) + data[place + 1:]
-
-
-def flatten(rng, data):
-    """A small D, and sometimes another source."""
-    return data[:-5] + bytes([rng.choice((data[-5], rng.randrange(4))), data[-4], rng.randint(1, 2)]) + data[-2:]
-
-
-def edit_body(rng, data):
-    """The last body changed, its stated length following."""
-    # That body ends where GO begins, seven bytes before the end of the file.
-    heads = [place for place in range(len(data)) if data[place:place + 2] == b"FN"]
-    for place in reversed(heads):
-        start = place + 4 + data[place + 2] + 2
-        length = int.from_bytes(data[start - 2:start], "little") if start <= len(data) else 0
-        if start + length == len(data) - 7:
-            body = rng.choice((replace, nudge, insert, remove))(rng, data[start:start + length])
-            return data[:start - 2] + two(len(body)) + body + data[-7:]
-    raise AssertionError("an accepted file has a last body")
-
-
-def random_damaged(rng, files, count):
-    damages = [flip_bit, replace, nudge, truncate, insert, remove, retype, flatten, edit_body, edit_body, edit_body]
-    damaged = []
-    for number in range(count):
-        data = files[number % len(files)]
-        if number % 20 == 19:
-            damaged.append(splice(rng, data, rng.choice(files)))
-        else:
-            damaged.append(damages[number % len(damages)](rng, data))
-    return damaged
-
-
-def answer(data):
-    """The blind checker's answer."""
-    found = check(data)
-    return ACCEPTED if isinstance(found, Program) else found
+def agreeing(cases):
+    """Fails where the blind checker gives another answer than the one stated, or two cases share a name."""
+    for name, data, expected in cases:
+        if expected is not None:
+            same(f"the blind checker's answer to '{name}'", answer(data), expected)
+    same("names that two cases share", [name for name, count in Counter(name for name, _, _ in cases).items() if count > 1], [])
 
 
 def make():
-    """All cases: the boundary cases, then the random ones."""
+    """All cases: the boundary cases, then the random ones, then those with NA, which are the value."""
     for group in (limits, short, mark, stranger, code, misfit, tail, hollow, shallow, order_of_passes,
                   order_inside_expressions):
         group()
-    for name, data, expected in CASES:
-        same(f"the blind checker's answer to '{name}'", answer(data), expected)
-    same("names that two cases share", [name for name, count in Counter(name for name, _, _ in CASES).items() if count > 1], [])
+    agreeing(CASES)
 
     rng = random.Random(1)
     files = random_accepted(rng, 250)
@@ -748,16 +687,55 @@ def make():
     for number, data in enumerate(random_damaged(rng, files, 600)):
         expect(answer(data), f"damaged {number}", data)
 
+    named = named_files.make()
+    agreeing(named)
+    return [(name, data, answer(data)) for name, data, _ in named]
+
+
+ENOUGH, LEAST = 10, 2  # answers that a misreading changes at least; the second where it takes a file of 64 functions
+SMALL = 200  # bytes of the files on which the others are tried
+
+LARGE = ("NA counts as a function", "a 65th function behind NA is 3")
+
+
+def misreadings(cases):
+    """Per misreading the number of answers that it changes. One of the form cannot change those of files that are refused before it."""
+    asked = [((data,), number) for _, data, number in cases]
+    small = [(some, number) for some, number in asked if len(some[0]) <= SMALL]
+    formed = [(some, number) for some, number in small if number in (ACCEPTED, SPELLING)]
+
+    def changed(errors, tried):
+        return changes({error: partial(answer_by, FILES[error]) for error in errors}, tried)
+
+    return {**changed([error for error in FILES if error not in LARGE and error not in FORM], small), **changed(FORM, formed),
+            **changed(LARGE, asked)}
+
+
+def faults(misread):
+    return [f"changes {number} answers: {error}" for error, number in misread.items() if number < (LEAST if error in LARGE else ENOUGH)]
+
+
+def report(cases, container, misread):
+    counts = Counter(number for _, _, number in cases)
+    print(f"{len(cases)} cases, {len(container)} bytes: accepted {counts[ACCEPTED]}, "
+          + ", ".join(f"refused {number} {counts[number]}" for number in (*range(1, 10), SPELLING)))
+    print("answers that a misreading changes")
+    for error, number in misread.items():
+        print(f"{number:6}  {error}")
+
 
 def main():
-    make()
-    container = b"".join(two(len(data)) + data for _, data, _ in CASES)
-    expected = "".join(f"refused {number}\n" if number else "accepted\n" for _, _, number in CASES).encode()
-    counts = Counter(number for _, _, number in CASES)
+    named = make()
+    cases = CASES + named
+    container = b"".join(two(len(data)) + data for _, data, _ in cases)
+    expected = "".join(f"refused {number}\n" if number else "accepted\n" for _, _, number in cases).encode()
+    misread = misreadings(named)
     if not sys.argv[1:]:
-        print(f"{len(CASES)} cases, {len(container)} bytes: accepted {counts[ACCEPTED]}, "
-              + ", ".join(f"refused {number} {counts[number]}" for number in range(1, 10)))
-    return store("check_vectors", container, expected, sys.argv[1:])
+        report(cases, container, misread)
+    wrong = faults(misread)
+    for fault in wrong:
+        print(f"check_vectors: {fault}", file=sys.stderr)
+    return 1 if wrong else store("check_vectors", container, expected, sys.argv[1:])
 
 
 if __name__ == "__main__":

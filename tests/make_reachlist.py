@@ -1,21 +1,33 @@
-"""Makes the rule files on which the program reachlist is run, and the text that it must print for each.
+"""Makes the rule files on which the programs reachlist and namelist are run, and the texts that they must print for each.
 
-They lie in the folder tests/reachlist: NAME.rule is what it reads, NAME.out what it prints. tests/check_reachlist.py
-runs the program on them. The program report_vectors runs the same files, in the order of their names: its stdin has
-each behind its three-byte length, low byte first, its stdout each text and a line `end`. With --check nothing is
-written, and the exit status is 1 where the stored files differ. Either way it is 1 where the set lacks a kind of last
-line, or would be printed alike with a buffer of another size.
+They lie in the folder tests/reachlist: NAME.rule is what both read, NAME.out what reachlist prints, NAME.names what namelist
+prints. tests/check_reachlist.py runs the programs on them. Those about names stand in tests/named_texts.py. The program
+report_vectors runs the same files, first those that are not about names, then those that are, each in the order of their
+names: its stdin has each file behind its three-byte length, low byte first, its stdout the text of reachlist and a line
+`end`, then that of namelist and a line `end`. With --check nothing is written, and the exit status is 1 where the stored
+files differ. Either way it is 1 where the set lacks a kind of last line, would be printed alike with a buffer of another
+size, or has too few texts that a misreading of `blind.misname` would change; where narrowing lists anything else; and where
+a filled entry does not behave as its entry says.
 """
 
 import os
 import sys
+from functools import lru_cache
+from itertools import islice
 
+import named_texts
 import rules
+from blind import names as name_texts
 from blind.build import call, case, con, fn, go, target, two, ty, var
-from blind.enumerate import WORDS, printed, reachlist
+from blind.compare import Different
+from blind.demands import filled
+from blind.enumerate import MOST_INPUTS, WORDS, Listing, TooMany, printed, program_search
+from blind.misname import NAMES
+from blind.names import Names
+from blind.narrow import differs
 from blind.wrong import TOTALS, too_few
 from make_boundary import file_of_size
-from make_searches import answer
+from make_searches import answer, checked, entries, length
 from rules import AGAIN, HOLLOW, P, REACH, changed, shortened
 from vectors import checking, store
 
@@ -112,7 +124,7 @@ def lacking(texts):
         found |= {f"{item} {'without' if missing_ones == '0' else 'with'} missing ones" for item in (f"share {share}", verdict)}
     items = ("share 0", "share 33", "share 66", "share 100", "found", "undecided", "none")
     wanted = {f"{item} {word} missing ones" for item in items for word in ("with", "without")}
-    return sorted((wanted | {f"refused {number}" for number in (*range(1, 10), 11, 12)}) - found)
+    return sorted((wanted | {f"refused {number}" for number in (*range(1, 10), 11, 12, 15)}) - found)
 
 
 def total_lines(texts):
@@ -123,36 +135,108 @@ def total_lines(texts):
             yield tuple(words.count(word) for word in WORDS.values()), last
 
 
-# The program's buffers: the bytes that it takes of its input, the words of its work slice, the bytes of its list.
+# The programs' buffers: the bytes that they take of their input, the words of their work slice, the bytes of their list.
 SIZES = {"input": 16385, "work": 16384, "list": 32768}
 
 # Sizes that must show in what is printed for some rule file. A longer input buffer prints the same, and tests/check_reachlist.py
-# sees it by what the program takes. Nor does a work slice show that has up to 63 words more: they are too few for another step.
+# sees it by what a program takes. Nor does a work slice show that has up to 63 words more: they are too few for another step.
 WRONG_SIZES = (("input", 43), ("input", 16383), ("input", 16384), ("work", 2304), ("work", 16383), ("work", 16448),
                ("list", 9), ("list", 32767), ("list", 32769))
 
+returned = lru_cache(maxsize=None)(answer)
+
+
+def answered(sizes, rule_file):
+    """What the search of the programs returns with buffers of these sizes."""
+    return returned(rule_file[:sizes["input"]], sizes["work"], sizes["list"])
+
 
 def text_with(sizes, rule_file):
-    """What the program prints with buffers of these sizes."""
-    return printed(answer(rule_file[:sizes["input"]], sizes["work"], sizes["list"])).encode()
+    """What reachlist prints with buffers of these sizes."""
+    return printed(answered(sizes, rule_file)).encode()
 
 
-def changed_by(sizes, made, names):
-    """The rule files for which the program prints something else with buffers of these sizes."""
-    return [name for name in names if text_with(sizes, made[name + ".rule"]) != made[name + ".out"]]
+def names_with(sizes, rule_file, reading=Names):
+    """What namelist prints with buffers of these sizes; `reading` is `Names` or a misreading of it."""
+    return name_texts.printed(checked(rule_file[:sizes["input"]]), answered(sizes, rule_file), reading).encode()
+
+
+# The programs by what they print, with the endings of the stored texts.
+PROGRAMS = {".out": text_with, ".names": names_with}
+
+
+def changed_by(sizes, made, names, ending):
+    """The rule files for which a program prints something else with buffers of these sizes, as its search returns something else."""
+    return [name for name in names if answered(sizes, made[name + ".rule"]) != answered(SIZES, made[name + ".rule"])
+            and PROGRAMS[ending](sizes, made[name + ".rule"]) != made[name + ending]]
 
 
 def sizes_shown(made, names):
-    """Per wrong size the rule files that show it."""
-    return {(buffer, size): changed_by({**SIZES, buffer: size}, made, names) for buffer, size in WRONG_SIZES}
+    """Per program and wrong size the rule files that show it."""
+    return {(ending, buffer, size): changed_by({**SIZES, buffer: size}, made, names, ending)
+            for ending in PROGRAMS for buffer, size in WRONG_SIZES}
 
 
-def faults(made, names, shown):
+# Names.
+
+ENOUGH, LEAST = 10, 2  # texts of namelist that a misreading changes at least; the second where it takes a list that 12 cut short
+MANY = 30  # texts up to which the changed ones are counted
+SHORT = 3500  # bytes of the lists on which the others are tried
+
+CUT_SHORT = ("the line of 12 comes first", "12 has no line", "with 12 no name is printed", "without NA 12 has no line")
+
+
+def misread(made, names):
+    """Per misreading the number of texts of namelist that it changes, as far as they are counted."""
+    listed = {name: given for name in names if isinstance(given := answered(SIZES, made[name + ".rule"]), Listing)}
+    sizes = {name: len(given.record()) for name, given in listed.items()}
+    short = sorted((name for name in listed if sizes[name] <= SHORT), key=sizes.get)
+    cut = [name for name, given in listed.items() if given.refusal]
+
+    def changed_texts(error):
+        tried = cut if error in CUT_SHORT else short
+        return (name for name in tried if names_with(SIZES, made[name + ".rule"], NAMES[error]) != made[name + ".names"])
+
+    return {error: sum(1 for _ in islice(changed_texts(error), MANY)) for error in NAMES}
+
+
+def wrong_entries(name, rule_file):
+    """What is wrong with the list of a rule file with names."""
+    program = checked(rule_file)
+    if isinstance(program, int) or length(rule_file) > SHORT:
+        return []
+    try:
+        filled(Names(program), entries(rule_file), 3)
+    except Different as different:
+        return [f"{name}: {different}"]
+    return [f"narrowing lists otherwise: {name}"] if differs(program, entries(rule_file), None) else []
+
+
+# What the set must hold.
+
+EDGES = "list_fills", "list_lacks_a_byte"  # of the list buffer
+FEW = 100  # closed inputs of the other rule files on which the search of the blind side's programs is tried
+
+
+def otherwise(rule_file, most_inputs):
+    """Whether the search of the blind side's programs returns something else, where the closed inputs are not more than this."""
+    try:
+        return program_search(rule_file, most_inputs) != answered(SIZES, rule_file)
+    except TooMany:
+        return False
+
+
+def faults(made, unnamed, named, shown, changes):
     """What the set lacks, and what is wrong with it."""
-    texts = [made[name + ".out"].decode() for name in names]
+    texts = [made[name + ".out"].decode() for name in unnamed + named]
     return ([f"none has {kind}" for kind in lacking(texts)] + too_few(TOTALS, list(total_lines(texts)), 1)
-            + [f"none shows that {size} is a wrong size of the {buffer} buffer" for (buffer, size), by in shown.items() if not by]
-            + [f"with buffers of the right sizes {name} is printed otherwise" for name in changed_by(SIZES, made, names)])
+            + [f"no {ending} shows that {size} is a wrong size of the {buffer} buffer"
+               for (ending, buffer, size), by in shown.items() if not by]
+            + [f"the blind side's programs search {name} otherwise" for name in unnamed
+               if otherwise(made[name + ".rule"], MOST_INPUTS if name in EDGES else FEW)]
+            + [f"changes {number} texts: {error}" for error, number in changes.items()
+               if number < (LEAST if error in CUT_SHORT else ENOUGH)]
+            + [wrong for name in named for wrong in wrong_entries(name, made[name + ".rule"])])
 
 
 def differences(made):
@@ -176,30 +260,44 @@ def store_vectors(made, names):
     """Stores the stdin and the stdout of the program report_vectors. The result is an exit status."""
     files = [made[name + ".rule"] for name in names]
     stdin = b"".join(len(rule_file).to_bytes(3, "little") + rule_file for rule_file in files)
-    stdout = b"".join(made[name + ".out"] + b"end\n" for name in names)
+    stdout = b"".join(made[name + ending] + b"end\n" for name in names for ending in PROGRAMS)
     return store("report_vectors", stdin, stdout, sys.argv[1:])
+
+
+def make():
+    """The stored files by their names; the names of the rule files that are not about names, and of those that are."""
+    unnamed, named = {**examples(), **refused(), **lists(), **missing()}, named_texts.make()
+    made = {}
+    for name, rule_file in {**unnamed, **named}.items():
+        made[name + ".rule"] = rule_file
+        made[name + ".out"], made[name + ".names"] = text_with(SIZES, rule_file), names_with(SIZES, rule_file)
+    return made, sorted(unnamed), sorted(named)
+
+
+def report(made, shown, changes):
+    print(f"{len(made) // 3} rule files, {sum(map(len, made.values()))} bytes")
+    for (ending, buffer, size), by in shown.items():
+        some = [name + ending for name in by[:9]] + [".."] * (len(by) > 9)
+        print(f"{size} as the size of the {buffer} buffer: shown by {', '.join(some)}")
+    print("texts of namelist that a misreading changes")
+    for error, number in changes.items():
+        print(f"{number:6}  {error}")
 
 
 def main():
     only_checking = checking(sys.argv[1:])
-    files = {**examples(), **refused(), **lists(), **missing()}
-    made, names = {}, sorted(files)
-    for name, rule_file in files.items():
-        made[name + ".rule"] = rule_file
-        made[name + ".out"] = reachlist(rule_file).encode()
-    shown = sizes_shown(made, names)
-    wrong = faults(made, names, shown)
+    made, unnamed, named = make()
+    shown, changes = sizes_shown(made, unnamed + named), misread(made, named + unnamed)
+    wrong = faults(made, unnamed, named, shown, changes)
     if only_checking:
         wrong += differences(made)
     else:
         write(made)
-        print(f"{len(files)} rule files, {sum(map(len, made.values()))} bytes")
-        for (buffer, size), by in shown.items():
-            print(f"{size} as the size of the {buffer} buffer: shown by {', '.join(by)}")
+        report(made, shown, changes)
     for fault in wrong:
         print(f"reachlist: {fault}", file=sys.stderr)
-    differs = store_vectors(made, names)
-    return 1 if wrong or differs else 0
+    differing = store_vectors(made, unnamed + named)
+    return 1 if wrong or differing else 0
 
 
 if __name__ == "__main__":

@@ -9,7 +9,8 @@ Its stdout has per case a line: `reached`, `ended`, `unfinished` or `missing`, t
 parameters, 0 without parameters; or `refused` and the number.
 
 With --check nothing is written, and the exit status is 1 where the stored files differ. Either way it is 1 where the set has
-too few of a kind of answer (`LEAST`), or a misreading of `blind.misdepth` would show in too few answers.
+too few of a kind of answer (`LEAST`), or a misreading of `blind.misdepth` would show in too few answers, or one of `blind.misfile` in
+too few answers for rule files with NA.
 """
 
 import random
@@ -19,11 +20,13 @@ from functools import lru_cache, partial
 from itertools import islice
 
 import closed_inputs
+import named_inputs
 import rules
 from blind.build import call, case, con, fn, go, random_program, target, two, ty, var
 from blind.compare import same
 from blind.evaluate import MISSING, UNFINISHED, Answer, ClosedInput, run
 from blind.misdepth import ORDER, READINGS, SHOWN, figure
+from blind.misfile import RUNS
 from blind.rulefile import BENCH, Program, check
 from closed_inputs import MOST_BYTES, SPARE, Case
 from vectors import store
@@ -159,8 +162,14 @@ def changes(wrong, cases):
     return {error: sum(1 for _ in islice((asked for asked, right in cases if made(*asked) != right), MANY)) for error, made in wrong.items()}
 
 
+def misnamed(cases, answers):
+    """Per misreading of NA the number of answers that it changes."""
+    short = [(case_, answer) for case_, answer in zip(cases, answers) if size(case_) <= SHORT]
+    return changes(RUNS, [((case_.rule_file, case_.data(), case_.words), answer) for case_, answer in short])
+
+
 def misread(cases, answers):
-    """Per misreading the number of answers that it changes. Where the answer is 11, a depth would not show."""
+    """Per misreading of depths the number of answers that it changes. Where the answer is 11, a depth would not show."""
     short = [(checked(case_.rule_file), case_.data(), answer) for case_, answer in zip(cases, answers)
              if size(case_) <= SHORT and answer != BENCH]
     accepted = [(program, data, answer) for program, data, answer in short if isinstance(answer, Answer)]
@@ -174,8 +183,8 @@ def misread(cases, answers):
 
 # How many answers of each kind the set has at least.
 LEAST = {"reached": 250, "ended": 250, "unfinished": 300, "missing": 250, **{f"refused {number}": 8 for number in range(1, 10)},
-         "refused 10": 500, "refused 11": 30, "depth 0": 100, "depth 1": 200, "depth 2": 100, "depth 63": 40, "depth 64": 40,
-         "ends with depths": 4 * 64, "long inputs": 100, "long inputs that fit": 1, "longest": 50}
+         "refused 10": 500, "refused 11": 30, "refused 15": 250, "depth 0": 100, "depth 1": 200, "depth 2": 100, "depth 63": 40,
+         "depth 64": 40, "ends with depths": 4 * 64, "long inputs": 100, "long inputs that fit": 1, "longest": 50}
 
 
 def counts(cases, answers):
@@ -204,22 +213,28 @@ def report(cases, counted, wrong):
         print(f"{number:6}  {error}")
 
 
+def answered(cases):
+    """The answers to these cases."""
+    answers = [run(case_.rule_file, case_.data(), case_.words) for case_ in cases]
+    for case_, answer in zip(cases, answers):
+        agreeing(case_, answer)
+    return answers
+
+
 def make():
-    """All cases, and their answers."""
+    """All cases, and their answers: first those without NA, then those with it."""
     examples()
     long_runs()
     missing_runs()
     random_runs(random.Random(2), 600)
-    cases = CASES + closed_inputs.make()
-    answers = [run(case_.rule_file, case_.data(), case_.words) for case_ in cases]
-    for case_, answer in zip(cases, answers):
-        agreeing(case_, answer)
-    return cases, answers
+    cases, named = CASES + closed_inputs.make(), named_inputs.make()
+    return cases, answered(cases), named, answered(named)
 
 
 def main():
-    cases, answers = make()
-    counted, wrong = counts(cases, answers), misread(cases, answers)
+    unnamed, first, named, second = make()
+    cases, answers = unnamed + named, first + second
+    counted, wrong = counts(cases, answers), {**misread(unnamed, first), **misnamed(named, second)}
     if not sys.argv[1:]:
         report(cases, counted, wrong)
     lacking = ([f"too few: {word}" for word, least in LEAST.items() if counted[word] < least]

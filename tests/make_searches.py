@@ -10,8 +10,8 @@ whether the bytes of the slice behind the list are `kept` or `changed`, and the 
 
 With --check nothing is written, and the exit status is 1 where the stored files differ. Either way it is 1 where the set
 lacks something: a kind of answer or an edge (`LEAST`), or cases whose answer changes by an error that `blind.narrow` can
-make or by a wrong verdict of `blind.wrong`; where narrowing lists anything else than the enumerator; and where a small list
-breaks a demand.
+make, by a wrong verdict of `blind.wrong` or by a misreading of `blind.misfile`; where narrowing lists anything else than the
+enumerator; and where a small list breaks a demand.
 """
 
 import random
@@ -20,16 +20,20 @@ from collections import Counter
 from functools import lru_cache
 from itertools import accumulate, combinations, permutations
 
+import named_searches
 import rules
 from blind.build import call, case, con, go, random_rule, target, two, ty
 from blind.compare import same
 from blind.demands import broken
-from blind.enumerate import MARKS, OPEN, Listing, all_entries, count_inputs, fill, inputs, tally, verdict
+from blind.enumerate import MARKS, OPEN, Listing, count_inputs, fill, inputs, tally, verdict
 from blind.evaluate import MISSING, REACHED, UNFINISHED, bench, evaluate
+from blind.forks import complete_list
+from blind.misfile import searches
 from blind.narrow import ERRORS, differs
-from blind.rulefile import BENCH, FULL, Program, Refused, check
+from blind.rulefile import BENCH, FULL, SPELLING, Program, Refused, check
 from blind.wrong import VERDICTS, too_few
-from make_boundary import file_of_size, random_damaged
+from damage import random_damaged
+from make_boundary import file_of_size
 from rules import AGAIN, HOLLOW, P, REACH, changed
 from vectors import store
 
@@ -47,11 +51,11 @@ def checked(rule_file):
 
 @lru_cache(maxsize=None)
 def entries(rule_file):
-    return tuple(all_entries(checked(rule_file)))
+    return tuple(complete_list(checked(rule_file)))
 
 
 def answer(rule_file, words, room):
-    """A `Listing`, or the number of a refusal, 1 to 9 or 11."""
+    """A `Listing`, or the number of a refusal, 1 to 9, 11 or 15."""
     program = checked(rule_file)
     if not isinstance(program, Program):
         return program
@@ -308,6 +312,12 @@ def benches(rng, files):
         add("bench", rule_file, rng.randrange(1024), 0)
 
 
+def names():
+    """Rule files with NA."""
+    for rule_file, words, room in named_searches.make():
+        add("name", rule_file, words, room)
+
+
 # What the set must hold.
 
 def nesting(program, parameters):
@@ -344,8 +354,8 @@ ENOUGH = 15  # lists that an error changes
 # How many the set has at least; where nothing is said, 5.
 LEAST = {
     "example cases": 150, "rule cases": 500, "random cases": 300, "limit cases": 200, "damaged cases": 100,
-    "room cases": 200, "bench cases": 100, "verdict found": 300, "verdict undecided": 300, "verdict none": 200,
-    "refused 11": 50, "refused 12": 150, "reached entries": 4000, "unfinished entries": 1500, "missing entries": 500,
+    "room cases": 200, "bench cases": 100, "name cases": 300, "verdict found": 300, "verdict undecided": 300, "verdict none": 200,
+    "refused 11": 50, "refused 12": 150, "refused 15": 150, "reached entries": 4000, "unfinished entries": 1500, "missing entries": 500,
     "lists with reached and unfinished": 200, "lists with reached and missing": 100,
     "lists with unfinished and missing": 100, "lists with all kinds": 50, "lists of missing ones alone": 50,
     "lists of five entries or more": 200, "depth of the deepest bound place": 60, "most bound places in an entry": 60,
@@ -405,9 +415,9 @@ def counts(answers):
     verdicts = Counter(given.verdict for _, _, given in complete)
     refusals = Counter(given for given in answers if not isinstance(given, Listing)) + Counter({FULL: len(cut)})
     return {
-        **{f"{group} cases": groups[group] for group in ("example", "rule", "random", "limit", "damaged", "room", "bench")},
+        **{f"{group} cases": groups[group] for group in ("example", "rule", "random", "limit", "damaged", "room", "bench", "name")},
         **{f"verdict {word}": verdicts[word] for word in ("found", "undecided", "none")},
-        **{f"refused {number}": refusals[number] for number in (*range(1, 10), BENCH, FULL)},
+        **{f"refused {number}": refusals[number] for number in (*range(1, 10), BENCH, FULL, SPELLING)},
         **{f"{end} entries": sum(entry.end == end for _, entry in listed) for end in MARKS},
         **{f"lists with {' and '.join(some)}": sum(set(some) == {entry.end for entry in given.entries} for *_, given in complete)
            for some in combinations(MARKS, 2)},
@@ -446,7 +456,8 @@ def faults(answers, counted):
             + [f"a demand is broken: {rule_file.hex()}: {wrong}" for rule_file in small if (wrong := broken_demand(rule_file))]
             + [f"changes {number} lists: {error}" for error, number in caught(small).items() if number < ENOUGH]
             + too_few(VERDICTS, [(tally(given.entries), given.verdict) for given in answers
-                                 if isinstance(given, Listing) and not given.refusal], ENOUGH))
+                                 if isinstance(given, Listing) and not given.refusal], ENOUGH)
+            + too_few(searches(answer), [(asked, given) for (_, *asked), given in zip(CASES, answers) if given == SPELLING], ENOUGH))
 
 
 def make():
@@ -461,6 +472,7 @@ def make():
     damaged(rng, files)
     rooms(rng, files)
     benches(rng, files)
+    names()
     same("slices longer than the program's",
          [(words, room) for _, _, words, room in CASES if words > MOST_WORDS or room > MOST_BYTES], [])
     return [answer(rule_file, words, room) for _, rule_file, words, room in CASES]

@@ -10,7 +10,8 @@ text's length and `text` with that of the writer, each the length or `refused` a
 line feed.
 
 With --check nothing is written, and the exit status is 1 where the stored files differ. Either way it is 1 where a wrong total line
-of `blind.wrong` would show in too few texts, or a misreading of `blind.misread` in too few of the lists handed in.
+of `blind.wrong` would show in too few texts, a misreading of `blind.misread` in too few of the lists handed in, or one of
+`blind.misfile` in too few of those handed in with a rule file that has NA.
 """
 
 import random
@@ -20,11 +21,13 @@ from functools import partial
 from itertools import permutations, zip_longest
 
 import handed_lists
+import named_lists
 from blind.build import random_program, two
 from blind.compare import same
 from blind.enumerate import MARKS, Entry, Listing, TooMany, printed, search, tally, verdict
 from blind.evaluate import MISSING, REACHED, UNFINISHED
 from blind.handed import Handed
+from blind.misfile import TEXTS
 from blind.misread import MISREADINGS
 from blind.rulefile import PAGE, Refused
 from blind.wrong import TOTALS, changes, too_few
@@ -151,14 +154,19 @@ def record(case):
             + case.room.to_bytes(3, "little"))
 
 
-def handed_in():
-    """The cases, and the output of each."""
-    cases = handed_lists.make()
+def handed_in(cases):
+    """The output of each of these cases."""
     outputs = [output(Handed, *case.asked()) for case in cases]
     for case, made in zip(cases, outputs):
         agreeing(case, made)
     same("text slices longer than the program's", [case.room for case in cases if case.room > handed_lists.MOST_ROOM], [])
-    return cases, outputs
+    return outputs
+
+
+def misreadings(wrong, cases, outputs):
+    """Per misreading the number of outputs that it changes."""
+    asked = [(case.asked(), made) for case, made in zip(cases, outputs)]
+    return changes({error: partial(output, handed) for error, handed in wrong.items()}, asked)
 
 
 def report(cases, misread):
@@ -178,9 +186,10 @@ def main():
     shapes()
     broken()
     random_lists(random.Random(3), 200)
-    cases, outputs = handed_in()
-    asked = [(case.asked(), made) for case, made in zip(cases, outputs)]
-    misread = changes({error: partial(output, handed) for error, handed in MISREADINGS.items()}, asked)
+    unnamed, named = handed_lists.make(), named_lists.make()
+    first, second = handed_in(unnamed), handed_in(named)
+    cases, outputs = unnamed + named, first + second
+    misread = {**misreadings(MISREADINGS, unnamed, first), **misreadings(TEXTS, named, second)}
     if not sys.argv[1:]:
         report(cases, misread)
     wrong = too_few(TOTALS, TOTAL_LINES, ENOUGH) + [f"changes {number} outputs: {error}" for error, number in misread.items() if number < ENOUGH]

@@ -29,12 +29,12 @@ def compare(what, got, wanted):
 
 
 def agree(shown, lines):
-    """Whether the lines shown are the lines of the output, where '..' stands for lines left out before the last ones."""
+    """Whether the lines shown are the lines of the output, where '..' stands for lines left out, though not for the last ones."""
     if ".." not in shown:
         return shown == lines
     cut = shown.index("..")
     rest = shown[cut + 1:]
-    return rest != [] and shown[:cut] == lines[:cut] and len(lines) > len(shown) - 1 and rest == lines[len(lines) - len(rest):]
+    return rest != [] and shown[:cut] == lines[:cut] and any(agree(rest, lines[place:]) for place in range(cut + 1, len(lines)))
 
 
 def count(what, number=1):

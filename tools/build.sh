@@ -1,5 +1,5 @@
-# What ./reachlist and ./remburai share: faults, and the proof of what they run. They source it, with `root` and `name` set; `name` is the
-# script's own, for messages.
+# What ./reachlist, ./namelist and ./remburai share: faults, and the proof of what they run. They source it, with `root` and `name` set; `name`
+# is the script's own, for messages.
 
 log="$root/target/$name.log"
 

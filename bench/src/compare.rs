@@ -1,7 +1,8 @@
-//! Where the plain search and the library differ, and where their closed runs and their texts do.
+//! Where the plain search and the library differ, and where their closed runs, their texts and their names do.
 use crate::blind::{completions, enumerate, sample, Counts};
 use crate::closed::{input_bytes, run, Ran};
 use crate::machine::Stop;
+use crate::names::write_list;
 use crate::problems::{steps_of, Problem, Stored};
 use crate::program::Program;
 use crate::search::search;
@@ -109,6 +110,29 @@ pub fn compare_text(file: &[u8], list: &[u8], full: bool) -> Result<bool, String
         return Err(format!("the plain text is another: {file:02x?}"));
     }
     Ok(fits)
+}
+
+/// Compares the names of an accepted rule file, in a list slice of so many bytes. The result is their text.
+pub fn compare_names(file: &[u8], room: usize) -> Result<Vec<u8>, String> {
+    let program = Program::read(file);
+    let mut list = search(file).list;
+    let length = front(&list, room);
+    let last = match length < list.len() {
+        true => &b"refused 12\n"[..],
+        false => b"",
+    };
+    list.truncate(length);
+    let mut plain = vec![];
+    write_list(&program, &list, &mut plain);
+    plain.extend(last);
+    let (mut work, mut slice) = (vec![0; work_words(steps_of(file))], vec![0; room]);
+    let mut text = vec![0; 4 * room + 64];
+    let length = remburai::names(file, &mut work, &mut slice, &mut text);
+    text.truncate(length);
+    if length != plain.len() || text != plain {
+        return Err(format!("the plain names are others: {file:02x?}"));
+    }
+    Ok(text)
 }
 
 /// Compares the runs of an accepted rule file on at most so many of its closed inputs, at equal distances in the enumeration. The result is

@@ -2,15 +2,18 @@
 use bench::blind::Counts;
 use bench::closed::{longest_run, run, ClosedRun};
 use bench::compare::{
-    compare_problem, compare_run, compare_runs, compare_stored, compare_text, library_list,
+    compare_names, compare_problem, compare_run, compare_runs, compare_stored, compare_text,
+    library_list,
 };
 use bench::long::LongList;
-use bench::measure::{measure, measure_runs, measure_texts, Times, ROUNDS};
-use bench::problems::{depth_of, problems, steps_of, stored, with_depth, with_unused, Problem};
+use bench::measure::{measure, measure_names, measure_runs, measure_texts, Times, ROUNDS};
+use bench::problems::{
+    depth_of, problems, steps_of, stored, with_depth, with_names, with_unused, Problem,
+};
 use bench::program::Program;
 use bench::search::search;
 use bench::text::text_length;
-use remburai::Verdict;
+use remburai::{Verdict, LIST_LIMIT};
 use std::process::exit;
 
 /// The most closed inputs that a blind enumeration runs.
@@ -25,22 +28,33 @@ const DEPTHS: [u8; 4] = [2, 3, 4, 5];
 const DEPTH_FOR_SIZES: u8 = 4;
 const UNUSED: [usize; 5] = [0, 2, 4, 8, 15];
 
+/// The problem whose names are measured, and the depths.
+const NAMED: &str = "names";
+const NAME_DEPTHS: [u8; 3] = [3, 4, 5];
+
 fn main() {
     let problems = problems().unwrap_or_else(|error| stop(&error.to_string()));
     compare_lists(&problems);
     let runs = closed_runs(&problems);
     let lists = long_lists(&problems);
+    let named = named_files(file_of(&problems, NAMED));
     println!("Times: medians of {ROUNDS} interleaved rounds; at most {MOST_INPUTS} closed inputs are run.\n");
     print_problems(&problems);
-    let growing = problems.iter().find(|problem| problem.name == GROWING);
-    let growing = &growing
-        .unwrap_or_else(|| stop("the growing problem is missing"))
-        .file;
+    let growing = file_of(&problems, GROWING);
     print_depths(growing);
     let largest = print_sizes(growing);
     print_runs(&runs);
     print_largest(&largest);
     print_texts(&lists);
+    print_names(&named);
+}
+
+/// The rule file of a problem.
+fn file_of<'p>(problems: &'p [Problem], name: &str) -> &'p [u8] {
+    let problem = problems.iter().find(|problem| problem.name == name);
+    &problem
+        .unwrap_or_else(|| stop(&format!("the problem {name} is missing")))
+        .file
 }
 
 fn stop(why: &str) -> ! {
@@ -77,6 +91,23 @@ fn long_lists(problems: &[Problem]) -> Vec<LongList<'_>> {
     }
     println!("Equal texts: {} long lists.", lists.len());
     lists
+}
+
+/// A rule file with a record NA, and the text of its names.
+struct Named {
+    file: Vec<u8>,
+    text: Vec<u8>,
+}
+
+/// The rule files whose names are to be measured, their names compared too.
+fn named_files(file: &[u8]) -> Vec<Named> {
+    let named = NAME_DEPTHS.map(|depth| {
+        let file = with_names(&with_depth(file, depth));
+        let text = compare_names(&file, LIST_LIMIT).unwrap_or_else(|why| stop(&why));
+        Named { file, text }
+    });
+    println!("Equal names: {} rule files.", named.len());
+    named.into()
 }
 
 /// The closed runs to be measured, compared too: without equal runs there are no times.
@@ -268,6 +299,24 @@ fn print_texts(lists: &[LongList]) {
             text_length(&problem.file, list, false).expect("it fits"),
             byte_columns(bytes, &length),
             byte_columns(bytes, &writing),
+        );
+    }
+}
+
+/// The names in the lists of a rule file at several depths: the search, and their text.
+fn print_names(named: &[Named]) {
+    println!("\n| Names of {NAMED}, D | Names | Bytes of the text | Library, ms | Plain, ms | Library / plain |");
+    println!("|--:|--:|--:|--:|--:|--:|");
+    let files: Vec<&[u8]> = named.iter().map(|named| &named.file[..]).collect();
+    for (Named { file, text }, times) in named.iter().zip(measure_names(&files)) {
+        println!(
+            "| {} | {} | {} | {:.3} | {:.3} | {:.2} |",
+            depth_of(file),
+            text.iter().filter(|byte| **byte == b'\n').count(),
+            text.len(),
+            times.library * 1e3,
+            times.plain * 1e3,
+            times.library / times.plain
         );
     }
 }

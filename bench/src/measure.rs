@@ -2,6 +2,7 @@
 use crate::blind::{enumerate, Counts};
 use crate::closed::{run, ClosedRun};
 use crate::long::LongList;
+use crate::names::write_names;
 use crate::problems::steps_of;
 use crate::program::Program;
 use crate::search::search;
@@ -47,6 +48,11 @@ impl Library {
             .length
     }
 
+    fn names(&mut self, file: &[u8], text: &mut [u8]) -> usize {
+        let words = work_words(steps_of(file));
+        remburai::names(file, &mut self.work[..words], &mut self.list, text)
+    }
+
     fn run(&mut self, file: &[u8], input: &[u8]) -> Ran {
         let words = work_words(steps_of(file));
         let ran = remburai::run(file, input, &mut self.work[..words]);
@@ -85,6 +91,24 @@ pub fn measure_runs(runs: &[ClosedRun]) -> Vec<Times> {
     }
     interleaved(&repeated, |(closed, times)| {
         one_round_of_run(closed, *times, &mut library)
+    })
+}
+
+/// Measures the names of rule files: in each round every file, and for each the library, its check alone and the plain side.
+pub fn measure_names(files: &[&[u8]]) -> Vec<Times> {
+    let mut library = Library::new();
+    let mut text = vec![1; 4 * LIST_LIMIT + 64];
+    let mut plain = vec![];
+    let mut repeated = vec![];
+    for file in files {
+        let times = repetitions(|| library.names(file, &mut text));
+        repeated.push((file, times));
+    }
+    interleaved(&repeated, |(file, times)| Times {
+        library: seconds(*times, || library.names(file, &mut text)),
+        check: seconds(*times, || remburai::check(file)),
+        plain: seconds(*times, || write_names(file, &mut plain)),
+        blind: None,
     })
 }
 

@@ -1,4 +1,5 @@
 //! The rule files of the benchmark: those of `problems`, built from their texts, and the stored cases of the repository.
+use crate::program::Program;
 use std::path::{Path, PathBuf};
 use std::process::Command;
 use std::{fs, io};
@@ -95,7 +96,18 @@ pub fn with_depth(file: &[u8], depth: u8) -> Vec<u8> {
 /// The bytes of GO.
 const GO: usize = 7;
 
-/// The rule file with unused functions added behind the others, as many as `count` says. Type 0 must be the numbers.
+/// The rule file with a record NA that names the type of the source's first parameter, unless it has one.
+pub fn with_names(file: &[u8]) -> Vec<u8> {
+    let program = Program::read(file);
+    if program.names.is_some() {
+        return file.to_vec();
+    }
+    let named = program.parameters()[0] as u8;
+    let (records, go) = file.split_at(file.len() - GO);
+    [records, b"NA", &[named], go].concat()
+}
+
+/// The rule file with unused functions added behind the others, as many as `count` says. It has no record NA, and type 0 is the numbers.
 pub fn with_unused(file: &[u8], count: usize) -> Vec<u8> {
     let mut body = vec![];
     push_unused_body(&mut body, 7);

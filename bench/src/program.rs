@@ -24,6 +24,8 @@ pub struct Function {
 pub struct Program {
     pub types: Vec<Vec<Constructor>>,
     pub functions: Vec<Function>,
+    /// The type whose values spell names, if one is named.
+    pub names: Option<usize>,
     pub source: usize,
     pub label: u8,
     pub depth: usize,
@@ -43,6 +45,7 @@ impl Program {
         while reader.mark(b"FN") {
             heads.push(reader.head());
         }
+        let names = reader.mark(b"NA").then(|| reader.number());
         assert!(reader.mark(b"GO"), "the file is not an accepted one");
         let (source, label, depth) = (reader.number(), reader.byte(), reader.number());
         let steps = reader.two();
@@ -63,6 +66,7 @@ impl Program {
         Program {
             types,
             functions,
+            names,
             source,
             label,
             depth,

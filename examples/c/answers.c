@@ -1,5 +1,5 @@
-/* Makes every call on one rule, examples/p.rule, and prints each answer: the number, and what is read off it. docs/FORMAT.md shows the
- * lines and goes through the bytes. From the root of the repository:
+/* Makes every call on one rule, examples/p.rule, that of names on another, and prints each answer: the number, and what is read off it.
+ * docs/FORMAT.md shows the lines and goes through the bytes. From the root of the repository:
  *
  *     rt staticlib remburai
  *     gcc -O2 -Wall -Wextra -I include -o target/answers examples/c/answers.c target/staticlib/libremburai.a
@@ -14,7 +14,14 @@ static const uint8_t file[] = {
     'F', 'N', 1, 0, 0, 23, 0, 3, 0, 0, 0, 1, 2, 0, 0, 1, 3, 0, 0, 1, 1, 2, 0, 0, 1, 5, 7, 2, 0, 0,
     'G', 'O', 0, 7, 4, 20, 0,
 };
-static uint32_t work[REMBURAI_WORK_WORDS(20)]; /* its S is 20 */
+static const uint8_t named[] = {
+    'T', 'Y', 16, 0, 0, 0, 0, 0, 0, 0, 0, 0, 0, 0, 0, 0, 0, 0, 0,
+    'T', 'Y', 2, 0, 3, 0, 0, 1,
+    'F', 'N', 1, 1, 1, 12, 0, 3, 1, 0, 0, 1, 0, 0, 1, 5, 7, 0, 0,
+    'N', 'A', 1,
+    'G', 'O', 0, 7, 2, 20, 0,
+};
+static uint32_t work[REMBURAI_WORK_WORDS(20)]; /* the S of both is 20 */
 static uint8_t list[64];
 static uint8_t text[64];
 
@@ -55,6 +62,13 @@ static void print_texts(void) {
     print_text_answer("text, 64 bytes", remburai_write_text(file, sizeof file, list, 9, false, text, sizeof text));
 }
 
+/* The names in the list of the other rule, which has one entry of 10 bytes. */
+static void print_names(const char *call, size_t list_length, size_t text_length) {
+    uint64_t answer = remburai_names(named, sizeof named, work, sizeof work / sizeof *work, list, list_length, text, text_length);
+    print_number(call, answer);
+    printf("%zu bytes\n", (size_t)answer);
+}
+
 int main(void) {
     static const uint8_t two[] = {1, 1, 0}, zero[] = {0}, stranger[] = {2};
     uint64_t answer = remburai_check(file, sizeof file);
@@ -68,5 +82,8 @@ int main(void) {
     print_run("run on 00", zero, sizeof zero);
     print_run("run on 02", stranger, sizeof stranger);
     print_texts();
+    print_names("names, 3 bytes", sizeof list, 3);
+    print_names("names, 64 bytes", sizeof list, sizeof text);
+    print_names("names, full", 8, sizeof text);
     return fflush(stdout) != 0 || ferror(stdout);
 }

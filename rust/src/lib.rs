@@ -1,9 +1,10 @@
-//! Safe calls to Remburai, the case finder: the check of a rule file, its search, a run on one closed input, the entries of a list, and
-//! the printed text of a list, with its length beforehand.
+//! Safe calls to Remburai, the case finder: the check of a rule file, its search, a run on one closed input, the entries of a list, the
+//! printed text of a list, with its length beforehand, and the names that the entries of a list stand for.
 //!
 //! The calls stand in a static library whose functions are proved, for every content and every length of the slices: they stop, stay
 //! inside the slices, and give the answer that their definition gives. This crate passes slices to them and takes their answers, one
-//! number each, apart. The calls allocate nothing; [`Rule`] and [`Part`], which read what stands in the bytes, and [`list_text`] do.
+//! number each, apart. The calls allocate nothing; [`Rule`] and [`Part`], which read what stands in the bytes, [`list_text`] and
+//! [`list_names`] do.
 //!
 //! Calls share nothing and keep nothing: they may run at the same time in any number of threads, each with the slices of its own that it
 //! writes to, also on one file. Every type of this crate is [`Send`] and [`Sync`]. A call needs up to 256 KiB of stack.
@@ -43,11 +44,13 @@
 //! ```
 
 mod list;
+mod names;
 mod refusal;
 mod rule;
 mod text;
 
 pub use list::{entries, Entries, Entry, Kind, Part, Total};
+pub use names::{list_names, names, names_refusal, Name};
 pub use refusal::Refusal;
 pub use rule::{Goal, Rule};
 use std::fmt;
@@ -161,7 +164,7 @@ pub struct Listed {
 /// Why a search gave no complete list.
 #[derive(Clone, Copy, Debug, PartialEq, Eq, Hash)]
 pub enum SearchError {
-    /// A refusal of 1 to 9 or 11: no slice is changed.
+    /// A refusal of 1 to 9, 11 or 15: no slice is changed.
     Refused(Refusal),
     /// Refusal 12: the list of all entries before the one that does not fit, `length` bytes, is at the front of the list slice.
     Full { length: usize },
@@ -185,7 +188,7 @@ impl fmt::Display for SearchError {
 
 impl std::error::Error for SearchError {}
 
-/// Checks a rule file: accepted, or a refusal of 1 to 9.
+/// Checks a rule file: accepted, or a refusal of 1 to 9 or 15.
 ///
 /// ```
 /// assert_eq!(remburai::check(b""), Err(remburai::Refusal::Truncated));
@@ -234,8 +237,8 @@ pub fn search(file: &[u8], work: &mut [u32], list: &mut [u8]) -> Result<Listed, 
     Ok(Listed { length, verdict })
 }
 
-/// Runs a rule file on one closed input, in the words of `work`: how it ends, and how deep the input goes; or a refusal of 1 to 11, which
-/// changes no word. The words from [`work_words`] of S on are as before; what the words below it hold is not specified.
+/// Runs a rule file on one closed input, in the words of `work`: how it ends, and how deep the input goes; or a refusal of 1 to 11 or 15,
+/// which changes no word. The words from [`work_words`] of S on are as before; what the words below it hold is not specified.
 pub fn run(file: &[u8], input: &[u8], work: &mut [u32]) -> Result<Ran, Refusal> {
     // SAFETY: each pointer and length are those of one slice, lent until the call returns, work to it alone.
     let answer = unsafe {

@@ -24,20 +24,23 @@ pub enum Refusal {
     DepthTooSmall = 9,
     /// 10, of [`run`](crate::run) only: the bytes are not one closed, fitting value per parameter.
     BadInput = 10,
-    /// 11, of [`search`](crate::search) and [`run`](crate::run): the work slice is shorter than [`work_words`](crate::work_words) of S.
+    /// 11, of [`search`](crate::search), [`run`](crate::run) and [`names`](crate::names()): the work slice is shorter than
+    /// [`work_words`](crate::work_words) of S.
     WorkTooShort = 11,
-    /// 12, of [`search`](crate::search) only: the next entry does not fit the list slice.
+    /// 12, of [`search`](crate::search) and [`names`](crate::names()): the next entry does not fit the list slice.
     ListFull = 12,
     /// 13, of [`write_text`](crate::write_text) only: the text slice is shorter than the text.
     TextTooShort = 13,
     /// 14, of [`text_length`](crate::text_length) and [`write_text`](crate::write_text): the list has more than
     /// [`LIST_LIMIT`](crate::LIST_LIMIT) bytes, or is not whole entries that fit the rule file.
     BadList = 14,
+    /// 15, of the rule file, straight after 9: the type that its record NA names is not of the form that spells names.
+    BadSpelling = 15,
 }
 
 impl Refusal {
     /// All refusals, in the order of their numbers.
-    pub const ALL: [Refusal; 14] = [
+    pub const ALL: [Refusal; 15] = [
         Refusal::Truncated,
         Refusal::UnexpectedMark,
         Refusal::OutOfRange,
@@ -52,9 +55,10 @@ impl Refusal {
         Refusal::ListFull,
         Refusal::TextTooShort,
         Refusal::BadList,
+        Refusal::BadSpelling,
     ];
 
-    /// The number of the refusal, 1 to 14.
+    /// The number of the refusal, 1 to 15.
     pub const fn number(self) -> u8 {
         self as u8
     }
@@ -76,6 +80,7 @@ impl Refusal {
             Refusal::ListFull => "full",
             Refusal::TextTooShort => "page",
             Refusal::BadList => "scrap",
+            Refusal::BadSpelling => "spelling",
         }
     }
 
@@ -102,6 +107,7 @@ impl Refusal {
             Refusal::BadList => {
                 "the list is longer than 16777216 bytes, or not whole entries that fit the rule file"
             }
+            Refusal::BadSpelling => "the type named by NA is not of the form that spells names",
         }
     }
 

@@ -1,4 +1,4 @@
-//! What an accepted rule file says of its inputs and of its goal: enough to read the entries of its list.
+//! What an accepted rule file says of its inputs, of its names and of its goal: enough to read the entries of its list.
 use crate::{check, Refusal};
 
 /// The goal of a rule file, its last five bytes.
@@ -14,7 +14,7 @@ pub struct Goal {
     pub steps: u16,
 }
 
-/// The types, the source's parameters and the goal of an accepted rule file.
+/// The types, the source's parameters, the named type and the goal of an accepted rule file.
 ///
 /// ```
 /// use remburai::{Refusal, Rule};
@@ -24,6 +24,7 @@ pub struct Goal {
 /// let rule = Rule::read(file).unwrap();
 /// assert_eq!((rule.goal().depth, rule.goal().steps), (4, 20));
 /// assert_eq!(rule.parameters(), [0]);
+/// assert_eq!(rule.names(), None);
 /// assert_eq!(rule.fields(0, 1), Some(&[0][..]));
 /// assert_eq!(rule.fields(0, 2), None);
 /// assert_eq!(rule.least_depth(0), Some(1));
@@ -38,6 +39,8 @@ pub struct Rule {
     least: Vec<u8>,
     /// The types of the source's parameters.
     parameters: Vec<u8>,
+    /// The named type.
+    names: Option<u8>,
     goal: Goal,
 }
 
@@ -56,6 +59,17 @@ impl Rule {
     /// The types of the source's parameters.
     pub fn parameters(&self) -> &[u8] {
         &self.parameters
+    }
+
+    /// The type whose values spell names, where the rule file has a record NA.
+    pub fn names(&self) -> Option<u8> {
+        self.names
+    }
+
+    /// How many parameters of the source are of the named type: so many names has each entry of a list.
+    pub fn named_parameters(&self) -> usize {
+        let named = |of: &&u8| Some(**of) == self.names;
+        self.parameters.iter().filter(named).count()
     }
 
     /// The types of a constructor's fields, where the type has that constructor.
@@ -112,11 +126,12 @@ impl<'f> Reader<'f> {
     }
 
     fn rule(mut self) -> Rule {
-        let (mut types, mut heads) = (vec![], vec![]);
+        let (mut types, mut heads, mut names) = (vec![], vec![], None);
         loop {
             match self.bytes(2) {
                 b"TY" => types.push(self.constructors()),
                 b"FN" => heads.push(self.head()),
+                b"NA" => names = Some(self.byte()),
                 _ => break,
             }
         }
@@ -126,6 +141,7 @@ impl<'f> Reader<'f> {
             least: least_depths(&types),
             types,
             parameters,
+            names,
             goal,
         }
     }

@@ -26,7 +26,7 @@ extern "C" {
 /// ([`SearchError::Full`](crate::SearchError::Full)), it has the line `refused 12` in place of the total. Give the list alone,
 /// `&list[..length]`: entries behind it that happen to fit would be printed too.
 ///
-/// Refusals, the first that holds: 1 to 9 of the rule file, then [`Refusal::BadList`]: the list has more than
+/// Refusals, the first that holds: 1 to 9 or 15 of the rule file, then [`Refusal::BadList`]: the list has more than
 /// [`LIST_LIMIT`](crate::LIST_LIMIT) bytes, or is not whole entries of known kinds, each of at most S steps, whose parameters are one partial
 /// value for each parameter of the source, of its type and no deeper than D (an open part is as deep as its type's least depth), with nothing
 /// behind them. What a search of the file has written always passes, complete or cut short.

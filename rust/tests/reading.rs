@@ -183,6 +183,32 @@ fn what_a_rule_file_says() {
         steps: 4096,
     };
     assert_eq!((rule.goal(), rule.parameters()), (goal, &[1][..]));
+    assert_eq!((rule.names(), rule.named_parameters()), (None, 0));
+}
+
+/// The named type stands between the last function and the goal.
+#[test]
+fn what_a_record_of_names_says() {
+    let records: [&[u8]; 6] = [
+        b"TY\x02\x00\x03\x01\x01\x00",
+        b"TY\x10\0\0\0\0\0\0\0\0\0\0\0\0\0\0\0\0",
+        b"FN\x00\x01\x03\x00\x02\x01\x02",
+        b"FN\x04\x00\x01\x01\x00\x01\x02\x00\x00\x01",
+        b"NA\x00",
+        b"GO\x01\x09\x05\x00\x10",
+    ];
+    let rule = Rule::read(&records.concat()).unwrap();
+    assert_eq!((rule.names(), rule.named_parameters()), (Some(0), 2));
+    let goal = Goal {
+        source: 1,
+        label: 9,
+        depth: 5,
+        steps: 4096,
+    };
+    assert_eq!((rule.goal(), rule.parameters()), (goal, &[0, 1, 1, 0][..]));
+    assert_eq!(rule.fields(0, 1), Some(&[1, 1, 0][..]));
+    let least: Vec<Option<u8>> = (0..3).map(|of| rule.least_depth(of)).collect();
+    assert_eq!(least, [Some(1), Some(1), None]);
 }
 
 #[test]
@@ -226,7 +252,7 @@ fn kinds() {
 fn words() {
     let words: Vec<&str> = Refusal::ALL.iter().map(|why| why.word()).collect();
     let wanted =
-        "short mark range stranger code misfit tail hollow shallow input bench full page scrap";
+        "short mark range stranger code misfit tail hollow shallow input bench full page scrap spelling";
     assert_eq!(words.join(" "), wanted);
     let printed = "refused 9 shallow: a source parameter's least depth exceeds D";
     assert_eq!(Refusal::DepthTooSmall.to_string(), printed);
@@ -268,6 +294,7 @@ fn types_for_threads() {
     see::<Kind>();
     see::<Part>();
     see::<Total>();
+    see::<Name>();
 }
 
 /// Calls at the same time on the same files answer as one by one.

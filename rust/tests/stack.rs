@@ -3,8 +3,8 @@
 //!
 //! What nests: the check of a body, by its expressions, up to the one at nesting 33, which is refused; the reading of a closed input, by
 //! its depth, up to a constructor at depth 65, which is refused however many stand in it; the writing of an entry, by its depth and by the
-//! parameters and fields before each part: so the eighth parameter, and the last of six fields at every depth; and the reading of a list that
-//! is handed in, by the depth of its values.
+//! parameters and fields before each part: so the eighth parameter, and the last of six fields at every depth; the reading of a list that is
+//! handed in, by the depth of its values; and the reading of a name, by its bytes.
 use remburai::*;
 use std::thread;
 
@@ -159,6 +159,48 @@ fn a_text_of_the_deepest_entries() {
             let list = [entry.clone(), deepest_entry(wrong)].concat();
             assert_eq!(list_text(&file, &list, true), Err(Refusal::BadList));
         }
+    });
+}
+
+/// A rule file with eight names, which walks the last of them down to its end, the target.
+fn names_rule() -> Vec<u8> {
+    let last = PARAMETERS - 1;
+    let mut body = vec![3, 1, 0, last, 1, 5, 7, 0, 0, 1, 1, 0];
+    body.extend((0..last).flat_map(|variable| [0, variable]));
+    body.extend([0, last + 3]);
+    let types = [b"TY\x10", &[0; 16][..], b"TY\x02\x00\x03\x00\x00\x01"];
+    let head = [b"FN\x08", &[1; PARAMETERS as usize + 1][..]];
+    let length = (body.len() as u16).to_le_bytes();
+    let goal = [
+        b"NA\x01GO\x00\x07",
+        &[DEPTH][..],
+        &(STEP_LIMIT as u16).to_le_bytes(),
+    ];
+    [
+        &types.concat(),
+        &head.concat(),
+        &length[..],
+        &body,
+        &goal.concat(),
+    ]
+    .concat()
+}
+
+/// Names of up to 63 bytes, all of them 0, behind seven that are empty.
+#[test]
+fn the_names_of_the_deepest_entries() {
+    on_a_small_stack(|| {
+        let mut work = vec![0; work_words(STEP_LIMIT)];
+        let (mut list, mut text) = (vec![0; 64 * 210], vec![0; 64 * 850]);
+        let length = names(&names_rule(), &mut work, &mut list, &mut text);
+        let empty = "\n".repeat(PARAMETERS as usize - 1);
+        let line = |count| vec!["0"; 2 * count].join(" ");
+        let lines: String = (0..DEPTH as usize)
+            .map(|count| format!("{empty}{}\n", line(count)))
+            .collect();
+        assert_eq!(text[..length], *lines.as_bytes());
+        let names = list_names(&names_rule(), &mut work, &mut list).expect("a complete list");
+        assert_eq!(names.last().expect("a name").latin1(), [0; 63]);
     });
 }
 

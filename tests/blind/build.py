@@ -49,6 +49,10 @@ def fn(parameters, result, body, length=None):
     return b"FN" + bytes([len(parameters), *parameters, result]) + two(len(body) if length is None else length) + body
 
 
+def na(type_):
+    return b"NA" + bytes([type_])
+
+
 def go(source=0, label=7, depth=8, steps=20):
     return b"GO" + bytes([source, label, depth]) + two(steps)
 
@@ -230,3 +234,52 @@ def random_rule(rng, most_types=3, most_constructors=3, most_fields=2, most_func
             body = writer.expression(result, parameters, 1)
         functions.append(fn(parameters, result, body))
     return b"".join(ty(*type_.constructors) for type_ in types) + b"".join(functions), label, len(heads)
+
+
+# Random rule files with names.
+
+class NamingBody(BranchingBody):
+    """Writes bodies that tell a few of sixteen constructors, or nearly as many, from all the others."""
+
+    def branch(self, wanted, view, type_, scrutinee, levels, nesting):
+        constructors = self.types[type_].constructors
+        if len(constructors) < 8:
+            return super().branch(wanted, view, type_, scrutinee, levels, nesting)
+        few = self.rng.sample(range(len(constructors)), self.rng.randint(1, 3))
+        others = self.ending(wanted, view) if self.rng.random() < self.kept else None
+        return case(type_, scrutinee, *(self.expression(wanted, view + fields, levels - 1, nesting + 1) if number in few else others
+                                        for number, fields in enumerate(constructors)))
+
+
+def placed(rng, groups):
+    """The types of all groups in random order, with the numbers that the first type of each group has there. A type is its
+    constructors; the field numbers of a type count in its own group, and behind its last type in the first group."""
+    count = sum(map(len, groups))
+    order, types, firsts = iter(rng.sample(range(count), count)), [None] * count, []
+    numbers = [[next(order) for _ in group] for group in groups]
+    for group, own in zip(groups, numbers):
+        for number, constructors in zip(own, group):
+            types[number] = Type(tuple(tuple((own + numbers[0])[field] for field in fields) for fields in constructors))
+        firsts.append(own[0])
+    return types, firsts
+
+
+def random_named_rule(rng, form, most_functions=3, most_parameters=3, most_levels=5, kept=0.8):
+    """A random rule file without its NA and GO. The types of `form`, each its constructors, are among its types, of which others may
+    hold them. Besides it the label that it marks most often, the number of its functions, and that of the form's first type."""
+    others = [list(type_.constructors) for type_ in random_types(rng, 2, 3, 2)]
+    for type_ in others:
+        if rng.random() < 0.5:
+            type_.append((len(others),) * rng.randint(1, 2))
+    types, (named, _) = placed(rng, [form, others])
+    count = len(types)
+    heads = [(tuple(rng.choice((named, named, rng.randrange(count))) for _ in range(rng.randint(0, most_parameters))), rng.randrange(count))
+             for _ in range(rng.randint(1, most_functions))]
+    label = rng.randrange(256)
+    writer, functions = NamingBody(rng, types, heads, label, kept), []
+    for parameters, result in heads:
+        body = writer.expression(result, parameters, rng.randint(1, most_levels))
+        while len(body) > 1024:
+            body = writer.expression(result, parameters, rng.randint(1, 2))
+        functions.append(fn(parameters, result, body))
+    return b"".join(ty(*type_.constructors) for type_ in types) + b"".join(functions), label, len(heads), named

@@ -3,9 +3,12 @@
 They ask nothing of how the list was made: `broken` takes its entries and its verdict.
 """
 
+from itertools import islice
+
 from blind.compare import Different, same
 from blind.enumerate import MARKS, OPEN, inputs
-from blind.evaluate import ENDED, MISSING, REACHED, evaluate
+from blind.evaluate import ENDED, MISSING, REACHED, ClosedInput, Value, evaluate
+from blind.names import prefix
 
 
 def bound_parts(program, parameters):
@@ -77,6 +80,51 @@ def demands(program, entries, verdict):
         completed.update(numbers)
     same("entries that have a completion within the depth", len(completed), len(entries))
     right_verdict(verdict, ends)
+
+
+# Filled entries.
+
+def completions(types, least, type_, data, room):
+    """The closed values of at most this depth that complete a partial one, a list of bytes in prefix form, one by one; behind each the
+    bytes that are left."""
+    for number, fields in enumerate(types[type_].constructors):
+        if data[0] in (OPEN, number) and all(least[field] < room for field in fields):
+            rest = [OPEN] * len(fields) if data[0] == OPEN else data[1:]
+            for values, left in rows(types, least, fields, rest, room - 1):
+                yield Value(number, values), data[1:] if data[0] == OPEN else left
+
+
+def rows(types, least, fields, data, room):
+    """The same for values of several types that stand one behind the other."""
+    if not fields:
+        yield (), data
+        return
+    for value, left in completions(types, least, fields[0], data, room):
+        for values, behind in rows(types, least, fields[1:], left, room):
+            yield (value, *values), behind
+
+
+def filled_inputs(names, entry, most):
+    """Closed inputs whose parameters of the named type are those of the entry, filled, and whose others complete the entry: all of
+    them, or as many as are wanted."""
+    program, given = names.program, iter(names.filled(entry))
+    data = b"".join(prefix(next(given)) if type_ == program.named else part for type_, part in names.parameters(entry))
+    return [values for values, _ in islice(rows(program.types, names.least, program.parameters, list(data), program.depth), most)]
+
+
+def filled(names, entries, most=20):
+    """Fails where a filled entry, its other parameters completed in some way that fits, is no closed input within the depth, does not
+    complete the entry, or ends otherwise than the entry says."""
+    program = names.program
+    for entry in entries:
+        bound, found = bound_parts(program, entry.parameters), filled_inputs(names, entry, most)
+        same("whether a filled entry has a completion that fits", bool(found), True)
+        for values in found:
+            data = b"".join(map(prefix, values))
+            same("how a filled entry is read", ClosedInput(program, data).read()[0], values)
+            same("whether a filled entry completes its entry", bound.items() <= constructors(values).items(), True)
+            outcome = evaluate(program, values)
+            same("how a filled entry ends", (outcome.end, outcome.steps), (entry.end, entry.steps))
 
 
 def broken(program, entries, verdict):

@@ -126,7 +126,7 @@ def verdict(entries):
 
 
 def search(rule_file, work_words, list_length, most_inputs=MOST_INPUTS):
-    """A `Listing`, or the number of the refusal, 1 to 9 or 11.
+    """A `Listing`, or the number of the refusal, 1 to 9, 11 or 15.
 
     Raises `TooMany` where the closed inputs are more than `most_inputs`.
     """
@@ -172,6 +172,11 @@ def printed(answer):
     return text + f"total {reach} {unfinished} {missing} {share(reach, unfinished)} {answer.verdict}\n"
 
 
+def program_search(rule_file, most_inputs=MOST_INPUTS):
+    """What the search of the programs `reachlist` and `namelist` returns, with their buffers."""
+    return search(rule_file, 16384, 32768, most_inputs)
+
+
 def reachlist(rule_file, most_inputs=MOST_INPUTS):
     """The text that the program `reachlist` prints for a rule file."""
-    return printed(search(rule_file, 16384, 32768, most_inputs))
+    return printed(program_search(rule_file, most_inputs))

@@ -177,7 +177,7 @@ def bench(program, work_words):
 
 
 def run(rule_file, data, work_words):
-    """The closed run: an `Answer`, or the number of the refusal, 1 to 11."""
+    """The closed run: an `Answer`, or the number of the refusal, 1 to 11 or 15."""
     try:
         program = read(rule_file)
         values, depth = ClosedInput(program, data).read()

@@ -2,7 +2,7 @@
 
 The list need not be one that a search of the rule file returned. It is scrap only where it is too long, or is not whole entries
 of known kinds whose parameters and steps fit the rule file. `full` says that the search ended in 12: the text then closes with
-the refusal line. Both calls raise `Refused`: with 1 to 9 for the rule file, then with 14, and the writer last with 13.
+the refusal line. Both calls raise `Refused`: with 1 to 9 or 15 for the rule file, then with 14, and the writer last with 13.
 """
 
 from functools import cached_property
@@ -26,7 +26,7 @@ class Handed:
 
     @cached_property
     def program(self):
-        """What the rule file holds; raises `Refused` with 1 to 9."""
+        """What the rule file holds; raises `Refused` with 1 to 9 or 15."""
         return read(self.rule_file)
 
     @cached_property

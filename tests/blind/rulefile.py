@@ -1,12 +1,14 @@
 """Rule files: their reader and checker.
 
-`check` takes the bytes of a rule file and gives the `Program` that they hold or the number of the refusal, 1 to 9.
+`check` takes the bytes of a rule file and gives the `Program` that they hold or the number of the refusal, 1 to 9 or 15.
 """
 
 from dataclasses import dataclass
 from functools import lru_cache
 
-SHORT, MARK, RANGE, STRANGER, CODE, MISFIT, TAIL, HOLLOW, SHALLOW, INPUT, BENCH, FULL, PAGE, SCRAP = range(1, 15)
+SHORT, MARK, RANGE, STRANGER, CODE, MISFIT, TAIL, HOLLOW, SHALLOW, INPUT, BENCH, FULL, PAGE, SCRAP, SPELLING = range(1, 16)
+
+TY, FN, NA, GO = b"TY", b"FN", b"NA", b"GO"
 
 MAX_FILE = 16384
 MAX_TYPES = 32
@@ -89,6 +91,7 @@ class Program:
     label: int
     depth: int
     steps: int
+    named: object = None  # the type whose values spell names, or None without NA
 
     @property
     def parameters(self):
@@ -139,7 +142,7 @@ def known(number, count):
     return number
 
 
-# First pass: marks, counts, lengths, D and S through the whole file, then the tail.
+# The records, behind their marks.
 
 @dataclass(frozen=True)
 class Head:
@@ -176,42 +179,10 @@ def read_go(reader):
     return source, label, depth, steps
 
 
-def first_pass(data):
-    reader = Reader(data, 0, len(data))
-    types, heads = [], []
-    while True:
-        mark = reader.mark()
-        if mark == b"TY" and not heads:
-            within(len(types) + 1, 1, MAX_TYPES)
-            types.append(read_type(reader))
-        elif mark == b"FN" and types:
-            within(len(heads) + 1, 1, MAX_FUNCTIONS)
-            heads.append(read_head(reader))
-        elif mark == b"GO" and heads:
-            go = read_go(reader)
-            break
-        else:
-            raise Refused(MARK)
-    if not reader.at_end():
-        raise Refused(TAIL)
-    return types, heads, go
+RECORDS = {TY: read_type, FN: read_head, NA: Reader.byte, GO: read_go}
 
 
-# Second pass: the type and function numbers in TY, FN heads and GO.
-
-def second_pass(types, heads, source):
-    for type_ in types:
-        for fields in type_.constructors:
-            for field in fields:
-                known(field, len(types))
-    for head in heads:
-        for parameter in head.parameters:
-            known(parameter, len(types))
-        known(head.result, len(types))
-    known(source, len(heads))
-
-
-# Third pass: the bodies.
+# The bodies.
 
 class BodyReader:
     """Reads the one expression that a body is."""
@@ -293,10 +264,6 @@ class BodyReader:
         return Target(label, operand(expected))
 
 
-def third_pass(data, types, heads):
-    return tuple(Function(head.parameters, head.result, BodyReader(data, types, heads, head).body()) for head in heads)
-
-
 # Least depths.
 
 def least_depths(types):
@@ -316,24 +283,109 @@ def least_depths(types):
                  for type_ in range(len(types)))
 
 
+# Names.
+
+def half(type_):
+    """Whether the type has sixteen constructors, none of which has a field."""
+    return type_.constructors == ((),) * 16
+
+
+def spells(types, number):
+    """Whether the values of the type of this number spell names: constructor 0 has no fields, constructor 1 two halves and the type."""
+    constructors = types[number].constructors
+    if len(constructors) != 2 or constructors[0] != () or len(constructors[1]) != 3:
+        return False
+    high, low, rest = constructors[1]
+    return half(types[high]) and half(types[low]) and rest == number
+
+
+# The whole file.
+
+class RuleFile:
+    """The bytes of a rule file. Each method answers one question, so that `blind.misfile` can answer it wrongly."""
+
+    turns = {None: (TY,), TY: (TY, FN), FN: (FN, NA, GO), NA: (GO,)}  # the marks that may follow each; the file begins behind None
+    most = {TY: MAX_TYPES, FN: MAX_FUNCTIONS, NA: 1, GO: 1}
+
+    def __init__(self, data):
+        self.data = data
+
+    def record(self, mark, reader, records):
+        """Reads what stands behind a mark; `records` has the records before it."""
+        return RECORDS[mark](reader)
+
+    def first_pass(self):
+        """Marks, counts, lengths, D and S through the whole file, then the tail: per mark the records that bear it."""
+        reader, mark, records = Reader(self.data, 0, len(self.data)), None, {mark: [] for mark in RECORDS}
+        while mark != GO:
+            before, mark = mark, reader.mark()
+            if mark not in self.turns[before]:
+                raise Refused(MARK)
+            within(len(records[mark]) + 1, 1, self.most[mark])
+            records[mark].append(self.record(mark, reader, records))
+        if not reader.at_end():
+            raise Refused(TAIL)
+        return records
+
+    def second_pass(self, types, heads, named, source):
+        """The type and function numbers in TY, FN heads, NA and GO."""
+        for type_ in types:
+            for fields in type_.constructors:
+                for field in fields:
+                    known(field, len(types))
+        for head in heads:
+            for parameter in head.parameters:
+                known(parameter, len(types))
+            known(head.result, len(types))
+        if named is not None:
+            known(named, len(types))
+        known(source, len(heads))
+
+    def third_pass(self, types, heads):
+        """The bodies."""
+        return tuple(Function(head.parameters, head.result, BodyReader(self.data, types, heads, head).body()) for head in heads)
+
+    def hollow(self, program, least):
+        return None in least
+
+    def shallow(self, program, least):
+        return any(least[parameter] > program.depth for parameter in program.parameters)
+
+    def spelling(self, program, least):
+        """Whether the type that NA names has another form than that of names."""
+        return program.named is not None and not spells(program.types, program.named)
+
+    def tests(self):
+        """What is tested behind the passes, in this order, with the types' least depths."""
+        return (HOLLOW, self.hollow), (SHALLOW, self.shallow), (SPELLING, self.spelling)
+
+    def read(self):
+        """The program; raises `Refused` with 1 to 9 or 15."""
+        within(len(self.data), 0, MAX_FILE)
+        records = self.first_pass()
+        types, heads, named = records[TY], records[FN], records[NA][0] if records[NA] else None
+        source, label, depth, steps = records[GO][0]
+        self.second_pass(types, heads, named, source)
+        program = Program(tuple(types), self.third_pass(types, heads), source, label, depth, steps, named)
+        least = least_depths(types)
+        for number, wrong in self.tests():
+            if wrong(program, least):
+                raise Refused(number)
+        return program
+
+    def check(self):
+        """The program, or the number of its refusal."""
+        try:
+            return self.read()
+        except Refused as refused:
+            return refused.number
+
+
 def read(data):
-    """The program that a rule file holds; raises `Refused` with 1 to 9."""
-    within(len(data), 0, MAX_FILE)
-    types, heads, (source, label, depth, steps) = first_pass(data)
-    second_pass(types, heads, source)
-    functions = third_pass(data, types, heads)
-    depths = least_depths(types)
-    if None in depths:
-        raise Refused(HOLLOW)
-    program = Program(tuple(types), functions, source, label, depth, steps)
-    if any(depths[parameter] > depth for parameter in program.parameters):
-        raise Refused(SHALLOW)
-    return program
+    """The program that a rule file holds; raises `Refused` with 1 to 9 or 15."""
+    return RuleFile(data).read()
 
 
 def check(data):
-    """The program that a rule file holds, or the number of its refusal, 1 to 9."""
-    try:
-        return read(data)
-    except Refused as refused:
-        return refused.number
+    """The program that a rule file holds, or the number of its refusal, 1 to 9 or 15."""
+    return RuleFile(data).check()

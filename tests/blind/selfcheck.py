@@ -1,6 +1,6 @@
 """Checks the blind side: by hand-worked examples, those of the papers and some that they do not show; and on random rules,
-whose lists are those of narrowing and break no demand, while those that narrowing makes with an error do. The exit status is 1
-where anything is otherwise."""
+whose lists are those of narrowing and break no demand, while those that narrowing makes with an error do, and whose entries behave
+as they say where their names are filled. The exit status is 1 where anything is otherwise."""
 
 import os
 import random
@@ -11,13 +11,15 @@ from itertools import product
 
 sys.path.insert(0, os.path.dirname(os.path.dirname(os.path.abspath(__file__))))
 
-from blind.build import call, case, con, fn, go, let, random_rule, target, ty, var
+from blind.build import call, case, con, fn, go, let, na, random_named_rule, random_rule, target, ty, var
 from blind.compare import Different, same
-from blind.demands import broken
-from blind.enumerate import Entry, Listing, TooMany, all_entries, count_inputs, reachlist, search, tally, verdict
-from blind.evaluate import MISSING, REACHED, UNFINISHED, Answer, ClosedInput, run
+from blind.demands import broken, filled
+from blind.enumerate import Entry, Listing, TooMany, all_entries, count_inputs, fill, inputs, reachlist, search, tally, verdict
+from blind.evaluate import MISSING, REACHED, UNFINISHED, Answer, ClosedInput, Value, run
+from blind.forks import forked_entries
 from blind.handed import text_length, write_text
 from blind.misdepth import figure
+from blind.names import Names, namelist, prefix, printed
 from blind.narrow import ERRORS, Narrowing
 from blind.rulefile import Program, Refused, check, least_depths, read
 
@@ -525,12 +527,13 @@ def random_programs(rng, count):
 
 
 def random_lists():
-    """The list is that of narrowing and breaks no demand; with each error made, a list breaks one."""
+    """The list is that of narrowing and of forks, and breaks no demand; with each error made, a list breaks one."""
     programs = random_programs(random.Random(1), 250)
     seen = [0, 0, 0]
     for program in programs:
         entries = all_entries(program)
         same("what narrowing lists", list(Narrowing(program).entries({})), entries)
+        same("what forks list", forked_entries(program), entries)
         same("what is wrong with a list", broken(program, entries, verdict(entries)), None)
         seen = [number + (more > 0) for number, more in zip(seen, tally(entries))]
     same("kinds of entries that fewer than 40 lists have", [number for number in seen if number < 40], [])
@@ -538,6 +541,210 @@ def random_lists():
         lists_ = (list(Narrowing(program, error).entries({})) for program in programs)
         wrong = any(broken(program, listed, verdict(listed)) for program, listed in zip(programs, lists_))
         same(f"whether a list breaks a demand where {error}", wrong, error not in HARMLESS)
+
+
+# Names. Type 0 is that of the halves, type 1 that of the names.
+
+H, N = 0, 1
+SIXTEEN = ((),) * 16
+NAMES = ty(*SIXTEEN) + ty((), (H, H, N))
+END, REACH = con(N, 0), target(7, con(N, 0))
+
+
+def of_half(number, half, inner, others=END):
+    """A case on the half that this variable is."""
+    return case(H, var(number), *(inner if place == half else others for place in range(16)))
+
+
+def spells(rule_file, *lines):
+    """The program namelist prints these lines."""
+    same(f"what namelist prints for {rule_file.hex()}", namelist(rule_file), "".join(line + "\n" for line in lines))
+
+
+def worked_names():
+    """Worked by hand: what namelist prints."""
+    # case 1, n 2, fork; byte: choose 3, case 4, h 5, fork; 12: choose 6, case 7, l 8, fork; 9: choose 9, target.
+    letter = NAMES + fn((N,), N, case(N, var(0), END, of_half(1, 12, of_half(2, 9, REACH))))
+    prints(letter + na(N) + go(depth=2), "reach 9 1 12 9 _", "total 1 0 0 0 found")
+    spells(letter + na(N) + go(depth=2), "201 195 137")
+    # With S 8 the low half is open, with S 5 both are, with S 2 the name.
+    for steps, line in ((8, "192 195 128"), (5, "0 0"), (2, "")):
+        spells(letter + na(N) + go(depth=2, steps=steps), line)
+    # With D 1 there is no name of a byte; with label 8 no entry; without NA no line.
+    for rule_file in (letter + na(N) + go(depth=1), letter + na(N) + go(label=8, depth=2), letter + go(depth=2)):
+        spells(rule_file)
+    # The low half alone.
+    spells(NAMES + fn((N,), N, case(N, var(0), END, of_half(2, 9, REACH))) + na(N) + go(depth=2), "9 9")
+    # Nothing is looked at: the name is open as a whole, and an empty line. A parameter of another type has none.
+    spells(NAMES + fn((N,), N, REACH) + na(N) + go(depth=1), "")
+    spells(NAMES + fn((N, H, N), N, REACH) + na(N) + go(depth=1), "", "")
+    spells(NAMES + fn((H,), N, REACH) + na(N) + go(depth=1))
+    spells(NAMES + fn((), N, REACH) + na(N) + go(depth=1))
+    # Missing, then by the high half 0 reached, 1 unfinished, 2 and all others missing: in the order of the list.
+    kinds = NAMES + fn((N,), N, case(N, var(0), None, case(H, var(1), REACH, call(0, var(0)), *[None] * 14)))
+    spells(kinds + na(N) + go(depth=2), "", "0 0", "16 16", "32 32", "48 48", "64 64", "80 80", "96 96", "112 112", "128 194 128",
+           "144 194 144", "160 194 160", "176 194 176", "192 195 128", "208 195 144", "224 195 160", "240 195 176")
+
+
+def names_of(rule_file, *lines, room=32768):
+    """The same where the closed inputs are too many to be run one by one, with a list slice of this length."""
+    program = read(rule_file)
+    given = printed(program, fill(forked_entries(program), room))
+    same(f"the names of {rule_file.hex()} in {room} bytes", given, "".join(line + "\n" for line in lines))
+
+
+def worked_deep_names():
+    """Worked by hand: names of several bytes, several names, and lists that are cut short."""
+    goal = na(N) + go(depth=4, steps=40)
+
+    def first_is_65(inner):
+        """The rest of the name is variable 3."""
+        return NAMES + fn((N,), N, case(N, var(0), END, of_half(1, 4, of_half(2, 1, inner))))
+
+    # Of the second byte the low half is 9, then the name ends; the second byte is 233: all bytes of Latin-1, then all of UTF-8.
+    names_of(first_is_65(case(N, var(3), END, of_half(5, 9, case(N, var(6), REACH, END)))) + goal, "65 9 65 9")
+    names_of(first_is_65(case(N, var(3), END, of_half(4, 14, of_half(5, 9, REACH)))) + goal, "65 233 65 195 169")
+    # The first byte is open, and the low half of the second.
+    names_of(NAMES + fn((N,), N, case(N, var(0), END, case(N, var(3), END, of_half(4, 8, REACH)))) + goal, "0 128 0 194 128")
+    # A name, a tree, a name; the last is looked at first: 1 _ 5 _; then the tree: 1 0 _; then the first: 0, or missing.
+    # case 1, name 2, choose 3, case 4, half 5, choose 6, case 7, tree 8, choose 9, case 10, branch 11, choose 12, case 13, name 14, 15.
+    tree = case(2, var(1), END, case(2, var(6), case(N, var(0), REACH, None), END))
+    three = NAMES + ty((), (2, 2)) + fn((N, 2, N), N, case(N, var(2), END, of_half(4, 5, tree)))
+    same("the list of three", [entry.line() for entry in forked_entries(read(three + goal))],
+         ["reach 15 0 1 0 _ 1 _ 5 _\n", "missing 15 1 _ _ _ 1 0 _ 1 _ 5 _\n"])
+    # The entries have 14 and 17 bytes.
+    first, second, full = ("", "5 5"), ("0 0", "5 5"), ("refused 12",)
+    for room, lines in ((32768, first + second), (31, first + second), (30, first + full), (14, first + full), (13, full), (0, full)):
+        names_of(three + goal, *lines, room=room)
+    names_of(three + goal[3:], *full, room=13)
+    names_of(three + goal[3:])
+
+
+def misspelt():
+    """Worked by hand: 15 in each call, behind 9 and before 10 to 14."""
+    source, goal, least = P[6:-7], P[-7:], 64 * 20 + 1024
+    same("whether P with names is accepted", isinstance(check(NAT + ty(*SIXTEEN) + ty((), (1, 1, 2)) + source + na(2) + goal), Program), True)
+    types = NAT + ty(*SIXTEEN) + ty((), (1, 1, 2), ())  # a name with a third constructor
+    rule = types + source
+    for number, named in ((15, rule + na(2)), (15, rule + na(1)), (15, rule + na(0)), (4, rule + na(3)), (2, rule + na(2) * 2),
+                          (2, types + na(2) + source)):
+        same(f"the check of {named.hex()}", check(named + goal), number)
+    bad, hollow = rule + na(2) + goal, types + ty((3,)) + source + na(2) + goal
+    shallow = types + ty((4,)) + ty(()) + fn((3,), 3, var(0)) + na(2) + go(depth=1)
+    for rule_file, number in ((bad, 15), (bad[:-1], 1), (rule + na(2) + go(depth=65), 3), (bad + b"\0", 7), (hollow, 8), (shallow, 9)):
+        for data, words in ((b"\1\1\0", least), (b"\2", least), (b"\1\1\0", 0), (b"\2", 0)):
+            runs(rule_file, data, words, number)
+        for words, room in ((least, 9), (least, 8), (0, 9), (0, 0)):
+            searches(rule_file, words, room, number)
+        turns_back(number, rule_file, b"", re(6, 1, 1, 255), b"X")
+        prints(rule_file, f"refused {number}")
+        spells(rule_file, f"refused {number}")
+    spells(P[:-2] + b"\xf1\0", "refused 11")
+    spells(rule + na(2) + go(depth=4, steps=241), "refused 15")
+
+
+def encodings():
+    """The UTF-8 of every byte, and what a name of all bytes spells and prints."""
+    names = Names(read(NAMES + fn((N,), N, REACH) + na(N) + go()))
+    for byte in range(256):
+        same(f"the UTF-8 of {byte}", names.utf8(byte), bytes([byte]).decode("latin-1").encode("utf-8"))
+        same(f"the bytes of {byte}", list(names.utf8(byte)), [byte] if byte < 128 else [194, byte] if byte < 192 else [195, byte - 64])
+    same("the UTF-8 of 201", list(names.utf8(201)), [195, 137])
+    value = Value(0, ())
+    for byte in reversed(range(256)):
+        value = Value(1, (Value(byte // 16, ()), Value(byte % 16, ()), value))
+    same("what a value of all bytes spells", names.spelt(value), bytes(range(256)))
+    same("its line", names.line(bytes(range(256))), " ".join(map(str, [*range(256), *range(128), *(
+        item for byte in range(128, 256) for item in (192 + byte // 64, 128 + byte % 64))])) + "\n")
+
+
+def spellings():
+    """Every list of at most D - 1 bytes is spelt by exactly one closed value that fits D."""
+    for types, named, depth in ((NAMES, N, 1), (NAMES, N, 2), (NAMES, N, 3), (ty((), (2, 1, 0)) + ty(*SIXTEEN) * 2, 0, 2)):
+        program = read(types + fn((named,), named, var(0)) + na(named) + go(depth=depth))
+        found = Counter(Names(program).spelt(value) for value, in inputs(program))
+        wanted = Counter(bytes(chosen) for length in range(depth) for chosen in product(range(256), repeat=length))
+        same(f"whether each list of fewer than {depth} bytes is spelt once, and no other", found == wanted, True)
+
+
+# Filling.
+
+def tight(types, least, type_):
+    """All values of the type in prefix form in which each part is as deep as its type's least depth."""
+    return [bytes([number]) + b"".join(chosen) for number, fields in enumerate(types[type_].constructors)
+            if 1 + max((least[field] for field in fields), default=0) == least[type_]
+            for chosen in product(*(tight(types, least, field) for field in fields))]
+
+
+def fillings():
+    """What fills an open part: worked by hand; and of all values whose parts are as shallow as may be it is the first."""
+    for types, wanted in ((ty((1,), (2,), (2, 2)) + ty((2,)) + ty(()), (b"\1\0", b"\0\0", b"\0")),
+                          (ty((0,), ()) + ty((0, 0), (1,)), (b"\1", b"\0\1\1")), (ty((), ()) + ty((1,), (0,), (0,)), (b"\0", b"\1\0")),
+                          (NAMES, (b"\0", b"\0")), (ty((1,)) + ty((2,), (0, 0)) + ty(()), (b"\0\0\0", b"\0\0", b"\0"))):
+        names = Names(read(types + fn((), 0, call(0)) + go(depth=8)))
+        same(f"what fills the types {types.hex()}", tuple(prefix(names.shallowest(type_)) for type_ in range(len(wanted))), wanted)
+    for program in random_programs(random.Random(2), 150):
+        names = Names(program)
+        for type_ in range(len(program.types)):
+            same("what fills an open part", prefix(names.shallowest(type_)), min(tight(program.types, names.least, type_)))
+
+
+class Emptied(Names):
+    """Forgets what is bound."""
+
+    def value(self, type_, rest):
+        return self.shallowest(type_)
+
+
+class Lengthened(Names):
+    """Goes on too long where a name ends."""
+
+    def filled(self, entry):
+        def longer(value):
+            return Value(1, (*value.fields[:2], longer(value.fields[2]))) if value.constructor else byte
+        byte = Value(1, (Value(0, ()), Value(0, ()), Value(0, ())))
+        return [longer(value) for value in super().filled(entry)]
+
+
+def random_named_programs(rng, count):
+    """Random rules that take names, with lists that are not long and their entries."""
+    found, forms = [], ([((), (1, 1, 0)), SIXTEEN], [((), (2, 1, 0)), SIXTEEN, SIXTEEN])
+    while len(found) < count:
+        rule, label, functions, named = random_named_rule(rng, rng.choice(forms))
+        program = check(rule + na(named) + go(rng.randrange(functions), label, rng.randint(1, 4), rng.choice((rng.randint(0, 9), 40))))
+        if isinstance(program, Program) and named in program.parameters:
+            try:
+                found.append((program, forked_entries(program, 60)))
+            except TooMany:
+                pass
+    return found
+
+
+def misfilled(names, entries):
+    """Whether a filled entry breaks what is demanded of it."""
+    try:
+        filled(names, entries, 3)
+    except Different:
+        return True
+    return False
+
+
+def filled_entries():
+    """A filled entry, its other parameters completed in any way that fits, behaves as its entry says: with parameters of any type
+    filled, on random rules with few inputs, and on random rules with names; where they are filled wrongly, some do not."""
+    for program in random_programs(random.Random(3), 150):
+        entries = forked_entries(program)
+        for type_ in range(len(program.types)):
+            filled(Names(replace(program, named=type_)), entries, 60)
+    programs, ends = random_named_programs(random.Random(4), 150), Counter()
+    for program, entries in programs:
+        same("what narrowing lists", list(Narrowing(program).entries({})), entries)
+        filled(Names(program), entries)
+        ends.update(entry.end for entry in entries)
+    same("kinds of entries that are fewer than 40", [end for end in (REACHED, UNFINISHED, MISSING) if ends[end] < 40], [])
+    for wrong in (Emptied, Lengthened):
+        shown = sum(misfilled(wrong(program), entries) for program, entries in programs)
+        same(f"whether 10 rules or more show what {wrong.__name__} does", shown >= 10, True)
 
 
 if __name__ == "__main__":
@@ -558,4 +765,11 @@ if __name__ == "__main__":
     longest_list()
     wrong_lists()
     random_lists()
+    worked_names()
+    worked_deep_names()
+    misspelt()
+    encodings()
+    spellings()
+    fillings()
+    filled_entries()
     print("blind side: all examples as expected")

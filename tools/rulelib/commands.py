@@ -96,7 +96,7 @@ class Session:
         """A line of reachlist with names, or as JSON."""
         try:
             return json.dumps(line_object(rule, line), ensure_ascii=False, separators=(",", ":")) if self.arguments.json else \
-                named_line(rule, line)
+                named_line(rule, line, self.arguments.constructors)
         except Fault as fault:
             raise Fault(number, fault.message) from None
 
@@ -165,6 +165,7 @@ def parsed(words):
     command = commands.add_parser("names", help="print the lines of reachlist, from standard input, with names")
     command.add_argument("text", metavar="TEXT")
     command.add_argument("--json", action="store_true", help="print one JSON object a line")
+    command.add_argument("--constructors", action="store_true", help="print the constructors too of what is printed as the name that it spells")
     command = commands.add_parser("input", help="write the bytes of a closed input")
     command.add_argument("text", metavar="TEXT")
     command.add_argument("values", metavar="VALUE", nargs="*", help="one for each parameter of the source: 'suc (suc zero)' or '1 1 0'")

@@ -7,4 +7,5 @@ MAX_PARENTHESES = 64  # of a text, which a rule file does not have
 
 REACHLIST_STEPS = 240  # reachlist lends 16,384 words, and a search takes 64 * S + 1,024
 
-REFUSALS = ["short", "mark", "range", "stranger", "code", "misfit", "tail", "hollow", "shallow", "input", "bench", "full", "page", "scrap"]
+REFUSALS = ["short", "mark", "range", "stranger", "code", "misfit", "tail", "hollow", "shallow", "input", "bench", "full", "page", "scrap",
+            "spelling"]

@@ -3,7 +3,7 @@
 from rulelib.faults import Fault
 from rulelib.limits import (MAX_CONSTRUCTORS, MAX_DEPTH, MAX_FIELDS, MAX_FUNCTIONS, MAX_LABEL, MAX_NESTING, MAX_PARAMETERS,
                             MAX_PARENTHESES, MAX_STEPS, MAX_TYPES)
-from rulelib.syntax import Alternative, Apply, Case, Constructor, Equal, Function, Go, Let, Target, Text, Type
+from rulelib.syntax import Alternative, Apply, Case, Constructor, Equal, Function, Go, Let, Naming, Target, Text, Type
 from rulelib.tokens import meaningless, tokens_of
 
 # What may help where a token is not expected.
@@ -22,7 +22,7 @@ class Parser:
         self.left = self.tokens[0].column  # of the first declaration
         self.latest = None  # the word that began the latest declaration, where it has no fault
         self.margin, self.parentheses = 0, 0
-        self.types, self.functions, self.go = [], [], None
+        self.types, self.functions, self.naming, self.go = [], [], None, None
         self.faults = []
         self.lost = {"type": set(), "name": set(), "go": set()}
         self.losing = set()  # the kinds of names that are lost if a fault comes now
@@ -89,14 +89,14 @@ class Parser:
                 self.recover(start)
         if self.go is None and not self.lost["go"]:
             self.faults.append(Fault(self.tokens[self.place].line, "the text has no 'go' line"))
-        return Text(self.types, self.functions, self.go, self.faults, self.lost)
+        return Text(self.types, self.functions, self.naming, self.go, self.faults, self.lost)
 
     def begins(self, token):
-        """What reads the declaration that the token begins, or None. `equal` begins one in the first column alone: elsewhere it is
-        a name."""
-        if token.text == "equal":
-            return self.equal if token.first and token.column <= self.left else None
-        return {"type": self.type, "fn": self.function, "go": self.goal}.get(token.text)
+        """What reads the declaration that the token begins, or None. `equal` and `names` begin one in the first column alone:
+        elsewhere they are names."""
+        if token.text in ("equal", "names") and not (token.first and token.column <= self.left):
+            return None
+        return {"type": self.type, "fn": self.function, "equal": self.equal, "names": self.names, "go": self.goal}.get(token.text)
 
     def declaration(self, token):
         self.place += 1
@@ -105,7 +105,7 @@ class Parser:
             self.spoil(token)
             hint = f" {INDENT}" if token.first else HINTS.get(token.text, "")
             raise Fault(token.line, meaningless(token) if token.kind == "bad" else
-                        f"'type', 'fn', 'equal' or 'go' is expected, not {token}{hint}")
+                        f"'type', 'fn', 'equal', 'names' or 'go' is expected, not {token}{hint}")
         self.latest = None
         reader(token)
         self.latest = token.text
@@ -193,6 +193,12 @@ class Parser:
         yes = self.take("name", "a constructor")
         self.expect("else")
         self.declare(Equal(type_, name, yes, self.take("name", "a constructor")))
+
+    def names(self, start):
+        self.losing = set()
+        if self.naming is not None:
+            raise Fault(start.line, f"a second 'names'; the first is in line {self.naming.line}")
+        self.naming = Naming(start.line, self.take("name", "the name of a type"))
 
     def goal(self, start):
         self.losing = {"go"}

@@ -13,8 +13,7 @@ class Names:
     def __init__(self, rule=None):
         self.types, self.functions = [], []  # types with their constructors and fields, functions with their parameters
         if rule is not None:
-            self.types = [(type_.name.text, [(name.text, [rule.scope.type(field) for field in fields])
-                                             for name, fields in type_.constructors]) for type_ in rule.text.types]
+            self.types = [(type_.name.text, constructors) for type_, constructors in zip(rule.text.types, rule.constructors)]
             self.functions = [(function.name.text, [name.text for name, _ in function.parameters])
                               for function in rule.scope.listed]
         for number, (name, parameters) in enumerate(self.functions):
@@ -66,6 +65,7 @@ class Reader:
     def __init__(self, data, names):
         self.data, self.place, self.end, self.names = data, 0, len(data), names
         self.types, self.heads, self.function = [], [], 0
+        self.named = []  # the type whose values spell names, where there is one
 
     def fault(self, message):
         return Fault(None, f"byte {self.place}: {message}")
@@ -97,16 +97,28 @@ class Reader:
         while mark == b"FN":
             self.heads.append(self.head())
             mark = bytes([self.byte(), self.byte()])
+        if mark == b"NA" and self.heads:
+            self.named = [self.byte()]
+            mark = bytes([self.byte(), self.byte()])
         if mark != b"GO":
             raise self.fault("a mark is unknown or out of its turn")
         source, label, depth, steps = self.byte(), self.byte(), self.byte(), self.pair()
         if self.place != self.end:
             raise self.fault("bytes follow the end")
         self.names.fit(self.types)
-        self.known(source, self.heads, "function")
+        self.see_numbers(source)
         lines = [self.type_line(number) for number in range(len(self.types))]
         lines += [self.function_lines(number) for number in range(len(self.heads))]
+        lines += [f"names {self.type_name(number)}" for number in self.named]
         return "\n".join(lines + [f"go {self.names.function(source)} label {label} depth {depth} steps {steps}"]) + "\n"
+
+    def see_numbers(self, source):
+        """Faults the first number of a type that there is not, or that of the source, in the order of the records."""
+        fields = [field for type_ in self.types for fields in type_ for field in fields]
+        heads = [number for parameters, result, _, _ in self.heads for number in (*parameters, result)]
+        for number in fields + heads + self.named:
+            self.known(number, self.types, "type")
+        self.known(source, self.heads, "function")
 
     def head(self):
         """The parameters and the result of a function, and where its body lies."""

@@ -1,11 +1,14 @@
 """A checked text and its rule file."""
 
+from functools import cached_property
+
 from rulelib.advice import advice
 from rulelib.bodies import Body
 from rulelib.faults import Fault, Faults, Unsure
 from rulelib.limits import MAX_BODY, MAX_FILE
 from rulelib.parser import parse
 from rulelib.scope import Scope
+from rulelib.spelling import see_form
 from rulelib.syntax import Function
 
 
@@ -22,8 +25,11 @@ class Rule:
         self.faults = self.scope.faults
         self.bodies = [Body(self.scope, function, head) for function, head in zip(self.scope.listed, self.scope.heads)]
         self.source = self.noting(self.find_source)
+        self.named = self.noting(self.find_named)
         if judged and not self.faults:
             self.judge()
+        if judged and self.named is not None:
+            self.noting(see_form, self.scope, self.text.naming)
         self.codes = [self.noting(self.code, body) for body in self.bodies]
         if not self.faults and len(self.data()) > MAX_FILE:
             self.faults.append(self.too_large())
@@ -37,6 +43,11 @@ class Rule:
         except Unsure:
             pass
         return None
+
+    @cached_property
+    def constructors(self):
+        """Per type its constructors, each with its name and the numbers of its fields' types."""
+        return [[(name.text, [self.scope.type(field) for field in fields]) for name, fields in type_.constructors] for type_ in self.text.types]
 
     # The rule file.
 
@@ -57,6 +68,10 @@ class Rule:
             raise Unsure()
         return self.scope.function(self.text.go.source)
 
+    def find_named(self):
+        """The number of the type whose values spell names, or None where the text has no such type."""
+        return None if self.text.naming is None else self.scope.type(self.text.naming.type)
+
     def type_record(self, type_):
         constructors = [bytes([len(fields)] + [self.scope.type(field) for field in fields]) for _, fields in type_.constructors]
         return b"TY" + bytes([len(constructors)]) + b"".join(constructors)
@@ -66,11 +81,14 @@ class Rule:
         body = self.codes[number].bytes()
         return b"FN" + bytes([len(takes), *takes, gives]) + two(len(body)) + body
 
+    def name_record(self):
+        return b"" if self.named is None else b"NA" + bytes([self.named])
+
     def data(self):
         """The bytes of the rule file."""
         go = self.text.go
         return b"".join(map(self.type_record, self.text.types)) + b"".join(map(self.function_record, range(len(self.codes)))) \
-            + b"GO" + bytes([self.source.number, go.label, go.depth]) + two(go.steps)
+            + self.name_record() + b"GO" + bytes([self.source.number, go.label, go.depth]) + two(go.steps)
 
     def too_large(self):
         written = {number for number, function in enumerate(self.text.functions) if isinstance(function, Function)}
@@ -102,7 +120,8 @@ class Rule:
 
 
 def checked(text, judged=True):
-    """The rule of a text without faults; a type without a closed value and too small a depth count where it is judged."""
+    """The rule of a text without faults. Where it is judged these count too: a type without a closed value, too small a depth, and a
+    type that is to spell names and has another form."""
     rule = Rule(text, judged)
     if rule.faults:
         raise Faults(rule.faults)

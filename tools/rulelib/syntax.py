@@ -70,9 +70,16 @@ class Go(NamedTuple):
     steps: int
 
 
+class Naming(NamedTuple):
+    """The type whose values spell names."""
+    line: int
+    type: Token
+
+
 class Text(NamedTuple):
     types: list
     functions: list  # of Function and Equal
+    naming: Optional[Naming]
     go: Optional[Go]
     faults: list
     lost: dict  # per kind, type or name: the names that declarations with a fault may declare; None stands for any name

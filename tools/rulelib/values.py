@@ -4,38 +4,47 @@ import re
 
 from rulelib.faults import Fault, are, counted
 from rulelib.limits import MAX_DEPTH, MAX_PARENTHESES, REFUSALS
+from rulelib.spelling import spelled
 from rulelib.tokens import meaningless, tokens_of
 
 
 # The lines of reachlist.
 
 class Entry:
-    """The bytes of one entry, turned into values."""
+    """The bytes of one entry, turned into values. A value is a pair of a constructor's number and its fields, or None where it is
+    open."""
 
     def __init__(self, rule, words):
         self.rule, self.words, self.place = rule, words, 0
 
     def value(self, type_, depth):
-        """A value of the type, at most `depth` deep, and whether it needs parentheses as a field."""
+        """A value of the type, at most `depth` deep."""
         if self.place == len(self.words):
             raise Fault(None, "the entry is too short for the rule")
         word = self.words[self.place]
         self.place += 1
         if word == "_":
-            return "_", False
-        constructors = self.rule.text.types[type_].constructors
+            return None
+        constructors = self.rule.constructors[type_]
         if not re.fullmatch("[0-9]{1,3}", word) or int(word) >= len(constructors) or depth == 0:
             raise Fault(None, f"'{word}' does not fit the rule's type {self.rule.scope.type_name(type_)} here")
-        name, fields = constructors[int(word)]
-        values = [self.value(self.rule.scope.type(field), depth - 1) for field in fields]
-        return " ".join([name.text] + [f"({text})" if inner else text for text, inner in values]), bool(fields)
+        return int(word), [self.value(field, depth - 1) for field in constructors[int(word)][1]]
 
     def values(self):
         """One value per parameter. The depth is not that of the text: a search may have been given another."""
-        found = [self.value(type_, MAX_DEPTH)[0] for type_ in self.rule.source.takes]
+        found = [self.value(type_, MAX_DEPTH) for type_ in self.rule.source.takes]
         if self.place != len(self.words):
             raise Fault(None, "the entry is too long for the rule")
         return found
+
+
+def built(rule, type_, value):
+    """A value by its constructors."""
+    if value is None:
+        return "_"
+    name, types = rule.constructors[type_][value[0]]
+    fields = [(built(rule, field, inner), inner) for field, inner in zip(types, value[1])]
+    return " ".join([name] + [f"({text})" if inner and inner[1] else text for text, inner in fields])
 
 
 TOTAL = "total ([0-9]{1,9}) ([0-9]{1,9}) ([0-9]{1,9}) ([0-9]{1,3}) (found|undecided|none)"
@@ -52,11 +61,20 @@ def total_object(line):
     raise Fault(None, "this is no line of reachlist")
 
 
+def entry_object(rule, words):
+    """What the words of an entry say. Of a text whose values spell names, it has what each parameter spells too, or None."""
+    types, values = rule.source.takes, Entry(rule, words[2:]).values()
+    said = {"kind": words[0], "steps": int(words[1]), "parameters": [built(rule, *pair) for pair in zip(types, values)]}
+    if rule.named is not None:
+        said["names"] = [spelled(value) if type_ == rule.named else None for type_, value in zip(types, values)]
+    return said
+
+
 def line_object(rule, line):
     """What a line of reachlist says: an entry, the total, or a refusal."""
     words = line.split()
     if re.match("(reach|unfinished|missing) [0-9]{1,5}( |$)", line):
-        return {"kind": words[0], "steps": int(words[1]), "parameters": Entry(rule, words[2:]).values()}
+        return entry_object(rule, words)
     if words[:1] == ["total"]:
         return total_object(line)
     if words[:1] == ["refused"] and words[1:] in [[str(number)] for number in range(1, len(REFUSALS) + 1)]:
@@ -64,12 +82,23 @@ def line_object(rule, line):
     raise Fault(None, "this is no line of reachlist")
 
 
-def named_line(rule, line):
-    """A line of reachlist with names; a refusal gets its word."""
+def shown(name, parameter, constructors):
+    """A parameter as the name that it spells, where it spells one, with its constructors where they are asked for."""
+    if name is None or name == parameter:
+        return parameter
+    return f"{name} = {parameter}" if constructors else name
+
+
+def named_line(rule, line, constructors=False):
+    """A line of reachlist with names, and with the constructors of what spells a name where they are asked for; a refusal gets its
+    word."""
     said = line_object(rule, line)
     if "refused" in said:
         return f"{line} {REFUSALS[said['refused'] - 1]}"
-    return "  ".join([f"{said['kind']} {said['steps']}"] + said["parameters"]) if "kind" in said else line
+    if "kind" not in said:
+        return line
+    names = said.get("names", [None] * len(said["parameters"]))
+    return "  ".join([f"{said['kind']} {said['steps']}"] + [shown(*both, constructors) for both in zip(names, said["parameters"])])
 
 
 # Closed inputs.

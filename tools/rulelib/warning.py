@@ -40,6 +40,13 @@ def function_warnings(rule, found):
     return warned
 
 
+def name_warnings(rule):
+    """No parameter of the source spells a name."""
+    naming, source = rule.text.naming, rule.text.go.source.text
+    return [Fault(naming.line, f"no parameter of '{source}' is of type '{naming.type.text}', so that namelist prints no name")] \
+        if naming is not None and rule.named not in rule.source.takes else []
+
+
 def step_warnings(rule):
     steps = rule.text.go.steps
     return [Fault(rule.text.go.line, f"{steps} steps are more than reachlist takes, which is {REACHLIST_STEPS}; "
@@ -51,4 +58,4 @@ def warnings(rule, for_library=False):
     found = reached(rule)
     cases = [Fault(line, message) for body in rule.bodies for line, message in body.warned.values()]
     steps = [] if for_library else step_warnings(rule)
-    return in_order(label_warnings(rule, found) + function_warnings(rule, found) + cases + steps)
+    return in_order(label_warnings(rule, found) + function_warnings(rule, found) + name_warnings(rule) + cases + steps)

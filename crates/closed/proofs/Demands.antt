@@ -15,7 +15,7 @@ use Rattle.reach.specs.declared.Refusal.{Refusal}
 use Rattle.reach.specs.declared.Refusal.the-variants.{BadInput, WorkTooShort}
 use Rattle.reach.specs.declared.Outcome.{Outcome}
 use Rattle.reach.specs.declared.Outcome.the-variants.{Unfinished, Missing}
-use Rattle.reach.specs.Words.{numberOf, stepsOf}
+use Rattle.reach.specs.Words.{OfFile, stepsOf}
 use Rattle.reach.specs.Limits.{workWords}
 use Rattle.reach.specs.Syntax.{Program, sourceTypes}
 use Rattle.reach.specs.Parts.{Parts, end, opened, bound, depth, prefix}
@@ -210,16 +210,16 @@ module _ (file input work work′ : List ℕ) (r : Answer) (call : Promised file
   -- which condition a refusal has
   abbrev Refusable : Refusal → Type 0
   Refusable why =
-      ((numberOf why ≤ 9) × (check file ≡ turnedBack why))
+      (OfFile why × (check file ≡ turnedBack why))
       ⊎ (((why ≡ BadInput) × ((p : Program) × (check file ≡ accepted p) × ((j : Parts) → ¬ IsInput p input j)))
       ⊎ ((why ≡ WorkTooShort) × ((p : Program) × (check file ≡ accepted p) × ((j : Parts) × IsInput p input j × (length work < workWords (p .steps))))))
 
-  -- Demand 1: "returns a result or one of the numbered refusals, each under its own condition only". In both directions and for every number: 1 to 9 are the
-  -- check's; 10 is given for an accepted file where "the bytes are not one closed, fitting value per parameter"; 11 behind it where "the work slice of 32-bit
-  -- words is shorter than 64 × S + 1,024". No other number is given.
+  -- Demand 1: "returns a result or one of the numbered refusals, each under its own condition only". In both directions and for every number: 1 to 9 and
+  -- 15 are the check's; 10 is given for an accepted file where "the bytes are not one closed, fitting value per parameter"; 11 behind it where "the work
+  -- slice of 32-bit words is shorter than 64 × S + 1,024". No other number is given.
   pub refused-exactly : (why : Refusal)
       → (r ≡ Answer.Refused why)
-      ↔ (((numberOf why ≤ 9) × (check file ≡ turnedBack why))
+      ↔ ((OfFile why × (check file ≡ turnedBack why))
       ⊎ (((why ≡ BadInput) × ((p : Program) × (check file ≡ accepted p) × ((j : Parts) → ¬ IsInput p input j)))
       ⊎ ((why ≡ WorkTooShort) × ((p : Program) × (check file ≡ accepted p) × ((j : Parts) × IsInput p input j × (length work < workWords (p .steps)))))))
   refused-exactly why = (λ is. from (check file) refl is, ⊎-elim (λ h. refused-file why (h .1)) (⊎-elim bad short))
@@ -249,7 +249,7 @@ module _ (file input work work′ : List ℕ) (r : Answer) (call : Promised file
           → r ≡ Answer.Refused why
       short (same-as, (p, checked, few)) = short-exactly p checked .1 few ∙ ap Answer.Refused (sym same-as)
 
-  -- 01, "Turned back": "Refusals 1 to 11 change no buffer."
+  -- 01, "Turned back": "Refusals 1 to 11 change no buffer." 02, Slip 4: nor does 15.
   pub refused-unchanged : (why : Refusal) → r ≡ Answer.Refused why → work′ ≡ work
   refused-unchanged why is = subst (λ (a : Answer). Unchanged a file work work′) is (call .words-are)
 

@@ -16,7 +16,7 @@ use reach::Verdict;
 use registers::Registers;
 use verdicts::verdict_after;
 
-// The answer: a refusal of 1 to 9 or 11; the length of a complete list with its verdict; or, with refusal 12, the length of the list
+// The answer: a refusal of 1 to 9, 11 or 15; the length of a complete list with its verdict; or, with refusal 12, the length of the list
 // that was cut short.
 pub enum Answer {
     Refused(Refusal),

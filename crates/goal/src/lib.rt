@@ -1,5 +1,5 @@
-// The goal of a rule file by value: what it asks for, looked up at the place of its record. No other crate reads these bytes of a
-// file that was read. Rests on crate marks.
+// The goal of a rule file by value: what it asks for, looked up at the place of its record, and the type that NA names. No other crate reads
+// these bytes of a file that was read. Rests on crate marks.
 ghost use mathlib.Core.Path.{_≡_};
 ghost use Prim.Native.Nat.{_+_};
 ghost use lib.ListN.{getD};
@@ -13,6 +13,12 @@ pub struct Goal {
     pub label: usize,
     pub depth: usize,
     pub steps: usize,
+}
+
+// The type whose values are names, if NA names one.
+pub enum Named {
+    Nothing,
+    Type(usize),
 }
 
 // In the place of a goal, of a file that has none.

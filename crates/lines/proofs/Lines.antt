@@ -83,7 +83,7 @@ share-few a b = go (eqb (a + b) 0)
     go true = omega arith
     go false = div-le-self (100 * b) (a + b)
 
-pub number-few : (why : Refusal) → numberOf why ≤ 14
+pub number-few : (why : Refusal) → numberOf why ≤ 15
 number-few refusal.Truncated = omega arith
 number-few refusal.UnexpectedMark = omega arith
 number-few refusal.OutOfRange = omega arith
@@ -98,6 +98,7 @@ number-few refusal.WorkTooShort = omega arith
 number-few refusal.ListFull = omega arith
 number-few refusal.TextTooShort = omega arith
 number-few refusal.BadList = omega arith
+number-few refusal.BadSpelling = omega arith
 
 module _ {t u : List ℕ} {at r : ℕ} where
   pub number-end : (n : ℕ) → Puts t at (space ∷ decimal n) u r → r ≤ at + (n + 2)

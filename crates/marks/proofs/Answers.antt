@@ -11,7 +11,7 @@ use Rattle.reach.specs.Base.{pick}
 use Rattle.reach.specs.declared.Refusal.the-variants.{Truncated}
 use Rattle.reach.specs.Reader.{Got, got, refused, onGot, byte, word}
 use Rattle.reach.specs.RuleFile as RuleFile
-use Rattle.reach.specs.RuleFile.{TY, FN, GO, other, markOf, mark}
+use Rattle.reach.specs.RuleFile.{TY, FN, NA, GO, other, markOf, mark}
 use Rattle.reach.proofs.Base.{clash}
 use Rattle.marks.specs.Found.{takenOf, wordOf, markNamed, markedOf}
 use Rattle.marks.specs.declared.Taken.{Taken}
@@ -65,12 +65,14 @@ mark-plain s at = two-plain markOf s at
 abbrev pub markRead : Mark → RuleFile.Mark
 markRead Mark.Type = TY
 markRead Mark.Function = FN
+markRead Mark.Name = NA
 markRead Mark.Goal = GO
 markRead Mark.Other = other
 
 read-named : (m : RuleFile.Mark) → markRead (markNamed m) ≡ m
 read-named TY = refl
 read-named FN = refl
+read-named NA = refl
 read-named GO = refl
 read-named other = refl
 

@@ -3,7 +3,7 @@
 use Prim.Native.Nat.{ℕ}
 use Rattle.reach.specs.Reader.{Got, got, refused}
 use Rattle.reach.specs.RuleFile as RuleFile
-use Rattle.reach.specs.RuleFile.{TY, FN, GO, other}
+use Rattle.reach.specs.RuleFile.{TY, FN, NA, GO, other}
 use Rattle.marks.specs.declared.Taken.{Taken}
 use Rattle.marks.specs.declared.TakenWord.{TakenWord}
 use Rattle.marks.specs.declared.Mark.{Mark}
@@ -21,6 +21,7 @@ wordOf (refused why) = TakenWord.Short
 abbrev pub markNamed : RuleFile.Mark → Mark
 markNamed TY = Mark.Type
 markNamed FN = Mark.Function
+markNamed NA = Mark.Name
 markNamed GO = Mark.Goal
 markNamed other = Mark.Other
 

@@ -24,6 +24,7 @@ pub enum TakenWord {
 pub enum Mark {
     Type,
     Function,
+    Name,
     Goal,
     Other,
 }
@@ -85,6 +86,9 @@ fn mark_of(a: u8, b: u8) -> Mark
     }
     if is_mark(a, b, b"FN") {
         return Mark::Function;
+    }
+    if is_mark(a, b, b"NA") {
+        return Mark::Name;
     }
     if is_mark(a, b, b"GO") {
         return Mark::Goal;

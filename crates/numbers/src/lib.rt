@@ -1,13 +1,15 @@
-// The second pass over a rule file: the type and function numbers in TY, FN heads and GO all exist. The records are looked at
+// The second pass over a rule file: the type and function numbers in TY, FN heads, NA and GO all exist. The records are looked at
 // where the first pass found them: `types` and `functions` hold the places behind the marks. Rests on crates
 // marks, lookups and goal.
 ghost use mathlib.Core.Path.{_≡_};
 ghost use Prim.Native.Nat.{_≤_};
 ghost use mathlib.Core.List.{map};
-ghost use Rattle.reach.specs.RuleFile.{allBelow, constructorsExist, typesExist, headsExist, numbersExist};
+ghost use lib.Dec.{ltb};
+ghost use Rattle.reach.specs.RuleFile.{allBelow, constructorsExist, typesExist, headsExist, ifNamed, numbersExist};
 ghost use Rattle.reach.specs.Places.{bytesAt, constructorsAt, typeAt, headAt, outlineAt};
-ghost use Rattle.goal.specs.Goals.{goalOf};
+ghost use Rattle.goal.specs.Goals.{goalOf, namedOf};
 use goal::Goal;
+use goal::Named;
 use lookups::constructors_of;
 use lookups::head_of;
 use marks::byte_or_zero;
@@ -80,14 +82,33 @@ fn heads_exist<'a>(s: &'a [u8], functions: &'a [u16], limit: usize) -> bool
     true
 }
 
+// The type that NA names exists, where there is one.
+fn name_exists(named: Named, limit: usize) -> bool
+    ensures { λ r. ⌜ r ≡ ifNamed (λ t. ltb t limit) (namedOf named) ⌝ }
+{
+    match named {
+        Named::Nothing => true,
+        Named::Type(t) => t < limit,
+    }
+}
+
 // All of these, and the function of the goal.
-pub fn numbers_exist<'a>(s: &'a [u8], types: &'a [u16], functions: &'a [u16], goal: Goal) -> bool
-    ensures { λ r. ⌜ r ≡ numbersExist (outlineAt (now (s .entry)) (now (types .entry)) (now (functions .entry)) (goalOf goal)) ⌝ }
+pub fn numbers_exist<'a>(
+    s: &'a [u8],
+    types: &'a [u16],
+    functions: &'a [u16],
+    named: Named,
+    goal: Goal,
+) -> bool
+    ensures { λ r. ⌜ r ≡ numbersExist (outlineAt (now (s .entry)) (now (types .entry)) (now (functions .entry)) (namedOf named) (goalOf goal)) ⌝ }
 {
     if !types_exist(s, types, types.len()) {
         return false;
     }
     if !heads_exist(s, functions, types.len()) {
+        return false;
+    }
+    if !name_exists(named, types.len()) {
         return false;
     }
     goal.source < functions.len()

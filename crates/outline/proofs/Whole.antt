@@ -1,19 +1,21 @@
--- The outline of a file as first_pass reads it: the first mark, the types, the functions, and the goal with the end of the file.
+-- The outline of a file as first_pass reads it: the first mark, the types, the functions, what NA names, and the goal with the end of the file.
 -- Rests on Tables, on reach's RuleFile and Places, and on the laws of crate records about steps.
 use Prim.Native.Nat.{ℕ}
 use mathlib.Core.Path.{_≡_, refl, sym, _∙_}
 use mathlib.Core.List.{List}
+use mathlib.Core.Option.{Option, some}
 use Rattle.reach.specs.declared.Refusal.{Refusal}
 use Rattle.reach.specs.declared.Refusal.the-variants.{UnexpectedMark, TrailingBytes}
 use Rattle.reach.specs.Syntax.{Types}
-use Rattle.reach.specs.Reader.{Got, got, refused, onGot, Reader, _>>=_, _>>_, give, refuse, atEnd}
-use Rattle.reach.specs.RuleFile.{Mark, TY, FN, GO, other, onMark, mark, typeRecord, moreTypes, Head, functionRecord, moreFunctions, Goal, goalRecord, Outline, outline}
+use Rattle.reach.specs.Reader.{Got, got, refused, onGot, Reader, _>>=_, _>>_, give, refuse, byte, atEnd}
+use Rattle.reach.specs.RuleFile.{Mark, TY, FN, NA, GO, other, onMark, mark, typeRecord, moreTypes, Head, functionRecord, moreFunctions, goalMark, nameRecord, naming, Goal, goalRecord, Outline, outline}
 use Rattle.reach.specs.Places.{goalAt}
+use Rattle.reach.proofs.Partial.{then-same}
 use Rattle.reach.proofs.Places.{goal-read}
 use Rattle.records.specs.declared.Step.{Step}
 use Rattle.records.specs.Steps.{stepOf}
 use Rattle.records.proofs.Answers.{step-got, step-refused, on-got}
-use Rattle.outline.specs.Tables.{typesFrom, functionsFrom, firstMark, lastRecord}
+use Rattle.outline.specs.Tables.{typesFrom, functionsFrom, onStep, firstMark, lastRecord}
 
 -- one reading and then the rest, however the rest is grouped
 regroup : {A B C : Type 0} (x : Got A) (f : A → ℕ → Got B) (g : B → ℕ → Got C) (h : A → ℕ → Got C)
@@ -25,20 +27,31 @@ regroup (refused why) f g h alike = refl
 -- the first record stands behind its mark
 first-marked : {A C : Type 0} (one : Reader A) (f : A → ℕ → Got C) (g : Unit {0} → ℕ → Got C) (s : List ℕ) (i : ℕ)
     → onGot {B = Got C} f (λ why. refused why) (one s i) ≡ g tt i
-    → (m : Mark) → onGot {B = Got C} f (λ why. refused why) (onMark one (refuse UnexpectedMark) (refuse UnexpectedMark) (refuse UnexpectedMark) m s i)
-    ≡ onGot {B = Got C} g (λ why. refused why) (onMark (give tt) (refuse UnexpectedMark) (refuse UnexpectedMark) (refuse UnexpectedMark) m s i)
+    → (m : Mark) → onGot {B = Got C} f (λ why. refused why) (onMark one (refuse UnexpectedMark) (refuse UnexpectedMark) (refuse UnexpectedMark) (refuse UnexpectedMark) m s i)
+    ≡ onGot {B = Got C} g (λ why. refused why) (onMark (give tt) (refuse UnexpectedMark) (refuse UnexpectedMark) (refuse UnexpectedMark) (refuse UnexpectedMark) m s i)
 first-marked one f g s i e TY = e
 first-marked one f g s i e FN = refl
+first-marked one f g s i e NA = refl
 first-marked one f g s i e GO = refl
 first-marked one f g s i e other = refl
+
+-- the type that NA names, where the step behind it tells of the mark GO
+pub name-then : (s : List ℕ) (i : ℕ) {t next : ℕ} {r : Step} → byte s i ≡ got t next → r ≡ stepOf (goalMark s next) → nameRecord s i ≡ onStep (some t) r
+unfolding nameRecord
+name-then s i {t} {next} {r} here told = rw (here, told) (by-mark (goalMark s next))
+  where
+    by-mark : (g : Got (Unit {0})) → onGot {B = Got (Option ℕ)} (λ u k. got (some t) k) (λ why. refused why) g ≡ onStep (some t) (stepOf g)
+    by-mark (got u k) = refl
+    by-mark (refused why) = refl
 
 -- the parts that have a function of their own, one after the other, behind the first mark
 abbrev behindMark : Reader Outline
 behindMark = do
   ts ← typesFrom 31
   fs ← functionsFrom 63
+  n ← naming
   g ← lastRecord
-  give (record { declared = record { types = ts; heads = fs }; goal = g })
+  give (record { declared = record { types = ts; heads = fs }; named = n; goal = g })
 
 module _ (s : List ℕ) where
   -- the outline is read in those parts
@@ -51,9 +64,10 @@ module _ (s : List ℕ) where
       (λ t k. regroup (moreTypes 31 s k) _ _ _
       (λ ts l. regroup (functionRecord s l) _ _ _
       (λ f n. regroup (moreFunctions 63 s n) _ _ _
-      (λ fs o. regroup (goalRecord s o) _ _ _
+      (λ fs o. then-same (naming s o) _ _
+      (λ t q. regroup (goalRecord s q) _ _ _
       (λ g e. regroup (atEnd TrailingBytes s e) _ _ _
-      (λ u next. refl)))))))
+      (λ u next. refl))))))))
       m)
 
   -- the goal that was read as the last record stands there
@@ -80,13 +94,17 @@ module _ (s : List ℕ) where
           → outline s 0 ≡ refused why
       functions-refused types e = marked ∙ rw (types, e)
 
-      -- The answer to the last record, where types and functions were read.
-      module _ {ts : Types} {fs : List Head} {j k : ℕ} (types : typesFrom 31 s i ≡ got ts j) (functions : functionsFrom 63 s j ≡ got fs k)
-          {last : Step} (ended : last ≡ stepOf (lastRecord s k)) where
-        pub goal-refused : {why : Refusal} → last ≡ Step.Refused why → outline s 0 ≡ refused why
-        goal-refused e = marked ∙ rw (types, functions, step-refused (lastRecord s k) (sym ended ∙ e))
+      module _ {ts : Types} {fs : List Head} {j k : ℕ} (types : typesFrom 31 s i ≡ got ts j) (functions : functionsFrom 63 s j ≡ got fs k) where
+        pub names-refused : {why : Refusal} → naming s k ≡ refused why → outline s 0 ≡ refused why
+        names-refused e = marked ∙ rw (types, functions, e)
 
-        pub outlined : {next : ℕ} → last ≡ Step.Next next → outline s 0 ≡ got (record { declared = record { types = ts; heads = fs }; goal = goalAt s k }) next
-        outlined e =
-            let (g, read) = step-got (lastRecord s k) (sym ended ∙ e) in
-            marked ∙ rw (types, functions, read, last-read k read)
+        -- The answer to the last record, where all before it were read.
+        module _ {named : Option ℕ} {l : ℕ} (names : naming s k ≡ got named l) {last : Step} (ended : last ≡ stepOf (lastRecord s l)) where
+          pub goal-refused : {why : Refusal} → last ≡ Step.Refused why → outline s 0 ≡ refused why
+          goal-refused e = marked ∙ rw (types, functions, names, step-refused (lastRecord s l) (sym ended ∙ e))
+
+          pub outlined : {next : ℕ} → last ≡ Step.Next next
+              → outline s 0 ≡ got (record { declared = record { types = ts; heads = fs }; named = named; goal = goalAt s l }) next
+          outlined e =
+              let (g, read) = step-got (lastRecord s l) (sym ended ∙ e) in
+              marked ∙ rw (types, functions, names, read, last-read l read)

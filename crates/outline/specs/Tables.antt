@@ -1,7 +1,8 @@
--- What the first pass leaves: the places of the records, what the readers of crate reach find there, and the goal.
+-- What the first pass leaves: the places of the records, what the readers of crate reach find there, the type that NA names, and the goal.
 -- Rests on reach's RuleFile and Places, on goal's Goals and on the structs of src/lib.rt.
 use Prim.Native.Nat.{ℕ, pred, _≤_, _<_}
 use mathlib.Core.List.{List, [], _∷_, map}
+use mathlib.Core.Option.{Option}
 use lib.ListN.{take}
 use Rattle.reach.specs.Limits.{typeLimit, functionLimit}
 use Rattle.reach.specs.Syntax.{Types}
@@ -11,11 +12,13 @@ use Rattle.reach.specs.RuleFile.{onMark, mark, typeRecord, moreTypes, Head, fun
 use Rattle.reach.specs.Places.{typeAt, headAt, outlineAt}
 use Rattle.records.specs.declared.Step.{Step}
 use Rattle.records.specs.declared.Step.the-variants.{Next, Refused}
-use Rattle.goal.specs.Goals.{goalOf}
+use Rattle.goal.specs.declared.Goal as Goal
+use Rattle.goal.specs.Goals.{goalOf, namedOf}
 use Rattle.outline.specs.declared.Turn.{Turn}
 use Rattle.outline.specs.declared.Turn.the-variants as Turn
 use Rattle.outline.specs.declared.TypeTable.{TypeTable}
 use Rattle.outline.specs.declared.FunctionTable.{FunctionTable}
+use Rattle.outline.specs.declared.Naming.{Naming}
 use Rattle.outline.specs.declared.Outlined.{Outlined}
 
 -- a type's record, then up to k more types, up to behind the mark of the first function
@@ -25,7 +28,7 @@ typesFrom k = do
   ts ← moreTypes k
   give (t ∷ ts)
 
--- a function's record, then up to k more functions, up to behind the mark GO
+-- a function's record, then up to k more functions, up to the mark NA or GO
 unfoldable pub functionsFrom : ℕ → Reader (List Head)
 functionsFrom k = do
   f ← functionRecord
@@ -62,7 +65,24 @@ abbrev pub functionsOf : List ℕ → FunctionTable → Got (List Head)
 functionsOf s r = onStep (map (headAt s) (take (r .count) (r .places))) (r .step)
 
 abbrev pub outlinedOf : List ℕ → Outlined → Got Outline
-outlinedOf s r = onStep (outlineAt s (take (r .types) (r .«type_at»)) (take (r .functions) (r .«function_at»)) (goalOf (r .goal))) (r .step)
+outlinedOf s r = onStep (outlineAt s (take (r .types) (r .«type_at»)) (take (r .functions) (r .«function_at»)) (namedOf (r .named)) (goalOf (r .goal))) (r .step)
+
+-- what stands between the functions and the goal
+abbrev pub namingOf : Naming → Got (Option ℕ)
+namingOf r = onStep (namedOf (r .named)) (r .step)
+
+-- what was read, put together
+abbrev pub outlineOf : Step → TypeTable → FunctionTable → Naming → Goal.Goal → Outlined
+outlineOf step types functions naming goal =
+    record {
+      step = step;
+      types = types .count;
+      «type_at» = types .places;
+      functions = functions .count;
+      «function_at» = functions .places;
+      named = naming .named;
+      goal = goal;
+    }
 
 -- the counts fit the arrays
 pub record InLimits (r : Outlined) : Type 0 where
@@ -73,7 +93,7 @@ pub record InLimits (r : Outlined) : Type 0 where
 unfoldable pub firstMark : Reader (Unit {0})
 firstMark = do
   m ← mark
-  onMark (give tt) (refuse UnexpectedMark) (refuse UnexpectedMark) (refuse UnexpectedMark) m
+  onMark (give tt) (refuse UnexpectedMark) (refuse UnexpectedMark) (refuse UnexpectedMark) (refuse UnexpectedMark) m
 
 -- the goal, and nothing behind it
 unfoldable pub lastRecord : Reader Goal

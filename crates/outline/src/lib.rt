@@ -1,20 +1,25 @@
 // The first pass over a rule file: marks, counts, lengths, D and S, bodies passed over. What it leaves is the places where the
-// records of types and functions stand, and the goal. Every mark is read through the cursor: the first where the file begins, each
-// other one where the record before it ends. Rests on crates cursor, records and goal.
+// records of types and functions stand, the type that NA names, and the goal. Every mark is read through the cursor: the first where
+// the file begins, each other one where the record before it ends; the one behind the last function, NA or GO, is left by the
+// functions and read again. Rests on crates marks, cursor, records and goal.
 ghost use mathlib.Core.Path.{_≡_};
 ghost use Prim.Native.Nat.{ℕ, _≤_};
 ghost use lib.ListN.{length};
 ghost use Rattle.reach.specs.Limits.{typeLimit, functionLimit};
-ghost use Rattle.reach.specs.RuleFile.{moreTypes, moreFunctions, outline};
+ghost use Rattle.reach.specs.RuleFile.{moreTypes, moreFunctions, goalMark, nameRecord, naming, outline};
 ghost use Rattle.records.specs.Steps.{stepOf};
-ghost use Rattle.outline.specs.Tables.{typesTurn, functionsTurn, Room, typesFrom, functionsFrom, typesOf, functionsOf, outlinedOf, InLimits, firstMark, lastRecord};
+ghost use Rattle.outline.specs.Tables.{typesTurn, functionsTurn, Room, typesFrom, functionsFrom, typesOf, functionsOf, outlinedOf, namingOf, outlineOf, InLimits, firstMark, lastRecord};
 use cursor::mark_at;
 use cursor::mark_behind;
 use goal::Goal;
+use goal::Named;
 use goal::goal_of;
 use goal::no_goal;
 use marks::Mark;
 use marks::Marked;
+use marks::Taken;
+use marks::take_byte;
+use marks::wide;
 use reach::Refusal;
 use records::Step;
 use records::skip_function;
@@ -46,6 +51,12 @@ pub struct FunctionTable {
     pub places: [u16; 64],
 }
 
+// What stands between the functions and the goal: how far it goes, and the type that NA names.
+pub struct Naming {
+    pub step: Step,
+    pub named: Named,
+}
+
 // A file as the first pass leaves it.
 pub struct Outlined {
     pub step: Step,
@@ -53,6 +64,7 @@ pub struct Outlined {
     pub type_at: [u16; 32],
     pub functions: usize,
     pub function_at: [u16; 64],
+    pub named: Named,
     pub goal: Goal,
 }
 
@@ -73,12 +85,13 @@ fn turn_after_type(s: &[u8], from: usize, behind: usize, more: usize) -> Turn
             }
         }
         Mark::Function => Turn::Done(next),
+        Mark::Name => Turn::Refused(Refusal::UnexpectedMark),
         Mark::Goal => Turn::Refused(Refusal::UnexpectedMark),
         Mark::Other => Turn::Refused(Refusal::UnexpectedMark),
     }
 }
 
-// The mark behind a function that begins at `from`, where so many more functions may come.
+// The mark behind a function that begins at `from`, where so many more functions may come. NA and GO are left to be read.
 fn turn_after_function(s: &[u8], from: usize, behind: usize, more: usize) -> Turn
     ensures { λ r. ⌜ moreFunctions more (now (s .entry)) behind ≡ functionsTurn (now (s .entry)) more r ⌝ }
     ensures room { λ r. ⌜ Room more r ⌝ }
@@ -95,7 +108,8 @@ fn turn_after_function(s: &[u8], from: usize, behind: usize, more: usize) -> Tur
                 Turn::Again(next)
             }
         }
-        Mark::Goal => Turn::Done(next),
+        Mark::Name => Turn::Done(behind),
+        Mark::Goal => Turn::Done(behind),
         Mark::Other => Turn::Refused(Refusal::UnexpectedMark),
     }
 }
@@ -140,7 +154,7 @@ fn read_types(s: &[u8], first: usize) -> TypeTable
     }
 }
 
-// The functions from behind the first mark to behind the mark GO.
+// The functions from behind the first mark to the mark NA or GO.
 fn read_functions(s: &[u8], first: usize) -> FunctionTable
     requires { ⌜ length (now s) ≤ 16384 ⌝ }
     ensures { λ r. ⌜ functionsFrom 63 (now (s .entry)) first ≡ functionsOf (now (s .entry)) r ⌝ }
@@ -190,6 +204,7 @@ fn first_mark(s: &[u8]) -> Step
     match mark {
         Mark::Type => Step::Next(next),
         Mark::Function => Step::Refused(Refusal::UnexpectedMark),
+        Mark::Name => Step::Refused(Refusal::UnexpectedMark),
         Mark::Goal => Step::Refused(Refusal::UnexpectedMark),
         Mark::Other => Step::Refused(Refusal::UnexpectedMark),
     }
@@ -206,7 +221,64 @@ fn not_read(step: Step) -> Outlined
         type_at: [0; 32],
         functions: 0,
         function_at: [0; 64],
+        named: Named::Nothing,
         goal: no_goal(),
+    }
+}
+
+// The place behind the mark GO, which must come behind NA's type number; `from` is where that number stands.
+fn goal_mark(s: &[u8], from: usize, behind: usize) -> Step
+    ensures { λ r. ⌜ r ≡ stepOf (goalMark (now (s .entry)) behind) ⌝ }
+{
+    let Marked::Mark(mark, next) = mark_behind(s, from, behind) else {
+        return Step::Refused(Refusal::Truncated);
+    };
+    match mark {
+        Mark::Type => Step::Refused(Refusal::UnexpectedMark),
+        Mark::Function => Step::Refused(Refusal::UnexpectedMark),
+        Mark::Name => Step::Refused(Refusal::UnexpectedMark),
+        Mark::Goal => Step::Next(next),
+        Mark::Other => Step::Refused(Refusal::UnexpectedMark),
+    }
+}
+
+// Nothing that NA names, and how far it goes.
+fn not_named(step: Step) -> Naming
+    ensures { λ r. ⌜ (r .step ≡ step) × (r .named ≡ Named.Nothing) ⌝ }
+{
+    Naming {
+        step,
+        named: Named::Nothing,
+    }
+}
+
+// What follows the mark NA: a type number, and the mark GO.
+fn name_record(s: &[u8], at: usize) -> Naming
+    ensures { λ r. ⌜ nameRecord (now (s .entry)) at ≡ namingOf r ⌝ }
+{
+    let Taken::Byte(t, behind) = take_byte(s, at) else {
+        return not_named(Step::Refused(Refusal::Truncated));
+    };
+    let step = goal_mark(s, at, behind);
+    Naming {
+        step,
+        named: Named::Type(wide(t)),
+    }
+}
+
+// What stands between the functions and the goal: NA with its type number or nothing, and the mark GO.
+fn read_naming(s: &[u8], at: usize) -> Naming
+    ensures { λ r. ⌜ naming (now (s .entry)) at ≡ namingOf r ⌝ }
+{
+    let Marked::Mark(mark, next) = mark_at(s, at) else {
+        return not_named(Step::Refused(Refusal::Truncated));
+    };
+    match mark {
+        Mark::Type => not_named(Step::Refused(Refusal::UnexpectedMark)),
+        Mark::Function => not_named(Step::Refused(Refusal::UnexpectedMark)),
+        Mark::Name => name_record(s, next),
+        Mark::Goal => not_named(Step::Next(next)),
+        Mark::Other => not_named(Step::Refused(Refusal::UnexpectedMark)),
     }
 }
 
@@ -222,6 +294,30 @@ fn last_record(s: &[u8], at: usize) -> Step
         return Step::Refused(Refusal::TrailingBytes);
     }
     step
+}
+
+// What was read, put together.
+fn all_read(
+    step: Step,
+    types: TypeTable,
+    functions: FunctionTable,
+    naming: Naming,
+    goal: Goal,
+) -> Outlined
+    ensures { λ r. ⌜ r ≡ outlineOf step types functions naming goal ⌝ }
+{
+    let type_at = types.places;
+    let function_at = functions.places;
+    let named = naming.named;
+    Outlined {
+        step,
+        types: types.count,
+        type_at,
+        functions: functions.count,
+        function_at,
+        named,
+        goal,
+    }
 }
 
 // The first pass over a whole file.
@@ -241,22 +337,17 @@ pub fn first_pass(s: &[u8]) -> Outlined
     };
     let functions = read_functions(s, first_function);
     let defined = functions.step;
-    let Step::Next(goal_at) = defined else {
+    let Step::Next(names_at) = defined else {
         return not_read(defined);
+    };
+    let naming = read_naming(s, names_at);
+    let told = naming.step;
+    let Step::Next(goal_at) = told else {
+        return not_read(told);
     };
     let last = last_record(s, goal_at);
     let Step::Next(_) = last else {
         return not_read(last);
     };
-    let type_at = types.places;
-    let function_at = functions.places;
-    let goal = goal_of(s, goal_at);
-    Outlined {
-        step: last,
-        types: types.count,
-        type_at,
-        functions: functions.count,
-        function_at,
-        goal,
-    }
+    all_read(last, types, functions, naming, goal_of(s, goal_at))
 }

@@ -7,7 +7,7 @@ use mathlib.Core.List.{List, [], flatMap}
 use mathlib.Core.Option.{Option, none, some, Option·none-ne-some, Option·some-injective}
 use lib.ListN.{length, take, drop}
 use Rattle.reach.specs.declared.Refusal.{Refusal}
-use Rattle.reach.specs.declared.Refusal.the-variants.{Truncated, UnexpectedMark, OutOfRange, UnknownNumber, UnknownCode, TypeMismatch, TrailingBytes, EmptyType, DepthTooSmall, BadInput, WorkTooShort, ListFull, TextTooShort, BadList}
+use Rattle.reach.specs.declared.Refusal.the-variants.{Truncated, UnexpectedMark, OutOfRange, UnknownNumber, UnknownCode, TypeMismatch, TrailingBytes, EmptyType, DepthTooSmall, BadInput, WorkTooShort, ListFull, TextTooShort, BadList, BadSpelling}
 use Rattle.reach.specs.declared.Outcome.{Outcome}
 use Rattle.reach.specs.declared.Outcome.the-variants.{Reached, Ended, Unfinished, Missing}
 use Rattle.reach.specs.declared.Verdict.{Verdict}
@@ -50,6 +50,7 @@ refusal-named WorkTooShort = (omega arith, refl)
 refusal-named ListFull = (omega arith, refl)
 refusal-named TextTooShort = (omega arith, refl)
 refusal-named BadList = (omega arith, refl)
+refusal-named BadSpelling = (omega arith, refl)
 
 verdict-named : (v : Verdict) → (verdictNumber v < 256) × (verdictNamed (verdictNumber v) ≡ some v)
 unfolding verdictNamed

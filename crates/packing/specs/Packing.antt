@@ -36,18 +36,18 @@ abbrev pub checkNumber : Checked → ℕ
 checkNumber (accepted p) = 0
 checkNumber (turnedBack why) = numberOf why
 
--- the search: a refusal of 1 to 9 or 11; the verdict and the length of a complete list; or 12 and the length of a list cut short
+-- the search: a refusal of 1 to 9, 11 or 15; the verdict and the length of a complete list; or 12 and the length of a list cut short
 abbrev pub searchNumber : SearchAnswer → ℕ
 searchNumber (noSearch why) = numberOf why
 searchNumber (complete es) = 256 * verdictNumber (verdict es) + 65536 * length (listBytes es)
 searchNumber (cutShort es) = numberOf ListFull + 65536 * length (listBytes es)
 
--- the closed run: a refusal of 1 to 11; or how it ended, its steps, and how deep its input is
+-- the closed run: a refusal of 1 to 11 or 15; or how it ended, its steps, and how deep its input is
 abbrev pub runNumber : RunAnswer → ℕ
 runNumber (noRun why) = numberOf why
 runNumber (ran o deep) = 256 * outcomeNumber o + 65536 * stepsOf o + 4294967296 * deep
 
--- the text of a list, its length or itself: a refusal of 1 to 9, 13 or 14; or its length
+-- the text of a list, its length or itself: a refusal of 1 to 9 or 13 to 15; or its length
 abbrev pub textNumber : TextAnswer → ℕ
 textNumber (noText why) = numberOf why
 textNumber (ofLength n) = 65536 * n

@@ -6,7 +6,7 @@ use mathlib.Core.List.{[], _∷_}
 use mathlib.Core.Option.{Option, none, some}
 use lib.ListN.{length, getD}
 use Rattle.reach.specs.declared.Refusal.{Refusal}
-use Rattle.reach.specs.declared.Refusal.the-variants.{Truncated, UnexpectedMark, OutOfRange, UnknownNumber, UnknownCode, TypeMismatch, TrailingBytes, EmptyType, DepthTooSmall, BadInput, WorkTooShort, ListFull, TextTooShort, BadList}
+use Rattle.reach.specs.declared.Refusal.the-variants.{Truncated, UnexpectedMark, OutOfRange, UnknownNumber, UnknownCode, TypeMismatch, TrailingBytes, EmptyType, DepthTooSmall, BadInput, WorkTooShort, ListFull, TextTooShort, BadList, BadSpelling}
 use Rattle.reach.specs.declared.Outcome.{Outcome}
 use Rattle.reach.specs.declared.Outcome.the-variants.{Reached, Ended, Unfinished, Missing}
 use Rattle.reach.specs.declared.Verdict.{Verdict}
@@ -50,7 +50,7 @@ sizeBits number = number / 4294967296
 unfoldable pub refusalNamed : ℕ → Option Refusal
 refusalNamed n =
     getD
-    (none ∷ some Truncated ∷ some UnexpectedMark ∷ some OutOfRange ∷ some UnknownNumber ∷ some UnknownCode ∷ some TypeMismatch ∷ some TrailingBytes ∷ some EmptyType ∷ some DepthTooSmall ∷ some BadInput ∷ some WorkTooShort ∷ some ListFull ∷ some TextTooShort ∷ some BadList ∷ [])
+    (none ∷ some Truncated ∷ some UnexpectedMark ∷ some OutOfRange ∷ some UnknownNumber ∷ some UnknownCode ∷ some TypeMismatch ∷ some TrailingBytes ∷ some EmptyType ∷ some DepthTooSmall ∷ some BadInput ∷ some WorkTooShort ∷ some ListFull ∷ some TextTooShort ∷ some BadList ∷ some BadSpelling ∷ [])
     n
     none
 

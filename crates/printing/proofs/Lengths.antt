@@ -23,30 +23,10 @@ use Rattle.reach.specs.Lists.{onFound, kindAt, entrySize, Decoded, decoded, dec
 use Rattle.reach.specs.Search.{oneMore, countFrom, counts, verdictBy}
 use Rattle.reach.specs.Text.{spaced, lineFrom, decimal, kindWord, partWord, lineSaying, share, totalLine, refusalLine, lastLine, textOf, listText}
 use Rattle.reach.proofs.ReadBack.{size-inside}
-use Rattle.writing.proofs.Digits.{decimal-one, decimal-more}
+use Rattle.writing.proofs.Digits.{digits-three, digits-five, digits-eight}
 use Rattle.lines.proofs.Lines.{kind-few, verdict-few, number-few}
 use Rattle.lines.specs.Counting.{Few}
 use Rattle.printing.proofs.Walk.{size-least, few-more}
-
--- one digit, or one more than the tenth has
-digit-one : (n : ℕ) → n < 10 → length (decimal n) ≤ 1
-digit-one n h = omega (arith, ap length (decimal-one n h))
-
-digit-more : (k n : ℕ) → length (decimal (n / 10)) ≤ k → length (decimal n) ≤ k + 1
-digit-more k n h = go (ltb n 10) refl
-  where
-    go : (t : Bool) → ltb n 10 ≡ t → length (decimal n) ≤ k + 1
-    go true e = omega (arith, digit-one n (ltb-true n 10 e))
-    go false e = omega (arith, simp length-append at (ap length (decimal-more n (ltb-false n 10 e))))
-
-digits-three : (n : ℕ) → n < 1000 → length (decimal n) ≤ 3
-digits-three n h = digit-more 2 n (digit-more 1 (n / 10) (digit-one (n / 10 / 10) (omega arith)))
-
-digits-five : (n : ℕ) → n < 100000 → length (decimal n) ≤ 5
-digits-five n h = digit-more 4 n (digit-more 3 (n / 10) (digits-three (n / 10 / 10) (omega arith)))
-
-digits-eight : (n : ℕ) → n < 100000000 → length (decimal n) ≤ 8
-digits-eight n h = digit-more 7 n (digit-more 6 (n / 10) (digit-more 5 (n / 10 / 10) (digits-five (n / 10 / 10 / 10) (omega arith))))
 
 -- every element is a byte
 abbrev pub Bytes : List ℕ → Type 0
@@ -68,7 +48,7 @@ parts-short [] h = omega arith
 parts-short (p ∷ ps) h =
     omega (arith, part-short p (h 0), parts-short ps (λ i. h (suc i)), length-append (partWord p) (spaced (map partWord ps)))
 
-line-length : (first : List ℕ) (others : List (List ℕ)) → length (lineFrom first others) ≡ length first + length (spaced others) + 1
+pub line-length : (first : List ℕ) (others : List (List ℕ)) → length (lineFrom first others) ≡ length first + length (spaced others) + 1
 unfolding lineFrom
 line-length first others = simp length-append (omega arith)
 

@@ -13,7 +13,7 @@ use native.Mathlib.Omega.{arith}
 use lib.ListN.{length, getD, take, drop}
 use Rattle.reach.specs.declared.Refusal.{Refusal}
 use Rattle.reach.specs.declared.Refusal.the-variants.{TextTooShort, BadList}
-use Rattle.reach.specs.Words.{numberOf}
+use Rattle.reach.specs.Words.{OfFile}
 use Rattle.reach.specs.Syntax.{Program}
 use Rattle.reach.specs.Search.{Entry, kindsOf, counts}
 use Rattle.reach.specs.Lists.{listBytes, sayingOf}
@@ -53,10 +53,10 @@ module _ (file list : List ℕ) (bytes : (i : ℕ) → getD list i 0 < 256) (ful
   -- The length: "the exact length of that text in bytes from the list without writing it".
   module _ (r : Answer) (call : Measures file list full r) where
     -- "14 scrap: the list has more than 16,777,216 bytes or is not whole entries of known kinds, with parameters of the rule file's types and depths [..] and
-    -- at most S steps, tested [..] after the rule file's 1 to 9". No other number is given.
+    -- at most S steps, tested [..] after the rule file's 1 to 9", and 15. No other number is given.
     pub length-refused : (why : Refusal)
         → (r ≡ Answer.Refused why)
-        ↔ (((numberOf why ≤ 9) × (check file ≡ turnedBack why))
+        ↔ ((OfFile why × (check file ≡ turnedBack why))
         ⊎ ((why ≡ BadList) × ((p : Program) × (check file ≡ accepted p) × ((es : List Entry) → ¬ IsList p list es))))
     length-refused why =
         let exact = refused-exactly file list bytes full why in

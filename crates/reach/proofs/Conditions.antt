@@ -13,25 +13,27 @@ use lib.ListN.{length, getD, getElem?}
 use lib.Dec.{leb, eqb}
 use borrow.Author.Tests.{eqb-false}
 use Rattle.reach.specs.declared.Refusal.{Refusal}
-use Rattle.reach.specs.declared.Refusal.the-variants.{Truncated, UnexpectedMark, OutOfRange, UnknownNumber, UnknownCode, TypeMismatch, TrailingBytes, EmptyType, DepthTooSmall}
+use Rattle.reach.specs.declared.Refusal.the-variants.{Truncated, UnexpectedMark, OutOfRange, UnknownNumber, UnknownCode, TypeMismatch, TrailingBytes, EmptyType, DepthTooSmall, BadSpelling}
 use Rattle.reach.specs.Base.{_∈_}
 use Rattle.reach.specs.Words.{numberOf}
 use Rattle.reach.specs.Limits.{fileLimit}
 use Rattle.reach.specs.Syntax.{Expr, Types, Function, Program, functionAt, parametersOf, sourceTypes}
 use Rattle.reach.specs.Parts.{Parts, depth}
 use Rattle.reach.specs.Types.{ValueOf, LeastDepth, leastDepths, shallow}
+use Rattle.reach.specs.Names.{Spells, spells}
 use Rattle.reach.specs.Reader.{Got, got, refused, onGot}
-use Rattle.reach.specs.RuleFile.{Head, Declarations, Outline, outline, numbersExist, bodyOf, functionsOf, programOf, noEmptyType, deepEnough}
+use Rattle.reach.specs.RuleFile.{Head, Declarations, Outline, outline, numbersExist, bodyOf, functionsOf, programOf, noEmptyType, deepEnough, wellSpelled}
 use Rattle.reach.specs.Answers.{Checked, accepted, turnedBack, check}
 use Rattle.reach.specs.Conditions.{FileTooLong, FirstPassRefuses, of-parameter, AllNumbersExist, SomeNumberMissing, SecondPassRefuses, BodyReads, AllBodiesRead, SomeBodyRefused, ThirdPassRefuses, Passes}
-use Rattle.reach.specs.Conditions.{AllTypesInhabited, SomeTypeEmpty, Hollow, SourceParameter, AllParametersFit, SomeParameterTooDeep, Shallow, Acceptable, RefusedBy, by-size, by-first-pass, by-second-pass, by-third-pass, by-empty-type, by-depth}
+use Rattle.reach.specs.Conditions.{AllTypesInhabited, SomeTypeEmpty, Hollow, SourceParameter, AllParametersFit, SomeParameterTooDeep, Shallow, NamesSpelled, NamesOtherwise, Misspelled, Acceptable, RefusedBy, by-size, by-first-pass, by-second-pass, by-third-pass, by-empty-type, by-depth, by-spelling}
 use Rattle.reach.proofs.Base.{clash, nth-member}
 use Rattle.reach.proofs.Tests.{Tells, passes, fails, tells-as, passes-exactly, fails-exactly, tells-both, All, Some, all-more, tells-none, tells-more, ltb-tells, leb-tells}
-use Rattle.reach.proofs.Numbers.{numbers-tell, numbers-exist-exactly, number-missing-exactly}
+use Rattle.reach.proofs.Numbers.{named-tells, numbers-tell, numbers-exist-exactly, number-missing-exactly}
+use Rattle.reach.proofs.Spelling.{spells-tells}
 use Rattle.reach.proofs.WellTyped.{at-below, at-getD}
 use Rattle.reach.proofs.LeastDepths.{rounds-length, least-depth-values, no-value}
 use Rattle.reach.proofs.Encoding.{Bodies, function-of, head-of, bodies-are}
-use Rattle.reach.proofs.Stages.{size-refused, outline-refused, numbers-refused, bodies-refused, empty-refused, depth-refused, file-accepted}
+use Rattle.reach.proofs.Stages.{size-refused, outline-refused, numbers-refused, bodies-refused, empty-refused, depth-refused, spelling-refused, file-accepted}
 use Rattle.reach.proofs.Refusals.{first-pass-gives, body-gives}
 
 -- ---- the third pass
@@ -190,6 +192,16 @@ module _ (o : Outline) where
             absurd (nothing (o .declared .types) t empty v value)
         too-deep t parameter (inr over) = (getD (leastDepths (o .declared .types)) t 0, above (o .declared .types) t (omega (arith, over)), over)
 
+-- ---- the test of names
+
+module _ (o : Outline) where
+  names-tell : Tells (wellSpelled o) (NamesSpelled o) (NamesOtherwise o)
+  unfolding wellSpelled
+  names-tell = named-tells (λ t. spells (o .declared .types) t) (Spells (o .declared .types)) (λ t. ¬ Spells (o .declared .types) t) (spells-tells (o .declared .types)) (o .named)
+
+  names-apart : NamesSpelled o → NamesOtherwise o → ⊥
+  names-apart all (t, is, otherwise) = otherwise (all t is)
+
 -- ---- the whole check
 
 module _ (file : List ℕ) where
@@ -213,10 +225,16 @@ module _ (file : List ℕ) where
         passed : Passes file o
         passed = record { outlined = (size, (n, read)); numbers = numbers; bodies = all }
 
+        by-names : noEmptyType (leastDepths (o .declared .types)) ≡ true → AllTypesInhabited (o .declared) → deepEnough (programOf o fs) ≡ true
+            → AllParametersFit o → Tells (wellSpelled o) (NamesSpelled o) (NamesOtherwise o) → Answered
+        by-names filled inhabited deep fit (passes well spelled) =
+            (accepted (programOf o fs), file-accepted file size read exist bodies filled deep well, (o, passed, inhabited, fit, spelled))
+        by-names filled inhabited deep fit (fails ill otherwise) =
+            (turnedBack BadSpelling, spelling-refused file size read exist bodies filled deep ill, by-spelling refl (o, passed, inhabited, fit, otherwise))
+
         by-parameters : noEmptyType (leastDepths (o .declared .types)) ≡ true → AllTypesInhabited (o .declared)
             → Tells (deepEnough (programOf o fs)) (AllParametersFit o) (SomeParameterTooDeep o) → Answered
-        by-parameters filled inhabited (passes deep fit) =
-            (accepted (programOf o fs), file-accepted file size read exist bodies filled deep, (o, passed, inhabited, fit))
+        by-parameters filled inhabited (passes deep fit) = by-names filled inhabited deep fit (names-tell o)
         by-parameters filled inhabited (fails deep over) =
             (turnedBack DepthTooSmall, depth-refused file size read exist bodies filled deep, by-depth refl (o, passed, inhabited, over))
 
@@ -249,13 +267,14 @@ module _ (file : List ℕ) where
 
   -- the other way: each condition makes its answer
   accepts : Acceptable file → (p : Program) × (check file ≡ accepted p)
-  accepts (o, passed, inhabited, fit) =
+  accepts (o, passed, inhabited, fit, spelled) =
       let (size, (n, read)) = passed .outlined in
       let exist = (numbers-exist-exactly o) .1 (passed .numbers) in
       let (fs, m, bodies) = bodies-read (o .declared) file n (passed .bodies) in
       let filled = (passes-exactly (types-apart (o .declared)) (types-inhabited-tell (o .declared))) .1 inhabited in
       let told = parameters-tell o file fs (bodies-are file o n read n fs m bodies) (passed .numbers) inhabited in
-      (programOf o fs, file-accepted file size read exist bodies filled ((passes-exactly (parameters-apart o) told) .1 fit))
+      let deep = (passes-exactly (parameters-apart o) told) .1 fit in
+      (programOf o fs, file-accepted file size read exist bodies filled deep ((passes-exactly (names-apart o) (names-tell o)) .1 spelled))
 
   turns-back : (why : Refusal) → RefusedBy file why → check file ≡ turnedBack why
   turns-back why (by-size is long) = size-refused file long ∙ ap turnedBack (sym is)
@@ -277,6 +296,15 @@ module _ (file : List ℕ) where
       depth-refused file size read ((numbers-exist-exactly o) .1 (passed .numbers)) bodies
       ((passes-exactly (types-apart (o .declared)) (types-inhabited-tell (o .declared))) .1 inhabited)
       ((fails-exactly (parameters-apart o) told) .1 over)
+      ∙ ap turnedBack (sym is)
+  turns-back why (by-spelling is (o, passed, inhabited, fit, otherwise)) =
+      let (size, (n, read)) = passed .outlined in
+      let (fs, m, bodies) = bodies-read (o .declared) file n (passed .bodies) in
+      let told = parameters-tell o file fs (bodies-are file o n read n fs m bodies) (passed .numbers) inhabited in
+      spelling-refused file size read ((numbers-exist-exactly o) .1 (passed .numbers)) bodies
+      ((passes-exactly (types-apart (o .declared)) (types-inhabited-tell (o .declared))) .1 inhabited)
+      ((passes-exactly (parameters-apart o) told) .1 fit)
+      ((fails-exactly (names-apart o) (names-tell o)) .1 otherwise)
       ∙ ap turnedBack (sym is)
 
   -- A file is accepted exactly where it passes every test, and turned back exactly by the test that it fails first.
@@ -320,18 +348,20 @@ module _ (file : List ℕ) where
   -- what follows from each test
   by-cases : {why : Refusal} {C : Type 0}
       → (why ≡ OutOfRange → FileTooLong file → C) → (FirstPassRefuses file why → C) → (why ≡ UnknownNumber → SecondPassRefuses file → C)
-      → (ThirdPassRefuses file why → C) → (why ≡ EmptyType → Hollow file → C) → (why ≡ DepthTooSmall → Shallow file → C) → RefusedBy file why → C
-  by-cases size first second third empty deep (by-size is h) = size is h
-  by-cases size first second third empty deep (by-first-pass h) = first h
-  by-cases size first second third empty deep (by-second-pass is h) = second is h
-  by-cases size first second third empty deep (by-third-pass h) = third h
-  by-cases size first second third empty deep (by-empty-type is h) = empty is h
-  by-cases size first second third empty deep (by-depth is h) = deep is h
+      → (ThirdPassRefuses file why → C) → (why ≡ EmptyType → Hollow file → C) → (why ≡ DepthTooSmall → Shallow file → C)
+      → (why ≡ BadSpelling → Misspelled file → C) → RefusedBy file why → C
+  by-cases size first second third empty deep names (by-size is h) = size is h
+  by-cases size first second third empty deep names (by-first-pass h) = first h
+  by-cases size first second third empty deep names (by-second-pass is h) = second is h
+  by-cases size first second third empty deep names (by-third-pass h) = third h
+  by-cases size first second third empty deep names (by-empty-type is h) = empty is h
+  by-cases size first second third empty deep names (by-depth is h) = deep is h
+  by-cases size first second third empty deep names (by-spelling is h) = names is h
 
   -- 1: "bytes run out in a record, in a body, or before GO is read"
   pub short-by : RefusedBy file Truncated ↔ (FirstPassRefuses file Truncated ⊎ ThirdPassRefuses file Truncated)
   short-by = (
-    by-cases (λ is h. absurd (clash (cc))) inl (λ is h. absurd (clash (cc))) inr (λ is h. absurd (clash (cc))) (λ is h. absurd (clash (cc))),
+    by-cases (λ is h. absurd (clash (cc))) inl (λ is h. absurd (clash (cc))) inr (λ is h. absurd (clash (cc))) (λ is h. absurd (clash (cc))) (λ is h. absurd (clash (cc))),
     ⊎-elim by-first-pass by-third-pass,
   )
 
@@ -339,14 +369,14 @@ module _ (file : List ℕ) where
   pub mark-by : RefusedBy file UnexpectedMark ↔ FirstPassRefuses file UnexpectedMark
   unfolding among
   mark-by = (
-    by-cases (λ is h. absurd (clash (cc))) (λ h. h) (λ is h. absurd (clash (cc))) (not-third UnexpectedMark refl) (λ is h. absurd (clash (cc))) (λ is h. absurd (clash (cc))),
+    by-cases (λ is h. absurd (clash (cc))) (λ h. h) (λ is h. absurd (clash (cc))) (not-third UnexpectedMark refl) (λ is h. absurd (clash (cc))) (λ is h. absurd (clash (cc))) (λ is h. absurd (clash (cc))),
     by-first-pass,
   )
 
   -- 3: "a count, length, D, S, file size, nesting or view is beyond its limit"
   pub range-by : RefusedBy file OutOfRange ↔ (FileTooLong file ⊎ (FirstPassRefuses file OutOfRange ⊎ ThirdPassRefuses file OutOfRange))
   range-by = (
-    by-cases (λ is. inl) (λ h. inr (inl h)) (λ is h. absurd (clash (cc))) (λ h. inr (inr h)) (λ is h. absurd (clash (cc))) (λ is h. absurd (clash (cc))),
+    by-cases (λ is. inl) (λ h. inr (inl h)) (λ is h. absurd (clash (cc))) (λ h. inr (inr h)) (λ is h. absurd (clash (cc))) (λ is h. absurd (clash (cc))) (λ is h. absurd (clash (cc))),
     ⊎-elim (by-size refl) (⊎-elim by-first-pass by-third-pass),
   )
 
@@ -354,7 +384,7 @@ module _ (file : List ℕ) where
   pub stranger-by : RefusedBy file UnknownNumber ↔ (SecondPassRefuses file ⊎ ThirdPassRefuses file UnknownNumber)
   unfolding among
   stranger-by = (
-    by-cases (λ is h. absurd (clash (cc))) (not-first UnknownNumber refl) (λ is. inl) inr (λ is h. absurd (clash (cc))) (λ is h. absurd (clash (cc))),
+    by-cases (λ is h. absurd (clash (cc))) (not-first UnknownNumber refl) (λ is. inl) inr (λ is h. absurd (clash (cc))) (λ is h. absurd (clash (cc))) (λ is h. absurd (clash (cc))),
     ⊎-elim (by-second-pass refl) by-third-pass,
   )
 
@@ -362,7 +392,7 @@ module _ (file : List ℕ) where
   pub code-by : RefusedBy file UnknownCode ↔ ThirdPassRefuses file UnknownCode
   unfolding among
   code-by = (
-    by-cases (λ is h. absurd (clash (cc))) (not-first UnknownCode refl) (λ is h. absurd (clash (cc))) (λ h. h) (λ is h. absurd (clash (cc))) (λ is h. absurd (clash (cc))),
+    by-cases (λ is h. absurd (clash (cc))) (not-first UnknownCode refl) (λ is h. absurd (clash (cc))) (λ h. h) (λ is h. absurd (clash (cc))) (λ is h. absurd (clash (cc))) (λ is h. absurd (clash (cc))),
     by-third-pass,
   )
 
@@ -370,14 +400,14 @@ module _ (file : List ℕ) where
   pub misfit-by : RefusedBy file TypeMismatch ↔ ThirdPassRefuses file TypeMismatch
   unfolding among
   misfit-by = (
-    by-cases (λ is h. absurd (clash (cc))) (not-first TypeMismatch refl) (λ is h. absurd (clash (cc))) (λ h. h) (λ is h. absurd (clash (cc))) (λ is h. absurd (clash (cc))),
+    by-cases (λ is h. absurd (clash (cc))) (not-first TypeMismatch refl) (λ is h. absurd (clash (cc))) (λ h. h) (λ is h. absurd (clash (cc))) (λ is h. absurd (clash (cc))) (λ is h. absurd (clash (cc))),
     by-third-pass,
   )
 
   -- 7: "bytes follow a body's expression, or GO"
   pub tail-by : RefusedBy file TrailingBytes ↔ (FirstPassRefuses file TrailingBytes ⊎ ThirdPassRefuses file TrailingBytes)
   tail-by = (
-    by-cases (λ is h. absurd (clash (cc))) inl (λ is h. absurd (clash (cc))) inr (λ is h. absurd (clash (cc))) (λ is h. absurd (clash (cc))),
+    by-cases (λ is h. absurd (clash (cc))) inl (λ is h. absurd (clash (cc))) inr (λ is h. absurd (clash (cc))) (λ is h. absurd (clash (cc))) (λ is h. absurd (clash (cc))),
     ⊎-elim by-first-pass by-third-pass,
   )
 
@@ -385,7 +415,7 @@ module _ (file : List ℕ) where
   pub hollow-by : RefusedBy file EmptyType ↔ Hollow file
   unfolding among
   hollow-by = (
-    by-cases (λ is h. absurd (clash (cc))) (not-first EmptyType refl) (λ is h. absurd (clash (cc))) (not-third EmptyType refl) (λ is h. h) (λ is h. absurd (clash (cc))),
+    by-cases (λ is h. absurd (clash (cc))) (not-first EmptyType refl) (λ is h. absurd (clash (cc))) (not-third EmptyType refl) (λ is h. h) (λ is h. absurd (clash (cc))) (λ is h. absurd (clash (cc))),
     by-empty-type refl,
   )
 
@@ -393,6 +423,14 @@ module _ (file : List ℕ) where
   pub shallow-by : RefusedBy file DepthTooSmall ↔ Shallow file
   unfolding among
   shallow-by = (
-    by-cases (λ is h. absurd (clash (cc))) (not-first DepthTooSmall refl) (λ is h. absurd (clash (cc))) (not-third DepthTooSmall refl) (λ is h. absurd (clash (cc))) (λ is h. h),
+    by-cases (λ is h. absurd (clash (cc))) (not-first DepthTooSmall refl) (λ is h. absurd (clash (cc))) (not-third DepthTooSmall refl) (λ is h. absurd (clash (cc))) (λ is h. h) (λ is h. absurd (clash (cc))),
     by-depth refl,
+  )
+
+  -- 15: "the type named by NA has another form"
+  pub spelling-by : RefusedBy file BadSpelling ↔ Misspelled file
+  unfolding among
+  spelling-by = (
+    by-cases (λ is h. absurd (clash (cc))) (not-first BadSpelling refl) (λ is h. absurd (clash (cc))) (not-third BadSpelling refl) (λ is h. absurd (clash (cc))) (λ is h. absurd (clash (cc))) (λ is h. h),
+    by-spelling refl,
   )

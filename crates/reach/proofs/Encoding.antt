@@ -18,7 +18,7 @@ use Rattle.reach.specs.Base.{pick, Each}
 use Rattle.reach.specs.Limits.{fileLimit, typeLimit, functionLimit, parameterLimit, bodyLimit, viewLimit, nestingLimit}
 use Rattle.reach.specs.Syntax.{Expr, variable, call, construct, case, letIn, target, Exprs, []ₑ, _∷ₑ_, Alternatives, no-more, absent, present, count, Function, Program, fieldTypes, functionAt}
 use Rattle.reach.specs.Reader.{Got, got, refused, onGot, Reader, refuse, demand, byte, word, times, passed, atEnd}
-use Rattle.reach.specs.RuleFile.{Mark, TY, FN, GO, other, onMark, mark, counted, typeRecord, Head, functionRecord, goalRecord, moreTypes, moreFunctions, Declarations, Outline, outline, Below, operandsOf, alternatives, variableExpr, callOf, callExpr, constructOf, constructExpr, caseOf, caseExpr, letExpr, targetExpr, expressionBy, expression, bodyOf, functionsOf, numbersExist, programOf, noEmptyType, deepEnough, sizeInLimit, ruleFile}
+use Rattle.reach.specs.RuleFile.{Mark, TY, FN, NA, GO, other, onMark, mark, counted, typeRecord, Head, functionRecord, goalRecord, moreTypes, moreFunctions, naming, Declarations, Outline, outline, Below, operandsOf, alternatives, variableExpr, callOf, callExpr, constructOf, constructExpr, caseOf, caseExpr, letExpr, targetExpr, expressionBy, expression, bodyOf, functionsOf, numbersExist, programOf, noEmptyType, deepEnough, wellSpelled, sizeInLimit, ruleFile}
 use Rattle.reach.specs.Types.{leastDepths}
 use Rattle.reach.specs.Answers.{accepted, turnedBack, check}
 use Rattle.reach.specs.Encoding.{encode, encodeAll, encodeAlternatives, ByteAt, BytesAt, Stands, StandsAll, StandsAlternatives, countAlternatives, Arity, ArityAll, ArityAlternatives, nesting, nestingAll, nestingAlternatives, Skip, skippedAll, skippedAlternatives, skippedCall, skippedConstruct, skippedCase, skippedBy, skipped}
@@ -323,11 +323,12 @@ any-then Q f (got a next) second = second a next
 any-then Q f (refused why) second = tt
 
 -- what is found at each mark
-mark-finds : {A : Type 0} (P : A → ℕ → Type 0) (s : List ℕ) (i : ℕ) (ty fn go : Reader A) (m : Mark) → IfFound P (ty s i) → IfFound P (fn s i) → IfFound P (go s i) → IfFound P (onMark ty fn go (refuse UnexpectedMark) m s i)
-mark-finds P s i ty fn go TY a b c = a
-mark-finds P s i ty fn go FN a b c = b
-mark-finds P s i ty fn go GO a b c = c
-mark-finds P s i ty fn go other a b c = tt
+mark-finds : {A : Type 0} (P : A → ℕ → Type 0) (s : List ℕ) (i : ℕ) (ty fn na go : Reader A) (m : Mark) → IfFound P (ty s i) → IfFound P (fn s i) → IfFound P (na s i) → IfFound P (go s i) → IfFound P (onMark ty fn na go (refuse UnexpectedMark) m s i)
+mark-finds P s i ty fn na go TY a b c d = a
+mark-finds P s i ty fn na go FN a b c d = b
+mark-finds P s i ty fn na go NA a b c d = c
+mark-finds P s i ty fn na go GO a b c d = d
+mark-finds P s i ty fn na go other a b c d = tt
 
 module _ (s : List ℕ) where
   -- the body that a head tells of is inside the file
@@ -354,25 +355,26 @@ module _ (s : List ℕ) where
 
   heads-inside : (n i : ℕ) → IfFound (λ hs next. Each BodyInside hs) (moreFunctions n s i)
   unfolding moreFunctions
-  heads-inside zero i = any-then _ _ (mark s i) (λ m k. mark-finds _ s k _ _ _ m tt tt tt)
+  heads-inside zero i = any-then _ _ (mark s i) (λ m k. mark-finds _ s k _ _ _ _ m tt tt tt tt)
   heads-inside (suc n) i =
       any-then _ _ (mark s i)
-      (λ m k. mark-finds _ s k _ _ _ m tt
+      (λ m k. mark-finds _ s k _ _ _ _ m tt
       (if-found-then _ _ _ (functionRecord s k) (head-inside k)
       (λ h l first. if-found-then _ _ _ (moreFunctions n s l) (heads-inside n l) (λ hs next others. (first, others))))
-      tt)
+      tt tt)
 
   pub outline-inside : (i : ℕ) → IfFound (λ o next. Each BodyInside (o .declared .heads)) (outline s i)
   unfolding outline
   outline-inside i =
       any-then _ _ (mark s i)
-      (λ m j. any-then _ _ (onMark typeRecord (refuse UnexpectedMark) (refuse UnexpectedMark) (refuse UnexpectedMark) m s j)
+      (λ m j. any-then _ _ (onMark typeRecord (refuse UnexpectedMark) (refuse UnexpectedMark) (refuse UnexpectedMark) (refuse UnexpectedMark) m s j)
       (λ t k. any-then _ _ (moreTypes (pred typeLimit) s k)
       (λ ts l. if-found-then _ _ _ (functionRecord s l) (head-inside l)
       (λ h p first. if-found-then _ _ _ (moreFunctions (pred functionLimit) s p) (heads-inside (pred functionLimit) p)
-      (λ hs q others. any-then _ _ (goalRecord s q)
+      (λ hs q others. any-then _ _ (naming s q)
+      (λ n p′. any-then _ _ (goalRecord s p′)
       (λ g r. any-then _ _ (atEnd TrailingBytes s r)
-      (λ u next. (first, others))))))))
+      (λ u next. (first, others)))))))))
 
 -- A body stands in the file at the place and with the length that its head tells, with the arities that the declarations ask for.
 pub record BodyAt (d : Declarations) (file : List ℕ) (h : Head) (g : Function) : Type 0 where
@@ -486,7 +488,8 @@ file-finds file =
     (λ exist. if-found-then _ _ _ (functionsOf (o .declared) (o .declared .heads) file n) (found-is (functionsOf (o .declared) (o .declared .heads) file n))
     (λ fs k are. demand-then _ _ (noEmptyType (leastDepths (o .declared .types))) _ k
     (λ filled. demand-then _ _ (deepEnough (programOf o fs)) _ k
-    (λ deep. let all = bodies-are file o n is n fs k are in (
+    (λ deep. demand-then _ _ (wellSpelled o) _ k
+    (λ spelled. let all = bodies-are file o n is n fs k are in (
       o,
       record {
         found = (n, is);
@@ -494,7 +497,7 @@ file-finds file =
         function-of = function-of (o .declared) file (o .declared .heads) fs all;
         head-of = head-of (o .declared) file (o .declared .heads) fs all;
       },
-    )))))))
+    ))))))))
 
 -- an accepted file has an outline, and its program is from there
 pub accepted-outlined : (file : List ℕ) (p : Program) → check file ≡ accepted p → (o : Outline) × Outlined file p o

@@ -33,4 +33,5 @@ pub mod Text
 pub mod Handed
 pub mod HandedEntry
 pub mod Printouts
+pub mod Spelling
 pub mod Demands

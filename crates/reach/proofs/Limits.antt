@@ -11,13 +11,14 @@ use lib.ListN.{length, getD, getElem?}
 use lib.Dec.{leb}
 use borrow.Author.Tests.{leb-true}
 use Rattle.reach.specs.declared.Refusal.{Refusal}
-use Rattle.reach.specs.declared.Refusal.the-variants.{OutOfRange, UnknownNumber, TrailingBytes, EmptyType, DepthTooSmall}
+use Rattle.reach.specs.declared.Refusal.the-variants.{OutOfRange, UnknownNumber, TrailingBytes, EmptyType, DepthTooSmall, BadSpelling}
 use Rattle.reach.specs.Limits.{typeLimit, constructorLimit, fieldLimit, functionLimit, parameterLimit, bodyLimit, depthLimit, stepLimit}
 use Rattle.reach.specs.Syntax.{Function, Program, fieldTypes, functionAt, parametersOf, sourceTypes}
 use Rattle.reach.specs.Types.{Slot, sourceSlots, leastDepths}
+use Rattle.reach.specs.Names.{spells}
 use Rattle.reach.specs.Reader.{Got, got, refused, onGot, Reader, _>>=_, _>>_, give, refuse, demand, byte, word, times, passed, atEnd}
-use Rattle.reach.specs.RuleFile.{Mark, TY, FN, GO, other, onMark, mark, counted, constructorRecord, typeRecord, Head, functionRecord, Goal, goalRecord}
-use Rattle.reach.specs.RuleFile.{moreTypes, moreFunctions, Declarations, Outline, outline, numbersExist, bodyOf, functionsOf, programOf, noEmptyType, deepEnough, sizeInLimit, ruleFile}
+use Rattle.reach.specs.RuleFile.{Mark, TY, FN, NA, GO, other, onMark, mark, counted, constructorRecord, typeRecord, Head, functionRecord, Goal, goalRecord}
+use Rattle.reach.specs.RuleFile.{moreTypes, endsAt, moreFunctions, naming, Declarations, Outline, outline, numbersExist, bodyOf, functionsOf, programOf, noEmptyType, deepEnough, ifNamed, wellSpelled, sizeInLimit, ruleFile}
 use Rattle.reach.specs.Answers.{accepted, turnedBack, check}
 use Rattle.reach.specs.Base.{Each}
 use Rattle.reach.proofs.Base.{clash, picked, nth-member, each-member, each-getD}
@@ -84,12 +85,20 @@ timed zero each = giving (zero-le, tt)
 timed (suc n) each = then each (λ a h. then (timed n each) (λ xs hs. giving (suc-le-suc (hs .0), (h, hs .1))))
 
 -- a promise for each mark that may be met
-marked : {A : Type 0} {P : A → Type 0} {ty fn go wrong : Reader A} → Promises P ty → Promises P fn → Promises P go → Promises P wrong
-    → (m : Mark) → Promises P (onMark ty fn go wrong m)
-marked a b c d TY = a
-marked a b c d FN = b
-marked a b c d GO = c
-marked a b c d other = d
+marked : {A : Type 0} {P : A → Type 0} {ty fn na go wrong : Reader A} → Promises P ty → Promises P fn → Promises P na → Promises P go → Promises P wrong
+    → (m : Mark) → Promises P (onMark ty fn na go wrong m)
+marked a b c d e TY = a
+marked a b c d e FN = b
+marked a b c d e NA = c
+marked a b c d e GO = d
+marked a b c d e other = e
+
+-- a reader that knows where it stands
+placed : {A : Type 0} {P : A → Type 0} {m : ℕ → Reader A} → ((here : ℕ) → Promises P (m here)) → Promises P (λ s here. m here s here)
+placed each = record { found = λ s i. (each i) .found s i }
+
+ending : {A : Type 0} {P : List A → Type 0} (here : ℕ) → P [] → Promises P (endsAt here)
+ending here h = record { found = λ s i. h }
 
 -- a count is within its bounds
 counting : (least most : ℕ) → Promises (λ n. (least ≤ n) × (n ≤ most)) (counted least most)
@@ -152,19 +161,19 @@ goal-kept =
 -- the types and the functions that follow the first ones
 more-types : (n : ℕ) → Promises (λ ts. (length ts ≤ n) × Each TypeKept ts) (moreTypes n)
 unfolding moreTypes
-more-types zero = then (anything mark) (λ m u. marked refusing (giving (zero-le, tt)) refusing refusing m)
+more-types zero = then (anything mark) (λ m u. marked refusing (giving (zero-le, tt)) refusing refusing refusing m)
 more-types (suc n) =
     then (anything mark)
     (λ m u. marked (then type-kept (λ t h. then (more-types n) (λ ts hs. giving (suc-le-suc (hs .0), (h, hs .1)))))
-    (giving (zero-le, tt)) refusing refusing m)
+    (giving (zero-le, tt)) refusing refusing refusing m)
 
 more-functions : (n : ℕ) → Promises (λ fs. (length fs ≤ n) × Each HeadKept fs) (moreFunctions n)
 unfolding moreFunctions
-more-functions zero = then (anything mark) (λ m u. marked refusing refusing (giving (zero-le, tt)) refusing m)
+more-functions zero = placed (λ here. then (anything mark) (λ m u. marked refusing refusing (ending here (zero-le, tt)) (ending here (zero-le, tt)) refusing m))
 more-functions (suc n) =
-    then (anything mark)
+    placed (λ here. then (anything mark)
     (λ m u. marked refusing (then head-kept (λ f h. then (more-functions n) (λ fs hs. giving (suc-le-suc (hs .0), (h, hs .1)))))
-    (giving (zero-le, tt)) refusing m)
+    (ending here (zero-le, tt)) (ending here (zero-le, tt)) refusing m))
 
 -- an outline within the limits
 pub record OutlineKept (o : Outline) : Type 0 where
@@ -178,11 +187,12 @@ pub outline-kept : Promises OutlineKept outline
 unfolding outline
 outline-kept =
     then (anything mark)
-    (λ m u. then (marked type-kept refusing refusing refusing m)
+    (λ m u. then (marked type-kept refusing refusing refusing refusing m)
     (λ t h. then (more-types (pred typeLimit))
     (λ ts hs. then head-kept
     (λ f k. then (more-functions (pred functionLimit))
-    (λ fs ks. then goal-kept
+    (λ fs ks. then (anything naming)
+    (λ n v. then goal-kept
     (λ g l. then-on (anything (atEnd TrailingBytes))
     (λ x y. giving (record {
       types-count = suc-le-suc (hs .0);
@@ -190,7 +200,7 @@ outline-kept =
       heads-count = suc-le-suc (ks .0);
       heads-kept = (k, ks .1);
       goal = l;
-    }))))))))
+    })))))))))
 
 -- a function within the limits
 abbrev FunctionKept : Function → Type 0
@@ -217,6 +227,7 @@ pub record Kept (p : Program) : Type 0 where
   pub steps-limit : p .steps ≤ stepLimit
   pub no-empty : noEmptyType (leastDepths (p .types)) ≡ true
   pub deep-enough : deepEnough p ≡ true
+  pub well-spelled : ifNamed (λ t. spells (p .types) t) (p .named) ≡ true
 
 parameters-of : (f : Option Function) (fs : List Function) (i : ℕ) → getElem? fs i ≡ f → Each FunctionKept fs
     → length (parametersOf f) ≤ parameterLimit
@@ -225,9 +236,10 @@ parameters-of (some f) fs i e all = each-member FunctionKept all (nth-member fs 
 
 program-kept :
     (o : Outline) (fs : List Function) → OutlineKept o → length fs ≤ length (o .declared .heads) → Each FunctionKept fs
-    → noEmptyType (leastDepths (o .declared .types)) ≡ true → deepEnough (programOf o fs) ≡ true → Kept (programOf o fs)
-unfolding programOf fieldTypes sourceTypes functionAt
-program-kept o fs kept few all filled deep =
+    → noEmptyType (leastDepths (o .declared .types)) ≡ true → deepEnough (programOf o fs) ≡ true → wellSpelled o ≡ true
+    → Kept (programOf o fs)
+unfolding programOf wellSpelled fieldTypes sourceTypes functionAt
+program-kept o fs kept few all filled deep spelled =
     record {
       types-limit = kept .types-count;
       constructors-limit = λ t. (type-at t) .0;
@@ -238,6 +250,7 @@ program-kept o fs kept few all filled deep =
       steps-limit = kept .goal .2;
       no-empty = filled;
       deep-enough = deep;
+      well-spelled = spelled;
     }
   where
     type-at : (t : ℕ) → TypeKept (getD (o .declared .types) t [])
@@ -252,7 +265,8 @@ file-kept =
     (λ x y. then (functions-kept (o .declared) (o .declared .heads) (kept .heads-kept))
     (λ fs ks. then-on (demanding (noEmptyType (leastDepths (o .declared .types))) EmptyType)
     (λ x filled. then-on (demanding (deepEnough (programOf o fs)) DepthTooSmall)
-    (λ y deep. giving (program-kept o fs kept (ks .0) (ks .1) filled deep)))))))
+    (λ y deep. then-on (demanding (wellSpelled o) BadSpelling)
+    (λ z spelled. giving (program-kept o fs kept (ks .0) (ks .1) filled deep spelled))))))))
 
 accepting : (g : Got Program) (p : Program) → IfFound (λ q next. Kept q) g → onGot (λ p next. accepted p) turnedBack g ≡ accepted p → Kept p
 accepting (got q next) p kept e = let z : q ≡ p = cc in subst Kept z kept

@@ -15,7 +15,7 @@ use Rattle.reach.specs.declared.Refusal.{Refusal}
 use Rattle.reach.specs.declared.Refusal.the-variants.{TextTooShort, BadList}
 use Rattle.reach.specs.declared.Kind.{Kind}
 use Rattle.reach.specs.Base.{pick}
-use Rattle.reach.specs.Words.{numberOf}
+use Rattle.reach.specs.Words.{OfFile}
 use Rattle.reach.specs.Syntax.{Program}
 use Rattle.reach.specs.Search.{Entry, kindsOf, counts}
 use Rattle.reach.specs.Lists.{listBytes, onFound, Decoded, sayingOf}
@@ -55,7 +55,7 @@ module _ (file list : List ℕ) (bytes : (i : ℕ) → getD list i 0 < 256) (ful
   -- why there is no text
   abbrev Barred : Refusal → Type 0
   Barred why =
-      ((numberOf why ≤ 9) × (check file ≡ turnedBack why))
+      (OfFile why × (check file ≡ turnedBack why))
       ⊎ ((why ≡ BadList) × ((p : Program) × (check file ≡ accepted p) × ((es : List Entry) → ¬ IsList p list es)))
 
   -- and what it is
@@ -86,7 +86,7 @@ module _ (file list : List ℕ) (bytes : (i : ℕ) → getD list i 0 < 256) (ful
       unread none e = e
       unread (some es) e = absurd (never es ((handed-exactly file p checked list bytes es) .0 e))
 
-  -- 02, Slip 2: 14 is tested "after the rule file's 1 to 9"
+  -- 02, Slip 2: 14 is tested "after the rule file's 1 to 9", and 15
   pub refused-exactly : (why : Refusal) → (printoutOf file list full ≡ noPrintout why) ↔ Barred why
   refused-exactly why = (λ e. rw e at is-printout, barred why)
 

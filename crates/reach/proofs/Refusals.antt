@@ -1,5 +1,5 @@
--- Which refusals each pass can give: 01, "Turned back". A file is turned back by 1 to 9 only. Each reader says by which refusals it may end; what they say
--- is joined along the reader's own text.
+-- Which refusals each pass can give: 01, "Turned back". A file is turned back by 1 to 9 or 15 only. Each reader says by which refusals it may end; what
+-- they say is joined along the reader's own text.
 -- Rests on Reader, RuleFile, Words and Answers.
 use Prim.Native.Nat.{ℕ, zero, suc, pred, _+_, _≤_}
 use native.Mathlib.Omega.{arith}
@@ -10,16 +10,17 @@ use mathlib.Core.Option.{Option, none, some}
 use lib.ListN.{length, getD, getElem?, take}
 use lib.Dec.{ltb, leb, eqb}
 use Rattle.reach.specs.declared.Refusal.{Refusal}
-use Rattle.reach.specs.declared.Refusal.the-variants.{Truncated, UnexpectedMark, OutOfRange, UnknownNumber, UnknownCode, TypeMismatch, TrailingBytes, EmptyType, DepthTooSmall}
+use Rattle.reach.specs.declared.Refusal.the-variants.{Truncated, UnexpectedMark, OutOfRange, UnknownNumber, UnknownCode, TypeMismatch, TrailingBytes, EmptyType, DepthTooSmall, BadSpelling}
 use Rattle.reach.specs.Base.{_∈_, pick, Each}
-use Rattle.reach.specs.Words.{numberOf}
+use mathlib.Core.Logic.{inl, inr}
+use Rattle.reach.specs.Words.{numberOf, OfFile}
 use Rattle.reach.specs.Limits.{fileLimit, typeLimit, constructorLimit, fieldLimit, functionLimit, parameterLimit, bodyLimit, depthLimit, stepLimit, viewLimit, nestingLimit}
 use Rattle.reach.specs.Syntax.{Program, fieldTypes}
 use Rattle.reach.specs.Types.{leastDepths}
 use Rattle.reach.specs.Reader.{Got, got, refused, onGot, Reader, _>>=_, _>>_, give, refuse, demand, byte, word, times, passed, atEnd}
-use Rattle.reach.specs.RuleFile.{Mark, TY, FN, GO, other, onMark, mark, counted, constructorRecord, typeRecord, Head, functionRecord, goalRecord, moreTypes, moreFunctions, Declarations, outline}
+use Rattle.reach.specs.RuleFile.{Mark, TY, FN, NA, GO, other, onMark, mark, counted, constructorRecord, typeRecord, Head, functionRecord, goalRecord, moreTypes, endsAt, moreFunctions, goalMark, nameRecord, naming, Declarations, outline}
 use Rattle.reach.specs.RuleFile.{Below, operandsOf, alternatives, inLimits, variableExpr, callOf, callExpr, constructOf, constructExpr, caseOf, caseExpr, letExpr, targetExpr, expressionBy, expression}
-use Rattle.reach.specs.RuleFile.{bodyOf, functionsOf, numbersExist, programOf, noEmptyType, deepEnough, sizeInLimit, ruleFile}
+use Rattle.reach.specs.RuleFile.{bodyOf, functionsOf, numbersExist, programOf, noEmptyType, deepEnough, wellSpelled, sizeInLimit, ruleFile}
 use Rattle.reach.specs.Answers.{accepted, turnedBack, check}
 use Rattle.reach.proofs.Base.{clash, picked, each-member}
 
@@ -140,37 +141,55 @@ goal-refuses =
     (λ d. then (word-refuses first-short)
     (λ s. then-on (demanding (leb s stepLimit) OutOfRange first-range) giving))))
 
-marked : {A : Type 0} {P : Refusal → Type 0} {ty fn go wrong : Reader A} → Refuses P ty → Refuses P fn → Refuses P go → Refuses P wrong
-    → (m : Mark) → Refuses P (onMark ty fn go wrong m)
-marked a b c d TY = a
-marked a b c d FN = b
-marked a b c d GO = c
-marked a b c d other = d
+marked : {A : Type 0} {P : Refusal → Type 0} {ty fn na go wrong : Reader A} → Refuses P ty → Refuses P fn → Refuses P na → Refuses P go → Refuses P wrong
+    → (m : Mark) → Refuses P (onMark ty fn na go wrong m)
+marked a b c d e TY = a
+marked a b c d e FN = b
+marked a b c d e NA = c
+marked a b c d e GO = d
+marked a b c d e other = e
+
+-- a reader that knows where it stands
+placed : {A : Type 0} {P : Refusal → Type 0} {m : ℕ → Reader A} → ((here : ℕ) → Refuses P (m here)) → Refuses P (λ s here. m here s here)
+placed each = record { met = λ s i. (each i) .met s i }
+
+ending : {A : Type 0} {P : Refusal → Type 0} (here : ℕ) → Refuses P (endsAt {A = A} here)
+ending here = record { met = λ s i. tt }
 
 types-refuse : (n : ℕ) → Refuses OfFirstPass (moreTypes n)
 unfolding moreTypes
-types-refuse zero = then mark-refuses (λ m. marked (refusing first-range) giving (refusing first-mark) (refusing first-mark) m)
+types-refuse zero = then mark-refuses (λ m. marked (refusing first-range) giving (refusing first-mark) (refusing first-mark) (refusing first-mark) m)
 types-refuse (suc n) =
     then mark-refuses
-    (λ m. marked (then type-refuses (λ t. then (types-refuse n) (λ ts. giving))) giving (refusing first-mark) (refusing first-mark) m)
+    (λ m. marked (then type-refuses (λ t. then (types-refuse n) (λ ts. giving))) giving (refusing first-mark) (refusing first-mark) (refusing first-mark) m)
 
 functions-refuse : (n : ℕ) → Refuses OfFirstPass (moreFunctions n)
 unfolding moreFunctions
-functions-refuse zero = then mark-refuses (λ m. marked (refusing first-mark) (refusing first-range) giving (refusing first-mark) m)
+functions-refuse zero =
+    placed (λ here. then mark-refuses (λ m. marked (refusing first-mark) (refusing first-range) (ending here) (ending here) (refusing first-mark) m))
 functions-refuse (suc n) =
-    then mark-refuses
-    (λ m. marked (refusing first-mark) (then head-refuses (λ f. then (functions-refuse n) (λ fs. giving))) giving (refusing first-mark) m)
+    placed (λ here. then mark-refuses
+    (λ m. marked (refusing first-mark) (then head-refuses (λ f. then (functions-refuse n) (λ fs. giving))) (ending here) (ending here) (refusing first-mark) m))
+
+naming-refuses : Refuses OfFirstPass naming
+unfolding naming nameRecord goalMark
+naming-refuses =
+    then mark-refuses (λ m. marked (refusing first-mark) (refusing first-mark)
+    (then (byte-refuses first-short) (λ t. then-on
+    (then mark-refuses (λ n. marked (refusing first-mark) (refusing first-mark) (refusing first-mark) giving (refusing first-mark) n)) giving))
+    giving (refusing first-mark) m)
 
 outline-refuses : Refuses OfFirstPass outline
 unfolding outline
 outline-refuses =
     then mark-refuses
-    (λ m. then (marked type-refuses (refusing first-mark) (refusing first-mark) (refusing first-mark) m)
+    (λ m. then (marked type-refuses (refusing first-mark) (refusing first-mark) (refusing first-mark) (refusing first-mark) m)
     (λ t. then (types-refuse (pred typeLimit))
     (λ ts. then head-refuses
     (λ f. then (functions-refuse (pred functionLimit))
-    (λ fs. then goal-refuses
-    (λ g. then-on (end-refuses first-tail) giving))))))
+    (λ fs. then naming-refuses
+    (λ n. then goal-refuses
+    (λ g. then-on (end-refuses first-tail) giving)))))))
 
 pub first-pass-gives : (file : List ℕ) (why : Refusal) → outline file 0 ≡ refused why → numberOf why ∈ (1 ∷ 2 ∷ 3 ∷ 7 ∷ [])
 first-pass-gives file why is = subst (IfRefused OfFirstPass) is (outline-refuses .met file 0)
@@ -297,34 +316,31 @@ body-gives d h file why is = subst (IfRefused OfBody) is ((body-refuses d h) .me
 
 -- The file.
 
--- a refusal of 1 to 9
-abbrev OfFile : Refusal → Type 0
-OfFile why = numberOf why ≤ 9
-
 -- what a pass gives is of 1 to 9
 small : (ns : List ℕ) → Each (λ n. n ≤ 9) ns → (why : Refusal) → numberOf why ∈ ns → OfFile why
-small ns all why m = each-member (λ n. n ≤ 9) all m
+small ns all why m = inl (each-member (λ n. n ≤ 9) all m)
 
 size-refuses : Refuses OfFile sizeInLimit
 unfolding sizeInLimit
-size-refuses = record { met = λ s i. picked (IfRefused OfFile) (leb (length s) fileLimit) (λ fits. tt) (λ long. omega arith) }
+size-refuses = record { met = λ s i. picked (IfRefused OfFile) (leb (length s) fileLimit) (λ fits. tt) (λ long. inl (omega arith)) }
 
 file-refuses : Refuses OfFile ruleFile
 unfolding ruleFile
 file-refuses =
     then-on size-refuses
     (then (weakened (small _ (omega arith, (omega arith, (omega arith, (omega arith, tt))))) outline-refuses)
-    (λ o. then-on (demanding (numbersExist o) UnknownNumber (omega arith))
+    (λ o. then-on (demanding (numbersExist o) UnknownNumber (inl (omega arith)))
     (then (weakened (small _ (omega arith, (omega arith, (omega arith, (omega arith, (omega arith, (omega arith, tt)))))))
     (bodies-refuse (o .declared) (o .declared .heads)))
-    (λ fs. then-on (demanding (noEmptyType (leastDepths (o .declared .types))) EmptyType (omega arith))
-    (then-on (demanding (deepEnough (programOf o fs)) DepthTooSmall (omega arith)) giving)))))
+    (λ fs. then-on (demanding (noEmptyType (leastDepths (o .declared .types))) EmptyType (inl (omega arith)))
+    (then-on (demanding (deepEnough (programOf o fs)) DepthTooSmall (inl (omega arith)))
+    (then-on (demanding (wellSpelled o) BadSpelling (inr refl)) giving))))))
 
--- a file that is turned back gets a number of 1 to 9
-pub turned-back-by : (file : List ℕ) (why : Refusal) → check file ≡ turnedBack why → numberOf why ≤ 9
+-- a file that is turned back gets a number of 1 to 9, or 15
+pub turned-back-by : (file : List ℕ) (why : Refusal) → check file ≡ turnedBack why → OfFile why
 unfolding check
 turned-back-by file why = go (ruleFile file 0) (file-refuses .met file 0)
   where
-    go : (g : Got Program) → IfRefused OfFile g → onGot (λ p next. accepted p) turnedBack g ≡ turnedBack why → numberOf why ≤ 9
+    go : (g : Got Program) → IfRefused OfFile g → onGot (λ p next. accepted p) turnedBack g ≡ turnedBack why → OfFile why
     go (got p next) low is = absurd (clash (cc))
     go (refused by) low is = let z : by ≡ why = cc in subst OfFile z low

@@ -1,4 +1,4 @@
--- The check of a file by its stages, in their order: size, first pass, numbers, bodies, types without a closed value, depth. Each stage
+-- The check of a file by its stages, in their order: size, first pass, numbers, bodies, types without a closed value, depth, names. Each stage
 -- refuses the file, or leaves what the next one goes on with.
 -- Rests on RuleFile and Answers of specs/.
 use Prim.Native.Nat.{ℕ, _≤_, _<_}
@@ -8,12 +8,12 @@ use mathlib.Core.List.{List}
 use lib.ListN.{length}
 use borrow.Author.Tests.{le-leb, lt-leb}
 use Rattle.reach.specs.declared.Refusal.{Refusal}
-use Rattle.reach.specs.declared.Refusal.the-variants.{OutOfRange, UnknownNumber, EmptyType, DepthTooSmall}
+use Rattle.reach.specs.declared.Refusal.the-variants.{OutOfRange, UnknownNumber, EmptyType, DepthTooSmall, BadSpelling}
 use Rattle.reach.specs.Limits.{fileLimit}
 use Rattle.reach.specs.Syntax.{Function}
 use Rattle.reach.specs.Types.{leastDepths}
 use Rattle.reach.specs.Reader.{got, refused}
-use Rattle.reach.specs.RuleFile.{Outline, outline, numbersExist, functionsOf, programOf, noEmptyType, deepEnough, sizeInLimit, ruleFile}
+use Rattle.reach.specs.RuleFile.{Outline, outline, numbersExist, functionsOf, programOf, noEmptyType, deepEnough, wellSpelled, sizeInLimit, ruleFile}
 use Rattle.reach.specs.Answers.{accepted, turnedBack, check}
 
 module _ (s : List ℕ) where
@@ -46,6 +46,11 @@ module _ (s : List ℕ) where
             unfolding check ruleFile sizeInLimit
             depth-refused e = rw (le-leb (length s) fileLimit size, read, exist, bodies, filled, e)
 
-            pub file-accepted : deepEnough (programOf o fs) ≡ true → check s ≡ accepted (programOf o fs)
-            unfolding check ruleFile sizeInLimit
-            file-accepted e = rw (le-leb (length s) fileLimit size, read, exist, bodies, filled, e)
+            module _ (deep : deepEnough (programOf o fs) ≡ true) where
+              pub spelling-refused : wellSpelled o ≡ false → check s ≡ turnedBack BadSpelling
+              unfolding check ruleFile sizeInLimit
+              spelling-refused e = rw (le-leb (length s) fileLimit size, read, exist, bodies, filled, deep, e)
+
+              pub file-accepted : wellSpelled o ≡ true → check s ≡ accepted (programOf o fs)
+              unfolding check ruleFile sizeInLimit
+              file-accepted e = rw (le-leb (length s) fileLimit size, read, exist, bodies, filled, deep, e)

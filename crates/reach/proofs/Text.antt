@@ -31,7 +31,7 @@ unfolding entrySize
 none-behind before = size-behind before [] ∙ refl
 
 -- the entries of a list are decoded from its bytes, one behind the other
-decoded-from : (es : List Entry) (before : List ℕ) (more : ℕ) → Small es → FewSteps es → length es ≤ more
+pub decoded-from : (es : List Entry) (before : List ℕ) (more : ℕ) → Small es → FewSteps es → length es ≤ more
     → decodedFrom more (before ++ listBytes es) (length before) ≡ map sayingOf es
 unfolding decodedFrom listBytes flatMap
 decoded-from [] before zero small few h = refl

@@ -13,14 +13,14 @@ use native.Mathlib.Omega.{arith}
 use native.Mathlib.Nat.{not-suc-le-zero, le-of-suc-le-suc}
 use Rattle.reach.specs.Typing.{Signature, Exists, HasType, HaveTypes, Covers, signatureOf, signatures, FunctionTyped, WellTyped}
 use Rattle.reach.specs.declared.Refusal.{Refusal}
-use Rattle.reach.specs.declared.Refusal.the-variants.{OutOfRange, UnknownNumber, UnknownCode, TypeMismatch, TrailingBytes, EmptyType, DepthTooSmall}
+use Rattle.reach.specs.declared.Refusal.the-variants.{OutOfRange, UnknownNumber, UnknownCode, TypeMismatch, TrailingBytes, EmptyType, DepthTooSmall, BadSpelling}
 use Rattle.reach.specs.Base.{pick, Each}
 use Rattle.reach.specs.Limits.{nestingLimit}
 use Rattle.reach.specs.Syntax.{Expr, Types, Function, Program, fieldTypes, functionAt}
 use Rattle.reach.specs.Types.{leastDepths}
 use Rattle.reach.specs.Partial.{OpenApart}
 use Rattle.reach.specs.Reader.{Got, got, refused, onGot, Reader, demand, byte, atEnd}
-use Rattle.reach.specs.RuleFile.{Head, Declarations, Outline, outline, numbersExist, Below, operandsOf, alternatives, inLimits, variableExpr, callOf, callExpr, constructOf, constructExpr, caseOf, caseExpr, letExpr, targetExpr, expressionBy, expression, bodyOf, functionsOf, programOf, noEmptyType, deepEnough, sizeInLimit, ruleFile}
+use Rattle.reach.specs.RuleFile.{Head, Declarations, Outline, outline, numbersExist, Below, operandsOf, alternatives, inLimits, variableExpr, callOf, callExpr, constructOf, constructExpr, caseOf, caseExpr, letExpr, targetExpr, expressionBy, expression, bodyOf, functionsOf, programOf, noEmptyType, deepEnough, wellSpelled, sizeInLimit, ruleFile}
 use Rattle.reach.specs.Answers.{accepted, turnedBack, check}
 use Rattle.reach.specs.Conditions.{of-field, of-parameter, of-result}
 use Rattle.reach.proofs.Base.{clash, member-each}
@@ -261,7 +261,8 @@ file-typed s i =
     (functions-read (o .declared) (o .declared .heads) ((numbers-exist o exist) .1) s l)
     (λ fs m read. after-any _ _ (demand (noEmptyType (leastDepths (o .declared .types))) EmptyType s m)
     (λ v h. after-any _ _ (demand (deepEnough (programOf o fs)) DepthTooSmall s h)
-    (λ w j. program-typed o fs exist (read .0) (read .1)))))))
+    (λ w j. after-any _ _ (demand (wellSpelled o) BadSpelling s j)
+    (λ x k. program-typed o fs exist (read .0) (read .1))))))))
 
 accepting : (g : Got Program) (p : Program) → IfFound (λ q next. WellTyped q) g → onGot (λ p next. accepted p) turnedBack g ≡ accepted p → WellTyped p
 accepting (got q next) p typed e = let z : q ≡ p = cc in subst WellTyped z typed

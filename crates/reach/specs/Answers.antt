@@ -21,7 +21,7 @@ use Rattle.reach.specs.RuleFile.{ruleFile}
 use Rattle.reach.specs.Input.{readInput}
 use Rattle.reach.specs.Lists.{cut, roomOf}
 
--- A file as the check leaves it: accepted, with its program, or refused by 1 to 9.
+-- A file as the check leaves it: accepted, with its program, or refused by 1 to 9 or 15.
 pub data Checked : Type 0 where
   accepted : Program → Checked
   turnedBack : Refusal → Checked

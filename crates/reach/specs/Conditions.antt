@@ -1,7 +1,7 @@
 -- The condition of each answer of the check, test by test, in the order of 01, "Turned back". `ruleFile` computes the answer; here each condition says for
 -- itself which tests were passed before and which one was not, in terms of members, closed values and least depths, where `ruleFile` walks lists and fills a
 -- table. That the answers are given under exactly these conditions is proved in proofs/Conditions.
--- Rests on RuleFile for the readers of the first pass and of a body, and on Types for closed values.
+-- Rests on RuleFile for the readers of the first pass and of a body, on Types for closed values and on Names for the form of names.
 use Prim.Native.Nat.{ℕ, _≤_, _<_}
 use mathlib.Core.Path.{_≡_}
 use mathlib.Core.Logic.{_⊎_}
@@ -9,12 +9,13 @@ use mathlib.Core.List.{List, _∷_, _++_}
 use mathlib.Core.Option.{some}
 use lib.ListN.{length, getElem?}
 use Rattle.reach.specs.declared.Refusal.{Refusal}
-use Rattle.reach.specs.declared.Refusal.the-variants.{OutOfRange, UnknownNumber, EmptyType, DepthTooSmall}
+use Rattle.reach.specs.declared.Refusal.the-variants.{OutOfRange, UnknownNumber, EmptyType, DepthTooSmall, BadSpelling}
 use Rattle.reach.specs.Base.{_∈_}
 use Rattle.reach.specs.Limits.{fileLimit}
 use Rattle.reach.specs.Syntax.{Expr}
 use Rattle.reach.specs.Parts.{Parts}
 use Rattle.reach.specs.Types.{ValueOf, LeastDepth}
+use Rattle.reach.specs.Names.{Spells}
 use Rattle.reach.specs.Reader.{got, refused}
 use Rattle.reach.specs.RuleFile.{Head, Declarations, Outline, outline, bodyOf}
 
@@ -30,20 +31,21 @@ FirstPassFinds file o = (length file ≤ fileLimit) × ((behind : ℕ) × (outli
 abbrev pub FirstPassRefuses : List ℕ → Refusal → Type 0
 FirstPassRefuses file why = (length file ≤ fileLimit) × (outline file 0 ≡ refused why)
 
--- 01: "A second takes type and function numbers in TY, FN heads and GO." A type number that stands in a TY record or in the head of an FN record: the type
--- of a field, of a parameter or of a result.
-pub data TypeNumber (d : Declarations) (t : ℕ) : Type 0 where
-  of-field : (constructors : List (List ℕ)) (fields : List ℕ) → constructors ∈ d .types → fields ∈ constructors → t ∈ fields → TypeNumber d t
-  of-parameter : (h : Head) → h ∈ d .heads → t ∈ h .parameters → TypeNumber d t
-  of-result : (h : Head) → h ∈ d .heads → t ≡ h .result → TypeNumber d t
+-- 01: "A second takes type and function numbers in TY, FN heads and GO." 02, Slip 4: NA's "type number is tested in the second pass". A type number that stands
+-- in a TY record, in the head of an FN record or in NA: the type of a field, of a parameter or of a result, or the type of names.
+pub data TypeNumber (o : Outline) (t : ℕ) : Type 0 where
+  of-field : (constructors : List (List ℕ)) (fields : List ℕ) → constructors ∈ o .declared .types → fields ∈ constructors → t ∈ fields → TypeNumber o t
+  of-parameter : (h : Head) → h ∈ o .declared .heads → t ∈ h .parameters → TypeNumber o t
+  of-result : (h : Head) → h ∈ o .declared .heads → t ≡ h .result → TypeNumber o t
+  of-names : o .named ≡ some t → TypeNumber o t
 
 -- the types are numbered from 0 on, and so are the functions, of which the goal names one
 abbrev pub AllNumbersExist : Outline → Type 0
-AllNumbersExist o = ((t : ℕ) → TypeNumber (o .declared) t → t < length (o .declared .types)) × (o .goal .source < length (o .declared .heads))
+AllNumbersExist o = ((t : ℕ) → TypeNumber o t → t < length (o .declared .types)) × (o .goal .source < length (o .declared .heads))
 
 -- Refusal 4: "a type, constructor, function or variable number does not exist".
 abbrev pub SomeNumberMissing : Outline → Type 0
-SomeNumberMissing o = ((t : ℕ) × TypeNumber (o .declared) t × (length (o .declared .types) ≤ t)) ⊎ (length (o .declared .heads) ≤ o .goal .source)
+SomeNumberMissing o = ((t : ℕ) × TypeNumber o t × (length (o .declared .types) ≤ t)) ⊎ (length (o .declared .heads) ≤ o .goal .source)
 
 abbrev pub SecondPassRefuses : List ℕ → Type 0
 SecondPassRefuses file = (o : Outline) × FirstPassFinds file o × SomeNumberMissing o
@@ -93,9 +95,19 @@ SomeParameterTooDeep o = (t : ℕ) × SourceParameter o t × ((d : ℕ) × Least
 abbrev pub Shallow : List ℕ → Type 0
 Shallow file = (o : Outline) × Passes file o × AllTypesInhabited (o .declared) × SomeParameterTooDeep o
 
+-- Refusal 15, "spelling": "the type named by NA has another form, tested straight after 9" (02, Slip 4).
+abbrev pub NamesSpelled : Outline → Type 0
+NamesSpelled o = (t : ℕ) → o .named ≡ some t → Spells (o .declared .types) t
+
+abbrev pub NamesOtherwise : Outline → Type 0
+NamesOtherwise o = (t : ℕ) × (o .named ≡ some t) × ¬ Spells (o .declared .types) t
+
+abbrev pub Misspelled : List ℕ → Type 0
+Misspelled file = (o : Outline) × Passes file o × AllTypesInhabited (o .declared) × AllParametersFit o × NamesOtherwise o
+
 -- A file that passes every test.
 abbrev pub Acceptable : List ℕ → Type 0
-Acceptable file = (o : Outline) × Passes file o × AllTypesInhabited (o .declared) × AllParametersFit o
+Acceptable file = (o : Outline) × Passes file o × AllTypesInhabited (o .declared) × AllParametersFit o × NamesSpelled o
 
 -- The test that turns a file back, with the refusal that it gives: 01, "Turned back", sentence by sentence.
 pub data RefusedBy (file : List ℕ) (why : Refusal) : Type 0 where
@@ -104,7 +116,7 @@ pub data RefusedBy (file : List ℕ) (why : Refusal) : Type 0 where
   -- "A first pass takes marks, counts, lengths, D and S through the whole file, skipping bodies, then the tail; a record too many, in its turn, is 3 at its
   -- mark." 1, 2, 3 or 7
   by-first-pass : FirstPassRefuses file why → RefusedBy file why
-  -- "A second takes type and function numbers in TY, FN heads and GO." 4
+  -- "A second takes type and function numbers in TY, FN heads and GO", and in NA. 4
   by-second-pass : why ≡ UnknownNumber → SecondPassRefuses file → RefusedBy file why
   -- "A third takes bodies in file order, each followed by its tail; at each expression: short, code, numbers, its own nesting and view, type." 1 or 3 to 7
   by-third-pass : ThirdPassRefuses file why → RefusedBy file why
@@ -112,3 +124,5 @@ pub data RefusedBy (file : List ℕ) (why : Refusal) : Type 0 where
   by-empty-type : why ≡ EmptyType → Hollow file → RefusedBy file why
   -- and "a source parameter's least depth exceeds D"
   by-depth : why ≡ DepthTooSmall → Shallow file → RefusedBy file why
+  -- 02, Slip 4: "the type named by NA has another form, tested straight after 9" 15
+  by-spelling : why ≡ BadSpelling → Misspelled file → RefusedBy file why

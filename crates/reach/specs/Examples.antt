@@ -279,7 +279,7 @@ unfolding
     RuleFile.moreTypes RuleFile.moreFunctions RuleFile.outline RuleFile.allBelow RuleFile.constructorsExist RuleFile.typesExist
     RuleFile.headsExist RuleFile.numbersExist RuleFile.operandsOf RuleFile.alternatives RuleFile.variableExpr RuleFile.callOf
     RuleFile.callExpr RuleFile.constructOf RuleFile.constructExpr RuleFile.caseOf RuleFile.caseExpr RuleFile.letExpr RuleFile.targetExpr
-    RuleFile.expressionBy RuleFile.expression RuleFile.bodyOf RuleFile.functionsOf RuleFile.programOf RuleFile.noEmptyType
+    RuleFile.expressionBy RuleFile.expression RuleFile.bodyOf RuleFile.functionsOf RuleFile.programOf RuleFile.goalMark RuleFile.nameRecord RuleFile.naming RuleFile.wellSpelled RuleFile.noEmptyType
     RuleFile.deepEnough RuleFile.sizeInLimit RuleFile.ruleFile
     Input.inputBy Input.readInput Input.inputOf
     Lists.wordBytes Lists.kindBytes Lists.entryBytes Lists.listBytes Lists.cut Lists.roomOf Lists.isMark Lists.kindOf

@@ -17,6 +17,7 @@ pub mod Handed
 pub mod Answers
 pub mod Text
 pub mod Printouts
+pub mod Names
 pub mod Examples
 pub mod Encoding
 pub mod Places

@@ -3,6 +3,7 @@
 -- Rests on RuleFile.
 use Prim.Native.Nat.{ℕ, zero, suc, _+_, _*_}
 use mathlib.Core.List.{List, [], _∷_, map}
+use mathlib.Core.Option.{Option}
 use lib.ListN.{getD}
 use Rattle.reach.specs.RuleFile.{Head, Goal, Declarations, Outline}
 
@@ -42,6 +43,6 @@ goalAt s i = record { source = getD s i 0; label = getD s (i + 1) 0; depth = get
 unfoldable pub declarationsAt : List ℕ → List ℕ → List ℕ → Declarations
 declarationsAt s types functions = record { types = map (typeAt s) types; heads = map (headAt s) functions }
 
--- the outline of a file whose types and functions stand at these places, with this goal
-unfoldable pub outlineAt : List ℕ → List ℕ → List ℕ → Goal → Outline
-outlineAt s types functions goal = record { declared = declarationsAt s types functions; goal = goal }
+-- the outline of a file whose types and functions stand at these places, with this named type and this goal
+unfoldable pub outlineAt : List ℕ → List ℕ → List ℕ → Option ℕ → Goal → Outline
+outlineAt s types functions named goal = record { declared = declarationsAt s types functions; named = named; goal = goal }

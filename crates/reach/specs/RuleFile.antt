@@ -1,30 +1,32 @@
--- Reading a rule file: 01, "Rule file" and the order of tests of "Turned back". Three passes, then the tests of depth; the answer is
--- the program, or the one refusal.
--- Rests on Reader, Syntax, Limits and the least depths of Types.
+-- Reading a rule file: 01, "Rule file" and the order of tests of "Turned back". Three passes, then the tests of depth and of the
+-- form of names; the answer is the program, or the one refusal.
+-- Rests on Reader, Syntax, Limits, the least depths of Types and the form of names.
 use Prim.Native.Nat.{ℕ, zero, suc, pred, _+_}
 use mathlib.Core.Bool.{Bool, true, false, _&&_}
 use mathlib.Core.List.{List, [], _∷_, _++_}
 use mathlib.Core.Option.{Option, none, some}
 use lib.ListN.{length, getD, getElem?, take}
 use lib.Dec.{ltb, leb, eqb}
-use Rattle.reach.specs.declared.Refusal.the-variants.{UnexpectedMark, OutOfRange, UnknownNumber, UnknownCode, TypeMismatch, TrailingBytes, EmptyType, DepthTooSmall}
+use Rattle.reach.specs.declared.Refusal.the-variants.{UnexpectedMark, OutOfRange, UnknownNumber, UnknownCode, TypeMismatch, TrailingBytes, EmptyType, DepthTooSmall, BadSpelling}
 use Rattle.reach.specs.Base.{pick}
 use Rattle.reach.specs.Limits.{fileLimit, typeLimit, constructorLimit, fieldLimit, functionLimit, parameterLimit, bodyLimit, depthLimit, stepLimit, viewLimit, nestingLimit}
 use Rattle.reach.specs.Syntax.{Expr, variable, call, construct, case, letIn, target, Exprs, []ₑ, _∷ₑ_, Alternatives, no-more, absent, present, Types, Function, Program, fieldTypes, sourceTypes}
 use Rattle.reach.specs.Types.{leastDepths, shallow}
+use Rattle.reach.specs.Names.{spells}
 use Rattle.reach.specs.Reader.{Got, got, refused, Reader, _>>=_, _>>_, give, refuse, demand, byte, word, times, passed, atEnd}
 
 -- The first pass: marks, counts, lengths, D and S, bodies passed over.
 
 -- The mark of a record: two bytes in ASCII.
 pub data Mark : Type 0 where
-  TY FN GO other : Mark
+  TY FN NA GO other : Mark
 
 unfoldable pub markOf : ℕ → ℕ → Mark
 markOf a b =
     pick (eqb a 0x54 && eqb b 0x59) TY
     (pick (eqb a 0x46 && eqb b 0x4e) FN
-    (pick (eqb a 0x47 && eqb b 0x4f) GO other))
+    (pick (eqb a 0x4e && eqb b 0x41) NA
+    (pick (eqb a 0x47 && eqb b 0x4f) GO other)))
 
 unfoldable pub mark : Reader Mark
 mark = do
@@ -86,29 +88,52 @@ goalRecord = do
   demand (leb s stepLimit) OutOfRange
   give (record { source = f; label = l; depth = d; steps = s })
 
-abbrev pub onMark : {A : Type 0} → A → A → A → A → Mark → A
-onMark ty fn go wrong TY = ty
-onMark ty fn go wrong FN = fn
-onMark ty fn go wrong GO = go
-onMark ty fn go wrong other = wrong
+abbrev pub onMark : {A : Type 0} → A → A → A → A → A → Mark → A
+onMark ty fn na go wrong TY = ty
+onMark ty fn na go wrong FN = fn
+onMark ty fn na go wrong NA = na
+onMark ty fn na go wrong GO = go
+onMark ty fn na go wrong other = wrong
 
 -- the types after the first, up to the mark of the first function; so many more may come
 unfoldable pub moreTypes : ℕ → Reader Types
 moreTypes zero = do
   m ← mark
-  onMark (refuse OutOfRange) (give []) (refuse UnexpectedMark) (refuse UnexpectedMark) m
+  onMark (refuse OutOfRange) (give []) (refuse UnexpectedMark) (refuse UnexpectedMark) (refuse UnexpectedMark) m
 moreTypes (suc n) = do
   m ← mark
-  onMark (typeRecord >>= λ t. moreTypes n >>= λ ts. give (t ∷ ts)) (give []) (refuse UnexpectedMark) (refuse UnexpectedMark) m
+  onMark (typeRecord >>= λ t. moreTypes n >>= λ ts. give (t ∷ ts)) (give []) (refuse UnexpectedMark) (refuse UnexpectedMark) (refuse UnexpectedMark) m
 
--- the functions after the first, up to the mark GO
+-- nothing more; the mark that was looked at begins at this place and is left for what follows
+abbrev pub endsAt : {A : Type 0} → ℕ → Reader (List A)
+endsAt here s behind = got [] here
+
+-- the functions after the first, up to the mark NA or GO, which is left
 unfoldable pub moreFunctions : ℕ → Reader (List Head)
-moreFunctions zero = do
+moreFunctions zero s here =
+    (mark >>= onMark (refuse UnexpectedMark) (refuse OutOfRange) (endsAt here) (endsAt here) (refuse UnexpectedMark)) s here
+moreFunctions (suc n) s here =
+    (mark >>= onMark (refuse UnexpectedMark) (functionRecord >>= λ f. moreFunctions n >>= λ fs. give (f ∷ fs)) (endsAt here) (endsAt here)
+    (refuse UnexpectedMark)) s here
+
+-- the mark GO must come
+unfoldable pub goalMark : Reader (Unit {0})
+goalMark = do
   m ← mark
-  onMark (refuse UnexpectedMark) (refuse OutOfRange) (give []) (refuse UnexpectedMark) m
-moreFunctions (suc n) = do
+  onMark (refuse UnexpectedMark) (refuse UnexpectedMark) (refuse UnexpectedMark) (give tt) (refuse UnexpectedMark) m
+
+-- what follows the mark NA: the number of the type whose values are names. After it only GO may come.
+unfoldable pub nameRecord : Reader (Option ℕ)
+nameRecord = do
+  t ← byte
+  goalMark
+  give (some t)
+
+-- the type that NA names, if there is an NA, up to behind the mark GO
+unfoldable pub naming : Reader (Option ℕ)
+naming = do
   m ← mark
-  onMark (refuse UnexpectedMark) (functionRecord >>= λ f. moreFunctions n >>= λ fs. give (f ∷ fs)) (give []) (refuse UnexpectedMark) m
+  onMark (refuse UnexpectedMark) (refuse UnexpectedMark) nameRecord (give none) (refuse UnexpectedMark) m
 
 -- What expressions need of a file: its types and the heads of its functions.
 pub record Declarations : Type 0 where
@@ -118,20 +143,22 @@ pub record Declarations : Type 0 where
 -- A file as the first pass leaves it: no number in it has been looked up, no body read.
 pub record Outline : Type 0 where
   pub declared : Declarations
+  pub named : Option ℕ
   pub goal : Goal
 
 unfoldable pub outline : Reader Outline
 outline = do
   m ← mark
-  t ← onMark typeRecord (refuse UnexpectedMark) (refuse UnexpectedMark) (refuse UnexpectedMark) m
+  t ← onMark typeRecord (refuse UnexpectedMark) (refuse UnexpectedMark) (refuse UnexpectedMark) (refuse UnexpectedMark) m
   ts ← moreTypes (pred typeLimit)
   f ← functionRecord
   fs ← moreFunctions (pred functionLimit)
+  n ← naming
   g ← goalRecord
   atEnd TrailingBytes
-  give (record { declared = record { types = t ∷ ts; heads = f ∷ fs }; goal = g })
+  give (record { declared = record { types = t ∷ ts; heads = f ∷ fs }; named = n; goal = g })
 
--- The second pass: type and function numbers in TY, FN heads and GO.
+-- The second pass: type and function numbers in TY, FN heads, NA and GO.
 
 unfoldable pub allBelow : ℕ → List ℕ → Bool
 allBelow n [] = true
@@ -149,9 +176,15 @@ unfoldable pub headsExist : ℕ → List Head → Bool
 headsExist n [] = true
 headsExist n (h ∷ hs) = (allBelow n (h .parameters) && ltb (h .result) n) && headsExist n hs
 
+-- what is tested of the type that NA names, where there is one
+abbrev pub ifNamed : (ℕ → Bool) → Option ℕ → Bool
+ifNamed test none = true
+ifNamed test (some t) = test t
+
 unfoldable pub numbersExist : Outline → Bool
 numbersExist o =
-    (typesExist (length (o .declared .types)) (o .declared .types) && headsExist (length (o .declared .types)) (o .declared .heads))
+    ((typesExist (length (o .declared .types)) (o .declared .types) && headsExist (length (o .declared .types)) (o .declared .heads))
+    && ifNamed (λ t. ltb t (length (o .declared .types))) (o .named))
     && ltb (o .goal .source) (length (o .declared .heads))
 
 -- The third pass: bodies. A reader of an expression is told the types of the variables in view and the type expected of it.
@@ -279,7 +312,7 @@ functionsOf d (h ∷ hs) = do
 
 unfoldable pub programOf : Outline → List Function → Program
 programOf o fs =
-    record { types = o .declared .types; functions = fs; source = o .goal .source; label = o .goal .label; depth = o .goal .depth; steps = o .goal .steps }
+    record { types = o .declared .types; functions = fs; named = o .named; source = o .goal .source; label = o .goal .label; depth = o .goal .depth; steps = o .goal .steps }
 
 -- every type has a closed value
 unfoldable pub noEmptyType : List ℕ → Bool
@@ -290,11 +323,15 @@ noEmptyType (d ∷ ds) = ltb 0 d && noEmptyType ds
 unfoldable pub deepEnough : Program → Bool
 deepEnough p = shallow (leastDepths (p .types)) (p .depth) (sourceTypes p)
 
+-- the type that NA names spells names; 02, Slip 4
+unfoldable pub wellSpelled : Outline → Bool
+wellSpelled o = ifNamed (λ t. spells (o .declared .types) t) (o .named)
+
 -- the size of the whole file, tested before everything
 unfoldable pub sizeInLimit : Reader (Unit {0})
 sizeInLimit s here = pick (leb (length s) fileLimit) (got tt here) (refused OutOfRange)
 
--- the program of a file, or the refusal of 1 to 9
+-- the program of a file, or the refusal of 1 to 9 or 15
 unfoldable pub ruleFile : Reader Program
 ruleFile = do
   sizeInLimit
@@ -303,4 +340,5 @@ ruleFile = do
   fs ← functionsOf (o .declared) (o .declared .heads)
   demand (noEmptyType (leastDepths (o .declared .types))) EmptyType
   demand (deepEnough (programOf o fs)) DepthTooSmall
+  demand (wellSpelled o) BadSpelling
   give (programOf o fs)

@@ -53,10 +53,11 @@ pub record Function : Type 0 where
   pub result : ℕ
   pub body : Expr
 
--- A rule file that was read: its types, its functions, and what GO asks for.
+-- A rule file that was read: its types, its functions, the type whose values are names, if NA names one, and what GO asks for.
 pub record Program : Type 0 where
   pub types : Types
   pub functions : List Function
+  pub named : Option ℕ
   pub source : ℕ
   pub label : ℕ
   pub depth : ℕ

@@ -1,9 +1,12 @@
--- The papers' numbers and words for the cases of the enums of src/lib.rt: 01, "Turned back", "The list" and "Evaluation and steps".
+-- The papers' numbers and words for the cases of the enums of src/lib.rt: 01, "Turned back", "The list" and "Evaluation and steps";
+-- 02 for the refusals from 13 on.
 -- Rests on the enums.
-use Prim.Native.Nat.{ℕ}
+use Prim.Native.Nat.{ℕ, _≤_}
+use mathlib.Core.Path.{_≡_}
+use mathlib.Core.Logic.{_⊎_}
 use mathlib.Core.List.{List, [], _∷_}
 use Rattle.reach.specs.declared.Refusal.{Refusal}
-use Rattle.reach.specs.declared.Refusal.the-variants.{Truncated, UnexpectedMark, OutOfRange, UnknownNumber, UnknownCode, TypeMismatch, TrailingBytes, EmptyType, DepthTooSmall, BadInput, WorkTooShort, ListFull, TextTooShort, BadList}
+use Rattle.reach.specs.declared.Refusal.the-variants.{Truncated, UnexpectedMark, OutOfRange, UnknownNumber, UnknownCode, TypeMismatch, TrailingBytes, EmptyType, DepthTooSmall, BadInput, WorkTooShort, ListFull, TextTooShort, BadList, BadSpelling}
 use Rattle.reach.specs.declared.Outcome.{Outcome}
 use Rattle.reach.specs.declared.Outcome.the-variants.{Reached, Ended, Unfinished, Missing}
 use Rattle.reach.specs.declared.Verdict.{Verdict}
@@ -25,6 +28,11 @@ numberOf WorkTooShort = 11
 numberOf ListFull = 12
 numberOf TextTooShort = 13
 numberOf BadList = 14
+numberOf BadSpelling = 15
+
+-- a refusal of the rule file, whichever call is asked: 1 to 9, or 15
+abbrev pub OfFile : Refusal → Type 0
+OfFile why = (numberOf why ≤ 9) ⊎ (numberOf why ≡ 15)
 
 -- the steps that a run took
 abbrev pub stepsOf : Outcome → ℕ

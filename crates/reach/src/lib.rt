@@ -32,6 +32,8 @@ pub enum Refusal {
     TextTooShort,
     // 14, "scrap"
     BadList,
+    // 15, "spelling"
+    BadSpelling,
 }
 
 // How the evaluation of a closed input ends, with the steps that it took.

@@ -22,5 +22,6 @@ pub fn number(why: Refusal) -> u64
         Refusal::ListFull => 12,
         Refusal::TextTooShort => 13,
         Refusal::BadList => 14,
+        Refusal::BadSpelling => 15,
     }
 }

@@ -9,13 +9,13 @@ use native.Mathlib.Omega.{arith}
 use mathlib.Core.Path.{_≡_, refl, sym, ap, _∙_}
 use mathlib.Core.Bool.{Bool}
 use mathlib.Core.List.{List}
-use mathlib.Core.Logic.{_⊎_, inl, inr, _≢_}
+use mathlib.Core.Logic.{_⊎_, inl, inr, ⊎-elim, _≢_}
 use mathlib.Core.Option.{none, Option·none-ne-some, Option·some-injective}
 use lib.ListN.{length, getD, take}
 use lib.Dec.{eqb}
 use Rattle.reach.specs.declared.Refusal.{Refusal}
 use Rattle.reach.specs.declared.Refusal.the-variants.{WorkTooShort, ListFull}
-use Rattle.reach.specs.Words.{numberOf, stepsOf}
+use Rattle.reach.specs.Words.{numberOf, OfFile, stepsOf}
 use Rattle.reach.specs.Syntax.{Program}
 use Rattle.reach.specs.Limits.{workWords, listLimit, stepLimit, depthLimit}
 use Rattle.reach.specs.Lists.{listBytes, roomOf, entryPart}
@@ -181,9 +181,9 @@ module _ (file work work′ list list′ : List ℕ) (a : ℕ) (call : Searches 
   never-so : ¬ (answer ≡ noSearch ListFull)
   never-so is = by-cause ((refused-when file (length work) (length list) ListFull) .0 (ap Search.answerOf is))
     where
-      by-cause : ((numberOf ListFull ≤ 9) × (check file ≡ turnedBack ListFull))
+      by-cause : (OfFile ListFull × (check file ≡ turnedBack ListFull))
           ⊎ ((ListFull ≡ WorkTooShort) × ((p : Program) × (check file ≡ accepted p) × (length work < workWords (p .steps)))) → ⊥
-      by-cause (inl (low, by)) = omega (arith, low)
+      by-cause (inl (low, by)) = ⊎-elim (λ few. omega (arith, few)) (λ same. omega (arith, same)) low
       by-cause (inr (same, h)) = clash (cc)
 
   ended : (s : SearchAnswer) → answer ≡ s → Ended s

@@ -1,12 +1,16 @@
-// The calls for C and Rust: the check of a rule file, its search, a closed run, where an entry of a list stands, and the printed text of a
-// list. Each answers with one number, which specs/Packing.antt of crate packing defines, and promises what specs/Answering.antt says;
-// include/remburai.h has the numbers for C. Rests on crates rulefile, search, closed, entries, printout and packing.
+// The calls for C and Rust: the check of a rule file, its search, a closed run, where an entry of a list stands, the printed text of a list,
+// and the names in it. Each answers with one number, which specs/Packing.antt of crate packing defines, and promises what
+// specs/Answering.antt says; the names answer with the length of their text, and promise what crate namereport says. include/remburai.h has
+// the numbers for C. Rests on crates rulefile, search, closed, entries, printout,
+// namereport and packing.
 ghost use mathlib.Core.Path.{_≡_};
 ghost use Prim.Native.Nat.{_≤_};
+ghost use Rattle.namereport.specs.Answers.{Promised};
 ghost use Rattle.remburai.specs.Answering.{Checks, Searches, Runs, Finds, Measures, Writes, lengthIn, numberIn};
 use entries::Span;
 use entries::room;
 use entries::span_of;
+use namereport::names;
 use packing::outcome_number;
 use packing::steps_of;
 use packing::verdict_number;
@@ -94,4 +98,18 @@ pub extern "C" fn remburai_write_text<'a>(
     ensures { λ r. ⌜ Writes (now (file .entry)) (now (list .entry)) full (now (text .entry)) (now (text .exit)) r ⌝ }
 {
     text_number(printout::write_text(file, list, full, text))
+}
+
+// The search of a rule file in the lent words and list, and the names of the entries that were listed, written to the front of a slice: the length of that
+// text.
+#[no_mangle]
+pub extern "C" fn remburai_names<'a>(
+    file: &'a [u8],
+    work: &mut [u32],
+    list: &mut [u8],
+    text: &mut [u8],
+) -> u64
+    ensures { λ r. ⌜ Promised (now (file .entry)) (now (work .entry)) (now (work .exit)) (now (list .entry)) (now (list .exit)) (now (text .entry)) (now (text .exit)) r ⌝ }
+{
+    names(file, work, list, text) as u64
 }

@@ -43,7 +43,7 @@ full-by (complete es) n before is = absurd (clash (cc))
 full-by (cutShort es) n before is =
     let long : n ≡ length (listBytes es) = cc in rw long (ap (listText true) (written-take es before))
 
--- the text of a refusal of 1 to 11
+-- the text of a refusal other than 12
 pub refused-text : (file : List ℕ) (work list : ℕ) (why : Refusal) → Answer.Refused why ≡ answerOf (searchAnswer file work list)
     → refusalLine why ≡ reportText file work list
 refused-text file work list why is = refused-by (searchAnswer file work list) why is ∙ text-written file work list

@@ -8,15 +8,15 @@ use lib.ListN.{length, take}
 use lib.Seq.{length-take-le}
 use native.Mathlib.Omega.{arith}
 use Rattle.reach.specs.declared.Refusal.{Refusal}
-use Rattle.reach.specs.declared.Refusal.the-variants.{UnknownNumber, EmptyType, DepthTooSmall}
+use Rattle.reach.specs.declared.Refusal.the-variants.{UnknownNumber, EmptyType, DepthTooSmall, BadSpelling}
 use Rattle.reach.specs.Limits.{fileLimit, typeLimit, functionLimit}
 use Rattle.reach.specs.Types.{leastDepths}
-use Rattle.reach.specs.RuleFile.{Outline, outline, numbersExist, programOf, noEmptyType, deepEnough}
+use Rattle.reach.specs.RuleFile.{Outline, outline, numbersExist, programOf, noEmptyType, deepEnough, wellSpelled}
 use Rattle.reach.specs.Places.{typeAt, declarationsAt, outlineAt}
 use Rattle.reach.specs.Answers.{turnedBack, check}
 use Rattle.records.specs.declared.Step.the-variants.{Next}
 use Rattle.records.specs.Steps.{stepOf}
-use Rattle.goal.specs.Goals.{goalOf}
+use Rattle.goal.specs.Goals.{goalOf, namedOf}
 use Rattle.outline.specs.declared.Outlined.{Outlined}
 use Rattle.outline.specs.Tables.{outlinedOf, InLimits}
 use Rattle.bodies.specs.declared.Judged.{Judged}
@@ -28,8 +28,8 @@ use Rattle.rulefile.specs.declared.Checked.{Checked}
 use Rattle.rulefile.specs.declared.Checked.the-variants as Checked
 use Rattle.rulefile.specs.declared.Loaded.{Loaded}
 use Rattle.rulefile.specs.Answering.{checkedOf}
-use Rattle.rulefile.specs.Loading.{typesIn, functionsIn, Outlines, Reads, sourceShallow, LoadsAs}
-use Rattle.reach.proofs.Stages.{numbers-refused, bodies-refused, empty-refused, depth-refused, file-accepted}
+use Rattle.rulefile.specs.Loading.{typesIn, functionsIn, Outlines, Reads, sourceShallow, namesSpelled, LoadsAs}
+use Rattle.reach.proofs.Stages.{numbers-refused, bodies-refused, empty-refused, depth-refused, spelling-refused, file-accepted}
 use Rattle.rulefile.proofs.Passes as Passes
 use Rattle.rulefile.proofs.Tabled.{depth-tested}
 
@@ -72,7 +72,7 @@ module _ {s : List ℕ} {o : Outlined} (out : Outlines s o) where
 
 module _ (s : List ℕ) (o : Outlined) where
   abbrev whole : Outline
-  whole = outlineAt s (typesIn o) (functionsIn o) (goalOf (o .goal))
+  whole = outlineAt s (typesIn o) (functionsIn o) (namedOf (o .named)) (goalOf (o .goal))
 
   -- the second and the third pass
   module _ (out : Outlines s o) {r : Bool} (tested : r ≡ numbersExist whole) where
@@ -121,34 +121,47 @@ module _ (s : List ℕ) (o : Outlined) where
             depth-refused s (reads .outlined .size) (reads .passed .read) (reads .passed .exist) (reads .passed .bodies)
             (none-empty-is ∙ not-false r filled) (deep-is ∙ not-true d e)
 
-        -- the file is accepted, and this is what is handed on
-        abbrev loaded : Loaded
-        loaded =
-            record {
-              answer = Checked.Accepted;
-              types = o .types;
-              «type_at» = o .«type_at»;
-              functions = o .functions;
-              «function_at» = o .«function_at»;
-              goal = o .goal;
-              least = least;
-            }
+        -- the test of the form of names
+        module _ (fits : not d ≡ false) {w : Bool} (formed : w ≡ namesSpelled s (typesIn o) (namedOf (o .named))) where
+          spelled-is : wellSpelled whole ≡ w
+          unfolding wellSpelled declarationsAt outlineAt
+          spelled-is = sym formed
 
-        pub all-passed : not d ≡ false → LoadsAs s loaded Checked.Accepted
-        unfolding programOf declarationsAt outlineAt
-        all-passed e = (
-          programOf whole (reads .functions),
-          file-accepted s (reads .outlined .size) (reads .passed .read) (reads .passed .exist) (reads .passed .bodies)
-              (none-empty-is ∙ not-false r filled) (deep-is ∙ not-false d e),
-          record {
-            size = reads .outlined .size;
-            types-limit = reads .outlined .types-limit;
-            types-count = types-count (reads .outlined);
-            functions-limit = reads .outlined .functions-limit;
-            functions-count = functions-count (reads .outlined);
-            functions = reads .functions;
-            passed = reads .passed;
-            program = refl;
-            depths = are;
-          },
-        )
+          pub misspelled : not w ≡ true → check s ≡ turnedBack BadSpelling
+          unfolding outlineAt
+          misspelled e =
+              spelling-refused s (reads .outlined .size) (reads .passed .read) (reads .passed .exist) (reads .passed .bodies)
+              (none-empty-is ∙ not-false r filled) (deep-is ∙ not-false d fits) (spelled-is ∙ not-true w e)
+
+          -- the file is accepted, and this is what is handed on
+          abbrev loaded : Loaded
+          loaded =
+              record {
+                answer = Checked.Accepted;
+                types = o .types;
+                «type_at» = o .«type_at»;
+                functions = o .functions;
+                «function_at» = o .«function_at»;
+                named = o .named;
+                goal = o .goal;
+                least = least;
+              }
+
+          pub all-passed : not w ≡ false → LoadsAs s loaded Checked.Accepted
+          unfolding programOf declarationsAt outlineAt
+          all-passed e = (
+            programOf whole (reads .functions),
+            file-accepted s (reads .outlined .size) (reads .passed .read) (reads .passed .exist) (reads .passed .bodies)
+                (none-empty-is ∙ not-false r filled) (deep-is ∙ not-false d fits) (spelled-is ∙ not-false w e),
+            record {
+              size = reads .outlined .size;
+              types-limit = reads .outlined .types-limit;
+              types-count = types-count (reads .outlined);
+              functions-limit = reads .outlined .functions-limit;
+              functions-count = functions-count (reads .outlined);
+              functions = reads .functions;
+              passed = reads .passed;
+              program = refl;
+              depths = are;
+            },
+          )

@@ -7,17 +7,19 @@
 use Prim.Native.Nat.{ℕ, _≤_, _<_}
 use native.Mathlib.Omega.{arith}
 use mathlib.Core.Path.{_≡_, refl, ap}
-use mathlib.Core.Logic.{_⊎_, _↔_, Iff·trans}
+use mathlib.Core.Logic.{_⊎_, ⊎-elim, _↔_, Iff·trans}
 use mathlib.Core.List.{List, [], _∷_}
+use mathlib.Core.Option.{some}
 use lib.ListN.{length}
 use Rattle.reach.specs.declared.Refusal.{Refusal}
-use Rattle.reach.specs.declared.Refusal.the-variants.{Truncated, UnexpectedMark, OutOfRange, UnknownNumber, UnknownCode, TypeMismatch, TrailingBytes, EmptyType, DepthTooSmall}
+use Rattle.reach.specs.declared.Refusal.the-variants.{Truncated, UnexpectedMark, OutOfRange, UnknownNumber, UnknownCode, TypeMismatch, TrailingBytes, EmptyType, DepthTooSmall, BadSpelling}
 use Rattle.reach.specs.Base.{_∈_}
 use Rattle.reach.specs.Words.{numberOf}
 use Rattle.reach.specs.Limits.{fileLimit}
 use Rattle.reach.specs.Syntax.{Program}
 use Rattle.reach.specs.Parts.{Parts}
 use Rattle.reach.specs.Types.{ValueOf, LeastDepth}
+use Rattle.reach.specs.Names.{Spells}
 use Rattle.reach.specs.RuleFile.{Outline}
 use Rattle.reach.specs.Answers as Answers
 use Rattle.reach.specs.Conditions.{FirstPassRefuses, SecondPassRefuses, ThirdPassRefuses, Passes, SourceParameter, RefusedBy}
@@ -48,12 +50,14 @@ third-pass-gives file why h = Conditions.third-gives file why h
 module _ (file : List ℕ) (r : Checked) (call : Promised file r) where
   -- Demand 1: "returns a result or one of the numbered refusals, each under its own condition only".
 
-  -- A file is accepted exactly where its size is in the limit, the first pass reads an outline of it, all numbers in that outline exist, every body is read
-  -- (these are `Passes`), every type has a closed value, and every parameter of the source has a least depth of at most D.
+  -- A file is accepted exactly where its size is in the limit, the first pass reads an outline of it, all numbers in that outline exist, every body is
+  -- read (these are `Passes`), every type has a closed value, every parameter of the source has a least depth of at most D, and the type that NA names,
+  -- if there is an NA, has the form of names.
   pub accepted-exactly :
       (r ≡ Checked.Accepted)
       ↔ ((o : Outline) × Passes file o × ((t : ℕ) → t < length (o .declared .types) → (v : Parts) × ValueOf (o .declared .types) t v)
-      × ((t : ℕ) → SourceParameter o t → (d : ℕ) × LeastDepth (o .declared .types) t d × (d ≤ o .goal .depth)))
+      × ((t : ℕ) → SourceParameter o t → (d : ℕ) × LeastDepth (o .declared .types) t d × (d ≤ o .goal .depth))
+      × ((t : ℕ) → o .named ≡ some t → Spells (o .declared .types) t))
   accepted-exactly = rw (call .answer-is) (Iff·trans (accepted-shows (Answers.check file)) (Conditions.accepted-exactly file))
 
   -- A file is refused exactly by the test that it fails first, in the order of 01, "Turned back": the cases of `RefusedBy`.
@@ -104,8 +108,17 @@ module _ (file : List ℕ) (r : Checked) (call : Promised file r) where
       × ((t : ℕ) × SourceParameter o t × ((d : ℕ) × LeastDepth (o .declared .types) t d × (o .goal .depth < d))))
   shallow-exactly = Iff·trans (refused-exactly DepthTooSmall) (Conditions.shallow-by file)
 
-  -- 10, 11 and 12 are never given.
-  pub others-never : (why : Refusal) → 9 < numberOf why → ¬ (r ≡ Checked.Refused why)
-  others-never why high is =
+  -- 15: "the type named by NA has another form, tested straight after 9" (02, Slip 4). The passes found nothing, every type has a closed value, and each source
+  -- parameter has one within D.
+  pub spelling-exactly :
+      (r ≡ Checked.Refused BadSpelling)
+      ↔ ((o : Outline) × Passes file o × ((t : ℕ) → t < length (o .declared .types) → (v : Parts) × ValueOf (o .declared .types) t v)
+      × ((t : ℕ) → SourceParameter o t → (d : ℕ) × LeastDepth (o .declared .types) t d × (d ≤ o .goal .depth))
+      × ((t : ℕ) × (o .named ≡ some t) × ¬ Spells (o .declared .types) t))
+  spelling-exactly = Iff·trans (refused-exactly BadSpelling) (Conditions.spelling-by file)
+
+  -- 10 to 14 are never given.
+  pub others-never : (why : Refusal) → 9 < numberOf why → numberOf why < 15 → ¬ (r ≡ Checked.Refused why)
+  others-never why high low is =
       let turned = (Conditions.turned-back-exactly file why) .1 ((refused-exactly why) .0 is) in
-      omega (arith, high, turned-back-by file why turned)
+      ⊎-elim (λ few. omega (arith, high, few)) (λ same. omega (arith, low, same)) (turned-back-by file why turned)

@@ -4,6 +4,7 @@
 use Prim.Native.Nat.{ℕ, _<_}
 use mathlib.Core.Path.{_≡_, refl, subst}
 use mathlib.Core.List.{List, [], _∷_, map}
+use mathlib.Core.Option.{Option}
 use lib.ListN.{length, getD}
 use Rattle.reach.specs.declared.Refusal.{Refusal}
 use Rattle.reach.specs.Syntax.{Function}
@@ -26,8 +27,8 @@ use Rattle.bodies.specs.Check.{Small, BodiesThere, functionsAt, bodiesOf}
 each-at : {A : Type 0} (P : A → Type 0) (f : ℕ → A) (places : List ℕ) → Each P (map f places) → (n : ℕ) → n < length places → P (f (getD places n 0))
 each-at P f places all n h = each-member P all (nth-member (map f places) n _ (found f places 0 n h))
 
-module _ (s types functions : List ℕ) (goal : Goal) {n : ℕ} (read : outline s 0 ≡ got (outlineAt s types functions goal) n) where
-  kept : OutlineKept (outlineAt s types functions goal)
+module _ (s types functions : List ℕ) (named : Option ℕ) (goal : Goal) {n : ℕ} (read : outline s 0 ≡ got (outlineAt s types functions named goal) n) where
+  kept : OutlineKept (outlineAt s types functions named goal)
   kept = subst (IfFound (λ o next. OutlineKept o)) read (outline-kept .found s 0)
 
   inside : Each (BodyInside s) ((declarationsAt s types functions) .heads)

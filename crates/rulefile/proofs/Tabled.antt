@@ -4,7 +4,7 @@
 use Prim.Native.Nat.{ℕ, zero, suc, _<_, _≤_}
 use mathlib.Core.Path.{_≡_, refl, sym, _∙_, ap}
 use mathlib.Core.List.{List, [], _∷_, map}
-use mathlib.Core.Option.{none, some}
+use mathlib.Core.Option.{Option, none, some}
 use lib.ListN.{length, getD, getElem?, length-map}
 use native.Mathlib.Omega.{arith}
 use Rattle.reach.specs.Syntax.{Function, Program, functionAt, sourceTypes}
@@ -15,7 +15,7 @@ use Rattle.reach.proofs.Base.{clash}
 use Rattle.reach.proofs.Numbers.{numbers-exist-exactly}
 use Rattle.reach.proofs.Encoding.{BodyAt, Bodies, function-of, bodies-are}
 use Rattle.lookups.proofs.Tables.{found, missing}
-use Rattle.goal.specs.Goals.{Asks}
+use Rattle.goal.specs.Goals.{Asks, namedOf}
 use Rattle.depths.specs.Table.{padded}
 use Rattle.depths.proofs.Padded.{padded-lookup, padded-shallow}
 use Rattle.rulefile.specs.declared.Loaded.{Loaded}
@@ -31,12 +31,12 @@ no-function d s (h ∷ hs) [] all f e = absurd all
 no-function d s (h ∷ hs) (g ∷ gs) all zero e = absurd (clash (cc))
 no-function d s (h ∷ hs) (g ∷ gs) all (suc f) e = no-function d s hs gs (all .1) f e
 
-module _ {s types functions : List ℕ} {goal : Goal} {fs : List Function} (passed : Passed s types functions goal fs) where
+module _ {s types functions : List ℕ} {named : Option ℕ} {goal : Goal} {fs : List Function} (passed : Passed s types functions named goal fs) where
   abbrev declared : Declarations
   declared = declarationsAt s types functions
 
   abbrev whole : Outline
-  whole = outlineAt s types functions goal
+  whole = outlineAt s types functions named goal
 
   -- the source is one of the functions
   pub source-there : goal .source < length functions
@@ -85,6 +85,11 @@ module _ {s : List ℕ} {r : Loaded} {p : Program} (t : Tabled s r p) where
         depth-is = sym (ap (λ q. q .depth) (t .program));
         steps-is = sym (ap (λ q. q .steps) (t .program));
       }
+
+  -- the type that NA names is handed on
+  pub program-named : p .named ≡ namedOf (r .named)
+  unfolding programOf outlineAt
+  program-named = ap (λ q. q .named) (t .program)
 
   -- the functions, by their places
   functions-are : p .functions ≡ t .functions

@@ -3,28 +3,30 @@
 use Prim.Native.Nat.{ℕ, _≤_}
 use mathlib.Core.Path.{_≡_}
 use mathlib.Core.Bool.{Bool, true}
-use mathlib.Core.List.{List}
+use mathlib.Core.List.{List, map}
+use mathlib.Core.Option.{Option}
 use lib.ListN.{length, getD, take}
 use Rattle.reach.specs.Limits.{fileLimit, typeLimit, functionLimit}
 use Rattle.reach.specs.Syntax.{Function, Program}
 use Rattle.reach.specs.Types.{leastDepths, shallow}
+use Rattle.reach.specs.Names.{spells}
 use Rattle.reach.specs.Reader.{got}
 use Rattle.reach.specs.RuleFile as RuleFile
-use Rattle.reach.specs.RuleFile.{outline, numbersExist, functionsOf, programOf}
-use Rattle.reach.specs.Places.{headAt, declarationsAt, outlineAt}
+use Rattle.reach.specs.RuleFile.{outline, numbersExist, functionsOf, programOf, ifNamed}
+use Rattle.reach.specs.Places.{typeAt, headAt, declarationsAt, outlineAt}
 use Rattle.reach.specs.Answers as Answers
-use Rattle.goal.specs.Goals.{goalOf}
+use Rattle.goal.specs.Goals.{goalOf, namedOf}
 use Rattle.outline.specs.declared.Outlined.{Outlined}
 use Rattle.depths.specs.Table.{padded}
 use Rattle.rulefile.specs.declared.Checked.{Checked}
 use Rattle.rulefile.specs.declared.Checked.the-variants.{Accepted, Refused}
 use Rattle.rulefile.specs.declared.Loaded.{Loaded}
 
--- Tables of places and a goal as the three passes leave them: each pass over the records that stand there found nothing.
-pub record Passed (s types functions : List ℕ) (goal : RuleFile.Goal) (fs : List Function) : Type 0 where
+-- Tables of places, a named type and a goal as the three passes leave them: each pass over the records that stand there found nothing.
+pub record Passed (s types functions : List ℕ) (named : Option ℕ) (goal : RuleFile.Goal) (fs : List Function) : Type 0 where
   pub behind : ℕ
-  pub read : outline s 0 ≡ got (outlineAt s types functions goal) behind
-  pub exist : numbersExist (outlineAt s types functions goal) ≡ true
+  pub read : outline s 0 ≡ got (outlineAt s types functions named goal) behind
+  pub exist : numbersExist (outlineAt s types functions named goal) ≡ true
   pub end : ℕ
   pub bodies : functionsOf (declarationsAt s types functions) ((declarationsAt s types functions) .heads) s behind ≡ got fs end
 
@@ -39,7 +41,7 @@ functionsIn o = take (o .functions) (o .«function_at»)
 pub record Outlines (s : List ℕ) (o : Outlined) : Type 0 where
   pub size : length s ≤ fileLimit
   pub behind : ℕ
-  pub read : outline s 0 ≡ got (outlineAt s (typesIn o) (functionsIn o) (goalOf (o .goal))) behind
+  pub read : outline s 0 ≡ got (outlineAt s (typesIn o) (functionsIn o) (namedOf (o .named)) (goalOf (o .goal))) behind
   pub types-limit : o .types ≤ typeLimit
   pub types-held : length (o .«type_at») ≡ typeLimit
   pub functions-limit : o .functions ≤ functionLimit
@@ -49,11 +51,15 @@ pub record Outlines (s : List ℕ) (o : Outlined) : Type 0 where
 pub record Reads (s : List ℕ) (o : Outlined) : Type 0 where
   pub outlined : Outlines s o
   pub functions : List Function
-  pub passed : Passed s (typesIn o) (functionsIn o) (goalOf (o .goal)) functions
+  pub passed : Passed s (typesIn o) (functionsIn o) (namedOf (o .named)) (goalOf (o .goal)) functions
 
 -- each parameter of the source has a closed value that is at most D deep, by the table
 abbrev pub sourceShallow : List ℕ → List ℕ → RuleFile.Goal → List ℕ → Bool
 sourceShallow s functions goal least = shallow least (goal .depth) ((headAt s (getD functions (goal .source) 0)) .parameters)
+
+-- the type that NA names, where there is one, has the form of names
+abbrev pub namesSpelled : List ℕ → List ℕ → Option ℕ → Bool
+namesSpelled s types named = ifNamed (λ t. spells (map (typeAt s) types) t) named
 
 -- the places of the records of a loaded file
 abbrev pub typePlaces : Loaded → List ℕ
@@ -62,7 +68,7 @@ typePlaces r = take (r .types) (r .«type_at»)
 abbrev pub functionPlaces : Loaded → List ℕ
 functionPlaces r = take (r .functions) (r .«function_at»)
 
--- What an accepted file's tables hold: its program is the one that the places and the goal give.
+-- What an accepted file's tables hold: its program is the one that the places, the named type and the goal give.
 pub record Tabled (s : List ℕ) (r : Loaded) (p : Program) : Type 0 where
   pub size : length s ≤ fileLimit
   pub types-limit : r .types ≤ typeLimit
@@ -70,8 +76,8 @@ pub record Tabled (s : List ℕ) (r : Loaded) (p : Program) : Type 0 where
   pub functions-limit : r .functions ≤ functionLimit
   pub functions-count : length (functionPlaces r) ≡ r .functions
   pub functions : List Function
-  pub passed : Passed s (typePlaces r) (functionPlaces r) (goalOf (r .goal)) functions
-  pub program : p ≡ programOf (outlineAt s (typePlaces r) (functionPlaces r) (goalOf (r .goal))) functions
+  pub passed : Passed s (typePlaces r) (functionPlaces r) (namedOf (r .named)) (goalOf (r .goal)) functions
+  pub program : p ≡ programOf (outlineAt s (typePlaces r) (functionPlaces r) (namedOf (r .named)) (goalOf (r .goal))) functions
   pub depths : r .least ≡ padded (leastDepths (p .types))
 
 abbrev pub LoadsAs : List ℕ → Loaded → Checked → Type 0

@@ -1,10 +1,10 @@
-// The check of a rule file: the three passes in their order, then the tests of depth. `check` answers accepted or the one refusal
-// of 1 to 9; `load` also hands on what later layers need of an accepted file: the places of its types and functions, its goal by
-// value and the least depths. Rests on crates outline, numbers, bodies, depths, lookups and goal.
+// The check of a rule file: the three passes in their order, then the tests of depth and of the form of names. `check` answers accepted or
+// the one refusal of 1 to 9 or 15; `load` also hands on what later layers need of an accepted file: the places of its types and functions,
+// the type that NA names, its goal by value and the least depths. Rests on crates outline, numbers, bodies, depths, spelling, lookups and goal.
 ghost use mathlib.Core.Path.{_≡_};
-ghost use Rattle.goal.specs.Goals.{goalOf};
+ghost use Rattle.goal.specs.Goals.{goalOf, namedOf};
 ghost use Rattle.rulefile.specs.Answering.{Promised};
-ghost use Rattle.rulefile.specs.Loading.{Outlines, Reads, Loads, sourceShallow};
+ghost use Rattle.rulefile.specs.Loading.{Outlines, Reads, Loads, sourceShallow, namesSpelled};
 use bodies::Judged;
 use bodies::bodies;
 use depths::Depths;
@@ -12,6 +12,7 @@ use depths::all_shallow;
 use depths::least_depths;
 use depths::none_empty;
 use goal::Goal;
+use goal::Named;
 use goal::no_goal;
 use lookups::head_of;
 use numbers::numbers_exist;
@@ -19,6 +20,7 @@ use outline::Outlined;
 use outline::first_pass;
 use reach::Refusal;
 use records::Step;
+use spelling::spells;
 
 const FILE_LIMIT: usize = 16384;
 
@@ -29,13 +31,14 @@ pub enum Checked {
 }
 
 // A file as the check leaves it. Where it is accepted: how many types and functions there are and where their records stand
-// behind their marks, what the goal asks for, and the least depth of each type.
+// behind their marks, the type that NA names, what the goal asks for, and the least depth of each type.
 pub struct Loaded {
     pub answer: Checked,
     pub types: usize,
     pub type_at: [u16; 32],
     pub functions: usize,
     pub function_at: [u16; 64],
+    pub named: Named,
     pub goal: Goal,
     pub least: [u8; 32],
 }
@@ -50,6 +53,7 @@ fn turned_back(why: Refusal) -> Loaded
         type_at: [0; 32],
         functions: 0,
         function_at: [0; 64],
+        named: Named::Nothing,
         goal: no_goal(),
         least: [0; 32],
     }
@@ -63,7 +67,17 @@ fn source_shallow<'a>(file: &'a [u8], functions: &'a [u16], goal: Goal, least: D
     all_shallow(file, head.parameters, head.count, goal.depth, least)
 }
 
-// The tests of depth, of a file whose passes found nothing.
+// The type that NA names, where there is one, has the form of names.
+fn well_spelled<'a>(file: &'a [u8], types: &'a [u16], named: Named) -> bool
+    ensures { λ r. ⌜ r ≡ namesSpelled (now (file .entry)) (now (types .entry)) (namedOf named) ⌝ }
+{
+    match named {
+        Named::Nothing => true,
+        Named::Type(t) => spells(file, types, t),
+    }
+}
+
+// The tests of depth and of the form of names, of a file whose passes found nothing.
 fn with_depths(file: &[u8], o: Outlined) -> Loaded
     requires { ⌜ Reads (now file) o ⌝ }
     ensures { λ r. ⌜ Loads (now (file .entry)) r ⌝ }
@@ -72,6 +86,7 @@ fn with_depths(file: &[u8], o: Outlined) -> Loaded
     let functions = o.functions;
     let type_at = o.type_at;
     let function_at = o.function_at;
+    let named = o.named;
     let goal = o.goal;
     let table = least_depths(file, &type_at[..types]);
     if !none_empty(table, types) {
@@ -80,6 +95,9 @@ fn with_depths(file: &[u8], o: Outlined) -> Loaded
     if !source_shallow(file, &function_at[..functions], goal, table) {
         return turned_back(Refusal::DepthTooSmall);
     }
+    if !well_spelled(file, &type_at[..types], named) {
+        return turned_back(Refusal::BadSpelling);
+    }
     let least = table.of;
     Loaded {
         answer: Checked::Accepted,
@@ -87,6 +105,7 @@ fn with_depths(file: &[u8], o: Outlined) -> Loaded
         type_at,
         functions,
         function_at,
+        named,
         goal,
         least,
     }
@@ -101,7 +120,14 @@ fn with_outline(file: &[u8], o: Outlined) -> Loaded
     let functions = o.functions;
     let type_at = o.type_at;
     let function_at = o.function_at;
-    if !numbers_exist(file, &type_at[..types], &function_at[..functions], o.goal) {
+    let named = o.named;
+    if !numbers_exist(
+        file,
+        &type_at[..types],
+        &function_at[..functions],
+        named,
+        o.goal,
+    ) {
         return turned_back(Refusal::UnknownNumber);
     }
     match bodies(file, &type_at[..types], &function_at[..functions]) {

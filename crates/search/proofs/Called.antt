@@ -12,7 +12,7 @@ use Rattle.reach.specs.declared.Refusal.{Refusal}
 use Rattle.reach.specs.declared.Refusal.the-variants.{WorkTooShort}
 use Rattle.reach.specs.declared.Verdict.{Verdict}
 use Rattle.reach.specs.Base.{_∈_}
-use Rattle.reach.specs.Words.{numberOf}
+use Rattle.reach.specs.Words.{OfFile}
 use Rattle.reach.specs.Limits.{workWords}
 use Rattle.reach.specs.Syntax.{Program}
 use Rattle.reach.specs.Eval.{missing, Spent}
@@ -53,8 +53,8 @@ verdict-is (noSearch why) = refl
 verdict-is (complete es) = refl
 verdict-is (cutShort es) = refl
 
--- a refusal of 1 to 11 is one of the definition's
-refused-is : (a : SearchAnswer) (why : Refusal) → Answer.Refused why ≡ answerOf a → a ≡ noSearch why
+-- a refusal other than 12 is one of the definition's
+pub refused-is : (a : SearchAnswer) (why : Refusal) → Answer.Refused why ≡ answerOf a → a ≡ noSearch why
 refused-is (noSearch by) why is = cc
 refused-is (complete es) why is = absurd (clash (cc))
 refused-is (cutShort es) why is = absurd (clash (cc))
@@ -78,7 +78,7 @@ module _ (file : List ℕ) (work list : ℕ) where
   -- a refusal by the check, or a work slice that is too short for an accepted file
   abbrev Refusable : Refusal → Type 0
   Refusable why =
-      ((numberOf why ≤ 9) × (check file ≡ turnedBack why))
+      (OfFile why × (check file ≡ turnedBack why))
       ⊎ ((why ≡ WorkTooShort) × ((p : Program) × (check file ≡ accepted p) × (work < workWords (p .steps))))
 
   pub refused-when : (why : Refusal) → (answerOf (searchAnswer file work list) ≡ Answer.Refused why) ↔ Refusable why
@@ -151,7 +151,7 @@ module _ (file : List ℕ) (work list : ℕ) where
   unfolding listed
   full-lists n is = let (es, a, long) = full-shows (searchAnswer file work list) n (sym is) in rw a
 
-  -- with a refusal of 1 to 11 nothing is listed
+  -- with any other refusal nothing is listed
   pub refused-lists : (why : Refusal) → answerOf (searchAnswer file work list) ≡ Answer.Refused why → listed (searchAnswer file work list) ≡ []
   unfolding listed
   refused-lists why is = rw (refused-is (searchAnswer file work list) why (sym is))

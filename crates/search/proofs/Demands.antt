@@ -18,7 +18,7 @@ use Rattle.reach.specs.declared.Refusal.the-variants.{WorkTooShort}
 use Rattle.reach.specs.declared.Verdict.{Verdict}
 use Rattle.reach.specs.declared.Verdict.the-variants.{Found, Undecided, None}
 use Rattle.reach.specs.Base.{_∈_}
-use Rattle.reach.specs.Words.{numberOf}
+use Rattle.reach.specs.Words.{OfFile}
 use Rattle.reach.specs.Limits.{workWords}
 use Rattle.reach.specs.Syntax.{Program}
 use Rattle.reach.specs.Parts.{Parts, Place, openAt, BoundPart, Completes}
@@ -70,11 +70,11 @@ module _ (file work work′ before after : List ℕ) (r : Answer) (call : Promis
 
   -- Demand 1: "returns a result or one of the numbered refusals, each under its own condition only, with the list left as stated for that refusal."
 
-  -- The refusals of 1 to 9 are the check's, in the order of tests of 01 that `check` takes; 11 is given for an accepted file where "the work slice of 32-bit
-  -- words is shorter than 64 × S + 1,024". No other number comes with this answer.
+  -- The refusals of 1 to 9 and 15 are the check's, in the order of tests of 01 that `check` takes; 11 is given for an accepted file where "the work slice
+  -- of 32-bit words is shorter than 64 × S + 1,024". No other number comes with this answer.
   pub refused-exactly : (why : Refusal)
       → (r ≡ Answer.Refused why)
-      ↔ (((numberOf why ≤ 9) × (check file ≡ turnedBack why))
+      ↔ ((OfFile why × (check file ≡ turnedBack why))
       ⊎ ((why ≡ WorkTooShort) × ((p : Program) × (check file ≡ accepted p) × (length work < workWords (p .steps)))))
   refused-exactly why = rw (call .answer-is) (refused-when file (length work) (length before) why)
 
@@ -93,7 +93,7 @@ module _ (file work work′ before after : List ℕ) (r : Answer) (call : Promis
       × (v ≡ verdict (entries p)))
   complete-exactly n v = rw (call .answer-is) (complete-when file (length work) (length before) n v)
 
-  -- 01, "Turned back": "Refusals 1 to 11 change no buffer."
+  -- 01, "Turned back": "Refusals 1 to 11 change no buffer." 02, Slip 4: nor does 15.
   pub refused-unchanged : (why : Refusal) → r ≡ Answer.Refused why → (after ≡ before) × (work′ ≡ work)
   refused-unchanged why is = (
     call .list-is

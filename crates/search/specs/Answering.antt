@@ -52,7 +52,7 @@ Searched file work work′ before after = Promised file work work′ before afte
 
 -- What a caller takes from an answer.
 
--- the length of the list, which every answer gives but a refusal of 1 to 11
+-- the length of the list, which every answer gives but a refusal other than 12
 abbrev pub lengthIn : Answer → ℕ
 lengthIn (Answer.Refused why) = 0
 lengthIn (Answer.Complete n v) = n

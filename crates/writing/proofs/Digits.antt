@@ -7,7 +7,7 @@ use mathlib.Core.List.{List, [], _∷_, _++_}
 use native.Mathlib.Omega.{arith}
 use lib.ListN.{length, length-append}
 use lib.Dec.{ltb, eqb}
-use borrow.Author.Tests.{ltb-false, lt-ltb, le-ltb}
+use borrow.Author.Tests.{ltb-true, ltb-false, lt-ltb, le-ltb}
 use Rattle.reach.specs.Base.{pick}
 use Rattle.reach.specs.Text.{digit, digitsBy, decimal, partWord, space}
 
@@ -67,3 +67,23 @@ part-few b h = go (eqb b 0xff)
     go : (t : Bool) → length (space ∷ pick t (0x5f ∷ []) (decimal b)) ≤ 257
     go true = omega arith
     go false = omega (arith, decimal-few b)
+
+-- one digit, or one more than the tenth has
+digit-one : (n : ℕ) → n < 10 → length (decimal n) ≤ 1
+digit-one n h = omega (arith, ap length (decimal-one n h))
+
+digit-more : (k n : ℕ) → length (decimal (n / 10)) ≤ k → length (decimal n) ≤ k + 1
+digit-more k n h = go (ltb n 10) refl
+  where
+    go : (t : Bool) → ltb n 10 ≡ t → length (decimal n) ≤ k + 1
+    go true e = omega (arith, digit-one n (ltb-true n 10 e))
+    go false e = omega (arith, simp length-append at (ap length (decimal-more n (ltb-false n 10 e))))
+
+pub digits-three : (n : ℕ) → n < 1000 → length (decimal n) ≤ 3
+digits-three n h = digit-more 2 n (digit-more 1 (n / 10) (digit-one (n / 10 / 10) (omega arith)))
+
+pub digits-five : (n : ℕ) → n < 100000 → length (decimal n) ≤ 5
+digits-five n h = digit-more 4 n (digit-more 3 (n / 10) (digits-three (n / 10 / 10) (omega arith)))
+
+pub digits-eight : (n : ℕ) → n < 100000000 → length (decimal n) ≤ 8
+digits-eight n h = digit-more 7 n (digit-more 6 (n / 10) (digit-more 5 (n / 10 / 10) (digits-five (n / 10 / 10 / 10) (omega arith))))

@@ -36,6 +36,10 @@ fn raw_lists_that_reachlist_refuses() {
         ("list_lacks_entries", "total 2303 0 1 0 found"),
         ("many_entries", "total 4096 0 0 0 found"),
         ("long_entries", "total 752 16 0 2 found"),
+        ("name_list_lacks_a_byte", "total 2048 0 0 0 found"),
+        ("name_list_lacks_entries", "total 768 768 1024 50 found"),
+        ("name_long_entries", "total 276 6 0 2 found"),
+        ("name_s241", "total 1 0 0 0 found"),
     ];
     let refused: Vec<Stored> = stored().into_iter().filter(|case| !case.whole()).collect();
     assert_eq!(refused.len(), totals.len());

@@ -4,6 +4,7 @@
 mod calling;
 mod forms;
 mod json;
+mod names;
 mod refusals;
 mod rules;
 mod storing;

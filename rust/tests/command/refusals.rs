@@ -1,10 +1,10 @@
 //! Refusals: their number, their word and what to do, with status 3, by every command.
 use crate::calling::{call, path, Scratch};
-use crate::rules::{stored, too_many_entries, Stored};
+use crate::rules::{named, stored, too_many_entries, Stored};
 
-const WORDS: [&str; 14] = [
+const WORDS: [&str; 15] = [
     "short", "mark", "range", "stranger", "code", "misfit", "tail", "hollow", "shallow", "input",
-    "bench", "full", "page", "scrap",
+    "bench", "full", "page", "scrap", "spelling",
 ];
 
 fn see(printed: &[&str], number: usize) {
@@ -19,24 +19,49 @@ fn see(printed: &[&str], number: usize) {
 
 #[test]
 fn of_the_check() {
-    let mut seen = [false; 10];
+    let mut seen = [false; 16];
     for case in stored().iter().filter(|case| case.whole()) {
         let Some(number) = case.last().strip_prefix("refused ") else {
             continue;
         };
         let number: usize = number.parse().expect("a number");
         seen[number] = true;
-        for words in [&["list"][..], &["check"], &["entry", "0"], &["run", "0"]] {
-            let called = call(&[&words[..1], &[&case.rule], &words[1..]].concat());
-            see(&called.lines(3), number);
-        }
-        let called = call(&["list", "--raw", &case.rule]);
-        assert_eq!(called.printed, case.printed);
-        assert!(called
-            .said
-            .contains(&format!("remburai: refused {number} {}", WORDS[number - 1])));
+        see_every_command(&case.rule, number);
     }
-    assert_eq!(seen[1..], [true; 9]);
+    assert_eq!(seen[1..10], [true; 9]);
+}
+
+/// Sees that a rule is refused by each command, in its form.
+fn see_every_command(rule: &str, number: usize) {
+    for words in [&["list"][..], &["check"], &["entry", "0"], &["run", "0"]] {
+        let called = call(&[&words[..1], &[rule], &words[1..]].concat());
+        see(&called.lines(3), number);
+    }
+    for words in [
+        &["list", "--raw", rule][..],
+        &["names", rule],
+        &["print", rule, "/dev/null"],
+    ] {
+        let called = call(words);
+        assert_eq!(called.lines(3), [format!("refused {number}")]);
+        let word = format!("remburai: refused {number} {}", WORDS[number - 1]);
+        assert!(called.said.contains(&word), "{called:?}");
+    }
+}
+
+/// A named type of another form, also with a goal of the command line.
+#[test]
+fn of_a_named_type() {
+    let mut file = named();
+    let place = file.len() - 8;
+    file[place] = 0;
+    let rule = Scratch::file("spelling.rule", &file);
+    see_every_command(rule.name(), 15);
+    let called = call(&["check", rule.name(), "--depth", "1"]);
+    see(&called.lines(3), 15);
+    assert!(called
+        .printed
+        .contains("the type named by NA is not of the form that spells names"));
 }
 
 /// A file that is refused is refused as it is, whatever goal is asked for.

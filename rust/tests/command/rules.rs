@@ -1,4 +1,5 @@
-//! Rule files: those stored in tests/reachlist, one with a missing alternative, and two that are too large for `reachlist`.
+//! Rule files: those stored in tests/reachlist, one with a missing alternative, one with names, and three that are too large for `reachlist`
+//! or `namelist`.
 use crate::calling::path;
 use std::fs;
 
@@ -64,6 +65,38 @@ pub fn uncovered() -> Vec<u8> {
     file.extend(function(1, &body));
     file.extend(b"GO\x00\x07\x04\x14\x00");
     file
+}
+
+/// The halves of a byte, type 0, and the names, type 1, of which there is one: the target is where its first byte is from 192 to 207. D is 3.
+pub fn named() -> Vec<u8> {
+    let mut body = b"\x03\x01\x00\x00\x01\x00\x00\x01\x03\x00\x00\x01".to_vec();
+    for half in 0..16 {
+        body.extend(match half {
+            12 => &[1, 5, 7, 0, 0][..],
+            _ => &[1, 0, 0],
+        });
+    }
+    let types = [&b"TY\x10"[..], &[0; 16], b"TY\x02\x00\x03\x00\x00\x01"];
+    let source = [b"FN\x01\x01\x01", &[body.len() as u8, 0][..], &body];
+    [
+        types.concat(),
+        source.concat(),
+        b"NA\x01GO\x00\x07\x03\x14\x00".to_vec(),
+    ]
+    .concat()
+}
+
+/// The rule file of too many entries with a name as a further parameter: 13 bytes for each entry, whose name is empty.
+pub fn too_many_names() -> Vec<u8> {
+    let file = too_many_entries();
+    let (halves, records) = file.split_at(19);
+    // the source, whose parameters are first, has one more, and calls the next function as before
+    let (head, rest) = records.split_at(9);
+    assert_eq!(head, b"FN\x06\0\0\0\0\0\0");
+    let (rest, goal) = rest.split_at(rest.len() - 7);
+    let names = b"TY\x02\x00\x03\x00\x00\x01";
+    let parameters = b"FN\x07\0\0\0\0\0\0\x01";
+    [halves, names, parameters, rest, b"NA\x01", goal].concat()
 }
 
 /// Six parameters of a type of sixteen constructors without fields, all looked at: 16,777,216 entries of 12 bytes, more than any list holds.

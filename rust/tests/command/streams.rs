@@ -20,6 +20,7 @@ fn commands() -> Vec<Vec<String>> {
         format!("run {rule} 0"),
         format!("check {rule}"),
         format!("check {}", Stored::named("mark").rule),
+        format!("names {}", Stored::named("mark").rule),
         "--help".to_string(),
         "--version".to_string(),
     ];

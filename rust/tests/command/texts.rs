@@ -12,23 +12,18 @@ fn text(go: &str) -> String {
 #[test]
 fn the_names_that_open_a_second_record() {
     let called = call(&["list", &path("examples/relay.txt")]);
-    let seconds = [
-        "h2 (byte h8",
-        "h2 (byte h9",
-        "h2 (byte hA",
-        "h2 (byte hB",
-        "h3 (byte h8",
-        "h3 (byte h9",
-        "h3 (byte hA",
-        "h3 (byte hB",
-    ];
-    let mut wanted: Vec<String> = seconds
+    let mut wanted: Vec<String> = ["8", "9", "A", "B"]
         .iter()
-        .map(|part| format!("reach 64  byte hC {part} _ end)"))
+        .map(|half| format!("reach 29  \"\\x{half}_\"_"))
         .collect();
-    wanted.push("total 8 0 0 0 found".to_string());
-    wanted.push("found within depth 3, 100 steps: 8 entries reach the target.".to_string());
-    wanted.push("Every other input of depth 3 or less stops within 100 steps, off target. Of deeper inputs nothing is said.".to_string());
+    wanted.extend("ÀÁÂÃÄÅÆÇÈÉÊËÌÍÎÏ".chars().map(|letter| match letter {
+        'Ã' => "reach 49  \"Ã\"".to_string(),
+        _ => format!("reach 40  \"{letter}\"_"),
+    }));
+    wanted.extend(["D", "E", "F"].map(|half| format!("reach 29  \"\\x{half}_\"_")));
+    wanted.push("total 23 0 0 0 found".to_string());
+    wanted.push("found within depth 2, 100 steps: 23 entries reach the target.".to_string());
+    wanted.push("Every other input of depth 2 or less stops within 100 steps, off target. Of deeper inputs nothing is said.".to_string());
     assert_eq!(called.lines(0), wanted);
     assert_eq!(called.said, "");
 }

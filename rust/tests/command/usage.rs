@@ -1,7 +1,7 @@
 //! Help, and faults of use.
 use crate::calling::{call, path};
 
-const COMMANDS: [&str; 5] = ["list", "entry", "run", "check", "print"];
+const COMMANDS: [&str; 6] = ["list", "entry", "run", "check", "print", "names"];
 
 #[test]
 fn help() {
@@ -48,7 +48,13 @@ fn version() {
 
 #[test]
 fn options_for_every_command_are_in_its_help() {
-    for (name, options) in [("list", 6), ("run", 2), ("check", 2), ("print", 4)] {
+    for (name, options) in [
+        ("list", 6),
+        ("run", 2),
+        ("check", 2),
+        ("print", 4),
+        ("names", 3),
+    ] {
         let page = call(&[name, "--help"]).printed;
         assert_eq!(
             page.lines().filter(|line| line.starts_with("  --")).count(),
@@ -59,7 +65,7 @@ fn options_for_every_command_are_in_its_help() {
 }
 
 /// Words with what is said of them; P is a rule file.
-const FAULTS: [(&str, &str); 32] = [
+const FAULTS: [(&str, &str); 38] = [
     ("lists P", "there is no command \"lists\""),
     ("list", "the rule is missing"),
     ("list P P", "one rule is needed"),
@@ -95,6 +101,15 @@ const FAULTS: [(&str, &str); 32] = [
     ("list P --save", "--save needs a value"),
     ("list P --save -", "--save needs the name of a file"),
     ("entry P 0 --save=x", "there is no option --save=x here"),
+    ("names", "the rule is missing"),
+    ("names P P", "one rule is needed"),
+    ("names P --raw", "there is no option --raw here"),
+    ("names P --json", "there is no option --json here"),
+    ("names P --save x", "there is no option --save here"),
+    (
+        "names P --limit 0",
+        "--limit is a number of seconds above 0",
+    ),
 ];
 
 #[test]

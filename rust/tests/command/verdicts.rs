@@ -193,7 +193,11 @@ fn how_deep_an_input_is() {
 #[test]
 fn a_limit() {
     let rule = Scratch::file("endless.rule", &endless());
-    for words in [&["list", rule.name()][..], &["entry", rule.name(), "0"]] {
+    for words in [
+        &["list", rule.name()][..],
+        &["entry", rule.name(), "0"],
+        &["names", rule.name()],
+    ] {
         let began = Instant::now();
         let called = call_within(20, &[words, &["--limit", "0.3"]].concat());
         assert!(Duration::from_millis(300) <= began.elapsed());

@@ -28,13 +28,31 @@ returns-3 c =
 returns-4 : tie.Need-returns-4
 unfolding markOf
 returns-4 c =
+    let third = c .before .before .before in
     rw (
-      ← c .before .before .before .before .before .before .before .is-mark .ensures,
-      c .before .before .before .before .before .before .if1 .left,
-      ← c .before .before .before .before .is-mark2 .ensures,
-      c .before .before .before .if2 .left,
-      ← c .before .is-mark3 .ensures,
-      c .if3 .left,
+      ← third .before .before .before .before .before .before .before .is-mark .ensures,
+      third .before .before .before .before .before .before .if1 .left,
+      ← third .before .before .before .before .is-mark2 .ensures,
+      third .before .before .before .if2 .left,
+      ← third .before .is-mark3 .ensures,
+      third .if3 .left,
+      ← c .before .is-mark4 .ensures,
+      c .if4 .taken,
+    )
+
+returns-5 : tie.Need-returns-5
+unfolding markOf
+returns-5 c =
+    let third = c .before .before .before in
+    rw (
+      ← third .before .before .before .before .before .before .before .is-mark .ensures,
+      third .before .before .before .before .before .before .if1 .left,
+      ← third .before .before .before .before .is-mark2 .ensures,
+      third .before .before .before .if2 .left,
+      ← third .before .is-mark3 .ensures,
+      third .if3 .left,
+      ← c .before .is-mark4 .ensures,
+      c .if4 .left,
     )
 
 pub mark-of-spec : {M : Type 1} → statement M
@@ -47,4 +65,6 @@ mark-of-spec =
     returns-2
     (λ c κs. search needs)
     returns-3
-    returns-4)
+    (λ c κs. search needs)
+    returns-4
+    returns-5)

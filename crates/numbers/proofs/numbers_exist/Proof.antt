@@ -1,4 +1,4 @@
--- `numbers::numbers_exist` meets its contract: the outline has as many types and functions as there are places. Rests on what the three tests ensure.
+-- `numbers::numbers_exist` meets its contract: the outline has as many types and functions as there are places. Rests on what the four tests ensure.
 use lib.ListN.{length-map}
 use borrow.Author.Tests.{not-true, not-false}
 use borrow.Author.Needs.{needs}
@@ -25,12 +25,29 @@ returns-2 c =
 returns-3 : tie.Need-returns-3
 unfolding numbersExist declarationsAt outlineAt
 returns-3 c =
+    let heads = c .before .before .before in
     rw (
       length-map _ (typeAt _),
-      ← c .before .before .before .before .types-exist .ensures,
-      not-false (c .before .before .before .before .types-exist .result) (c .before .before .before .if1 .left),
-      ← c .before .before .heads-exist .ensures,
-      not-false (c .before .before .heads-exist .result) (c .before .if2 .left),
+      ← heads .before .before .types-exist .ensures,
+      not-false (heads .before .before .types-exist .result) (heads .before .if1 .left),
+      ← heads .heads-exist .ensures,
+      not-false (heads .heads-exist .result) (c .before .before .if2 .left),
+      ← c .before .name-exists .ensures,
+      not-true (c .before .name-exists .result) (c .if3 .taken),
+    )
+
+returns-4 : tie.Need-returns-4
+unfolding numbersExist declarationsAt outlineAt
+returns-4 c =
+    let heads = c .before .before .before .before in
+    rw (
+      length-map _ (typeAt _),
+      ← heads .before .before .types-exist .ensures,
+      not-false (heads .before .before .types-exist .result) (heads .before .if1 .left),
+      ← heads .heads-exist .ensures,
+      not-false (heads .heads-exist .result) (c .before .before .before .if2 .left),
+      ← c .before .before .name-exists .ensures,
+      not-false (c .before .before .name-exists .result) (c .before .if3 .left),
       length-map _ (headAt _),
     )
 
@@ -42,4 +59,6 @@ numbers-exist-spec =
     returns
     (λ c κs. search needs)
     returns-2
-    returns-3)
+    (λ c κs. search needs)
+    returns-3
+    returns-4)

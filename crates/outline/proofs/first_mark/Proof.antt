@@ -26,6 +26,10 @@ returns-5 : tie.Need-returns-5
 unfolding firstMark
 returns-5 c = rw (mark-got _ _ (c .before .before .before .before .before .mark-at .ensures) (c .before .before .before .mark .given .1) (c .enum-told5 .given .1))
 
+returns-6 : tie.Need-returns-6
+unfolding firstMark
+returns-6 c = rw (mark-got _ _ (c .before .before .before .before .before .mark-at .ensures) (c .before .before .before .mark .given .1) (c .enum-told6 .given .1))
+
 pub first-mark-spec : {M : Type 1} → statement M
 first-mark-spec =
     tie.close
@@ -38,7 +42,9 @@ first-mark-spec =
     (λ c. search needs)
     (λ c. search needs)
     (λ c. search needs)
+    (λ c. search needs)
     returns-2
     returns-3
     returns-4
-    returns-5)
+    returns-5
+    returns-6)

@@ -1,9 +1,10 @@
--- `rulefile::with_depths` meets its contract: the two tests of depth on the array of least depths, and what an accepted file hands on.
+-- `rulefile::with_depths` meets its contract: the two tests of depth on the array of least depths, the test of names, and what an accepted
+-- file hands on.
 -- Rests on Answers.
 use mathlib.Core.Path.{sym}
 use native.Mathlib.Omega.{arith}
 use borrow.Author.Needs.{needs}
-use Rattle.rulefile.proofs.Answers.{types-count, functions-count, type-empty, depth-small, all-passed}
+use Rattle.rulefile.proofs.Answers.{types-count, functions-count, type-empty, depth-small, misspelled, all-passed}
 use Rattle.rulefile.proofs.with_depths.Statement.{statement}
 use Rattle.rulefile.proofs.with_depths.Tie as tie
 
@@ -27,11 +28,22 @@ returns-2 c =
 
 returns-3 : tie.Need-returns-3
 returns-3 c =
-    let filled = c .before .before .before .before in
+    let deep = c .before .before .before .before in
+    let filled = deep .before .before .before in
+    let table = filled .before .before in
+    let start = table .before .before .before .before .before .before in
+    rw (c .turned-back3 .ensures)
+    (misspelled _ _ (start .pre) (table .least-depths .ensures) (filled .before .none-empty .ensures) (filled .if1 .left)
+    (deep .before .source-shallow .ensures) (deep .if2 .left) (c .before .before .well-spelled .ensures) (c .before .if3 .taken))
+
+returns-4 : tie.Need-returns-4
+returns-4 c =
+    let deep = c .before .before .before .before in
+    let filled = deep .before .before .before in
     let table = filled .before .before in
     let start = table .before .before .before .before .before .before in
     all-passed _ _ (start .pre) (table .least-depths .ensures) (filled .before .none-empty .ensures) (filled .if1 .left)
-    (c .before .before .source-shallow .ensures) (c .before .if2 .left)
+    (deep .before .source-shallow .ensures) (deep .if2 .left) (c .before .before .well-spelled .ensures) (c .before .if3 .left)
 
 pub with-depths-spec : {M : Type 1} → statement M
 with-depths-spec =
@@ -48,4 +60,9 @@ with-depths-spec =
     (λ c κs. search needs)
     (λ c κs. search needs)
     returns-2
-    returns-3)
+    (λ c. search needs)
+    (λ c. sym (types-count (c .before .before .before .before .before .before .before .before .before .before .before .before .pre .outlined)))
+    (λ c κs. search needs)
+    (λ c κs. search needs)
+    returns-3
+    returns-4)

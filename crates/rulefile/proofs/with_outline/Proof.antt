@@ -15,7 +15,7 @@ returns c =
 bodies-requires : tie.Need-bodies-requires
 bodies-requires c κs =
     let read = c .before .before .before .before .before .before .before .before .before .pre .read in
-    (tables-small _ _ _ _ read, bodies-inside _ _ _ _ read)
+    (tables-small _ _ _ _ _ read, bodies-inside _ _ _ _ _ read)
 
 with-depths-requires : tie.Need-with-depths-requires
 with-depths-requires c κs =

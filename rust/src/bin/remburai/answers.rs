@@ -1,13 +1,14 @@
-//! The answers to the five commands.
+//! The answers to the six commands.
 use crate::arguments::{whole, Command, Form, Request};
 use crate::lines::{explain, tell, write_entries, write_refusal, write_text, write_total};
-use crate::searching::{searched, Searched};
+use crate::searching::{named, searched, Searched};
 use crate::standard::{say, Output};
 use crate::status::{fault, Status, Stop};
 use crate::storing;
 use crate::subject::Subject;
 use crate::wording;
-use remburai::{entries, entry, run, text_length, work_words, SearchError};
+use remburai::{entries, entry, names_refusal, run, text_length, work_words};
+use remburai::{Goal, Refusal, SearchError};
 use std::ffi::OsStr;
 use std::path::Path;
 
@@ -19,6 +20,7 @@ pub fn answer(request: &Request, out: &mut Output) -> Result<Status, Stop> {
         Command::Run => closed_run(request, &subject, out),
         Command::Check => accepted(&subject, out),
         Command::Print => print(request, &subject, out),
+        Command::Names => names(request, &subject, out),
     });
     with_refusal(request.form, given, out)
 }
@@ -127,13 +129,40 @@ fn print(request: &Request, subject: &Subject, out: &mut Output) -> Result<Statu
 fn search(request: &Request, subject: &Subject) -> Result<Option<Searched>, Stop> {
     let goal = subject.rule.goal();
     let found = searched(&subject.file, goal.steps, request.limit)?;
+    Ok(in_time(found, request, goal))
+}
+
+/// What a search has given; where that is nothing, it is said that the limit has passed.
+fn in_time<T>(found: Option<T>, request: &Request, goal: Goal) -> Option<T> {
     if let (None, Some(limit)) = (&found, request.limit) {
         let (seconds, within) = (limit.as_secs_f64(), wording::within(goal));
         say(format_args!(
             "no answer after {seconds} s: the search {within} was given up, and nothing is known"
         ));
     }
-    Ok(found)
+    found
+}
+
+/// The names in the rule's list, as `namelist` prints them. What else there is to say goes to standard error.
+fn names(request: &Request, subject: &Subject, out: &mut Output) -> Result<Status, Stop> {
+    let goal = subject.rule.goal();
+    let text = named(&subject.file, goal.steps, request.limit)?;
+    let Some(text) = in_time(text, request, goal) else {
+        return Ok(Status::Open);
+    };
+    out.bytes(&text)?;
+    let refusal = names_refusal(&text);
+    let lines = text.iter().filter(|byte| **byte == b'\n').count();
+    let (count, full) = match refusal {
+        Some(why) => (lines - 1, why == Refusal::ListFull),
+        None => (lines, false),
+    };
+    say(wording::named(count, &subject.rule, full));
+    let Some(why) = refusal else {
+        return Ok(Status::Yes);
+    };
+    explain(request.form, why, out)?;
+    Ok(Status::Refused)
 }
 
 /// A search that was refused. With 12 the entries that fit are known, and nothing of the others.

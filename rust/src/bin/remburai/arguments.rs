@@ -15,6 +15,7 @@ pub enum Command {
     Run,
     Check,
     Print,
+    Names,
 }
 
 impl Command {
@@ -25,12 +26,18 @@ impl Command {
             "run" => Some(Command::Run),
             "check" => Some(Command::Check),
             "print" => Some(Command::Print),
+            "names" => Some(Command::Names),
             _ => None,
         }
     }
 
     /// Whether it makes a search.
     fn searches(self) -> bool {
+        matches!(self, Command::List | Command::Entry | Command::Names)
+    }
+
+    /// Whether its answer has more forms than one.
+    fn has_forms(self) -> bool {
         matches!(self, Command::List | Command::Entry)
     }
 
@@ -41,13 +48,14 @@ impl Command {
             Command::Run => include_str!("help/run.txt"),
             Command::Check => include_str!("help/check.txt"),
             Command::Print => include_str!("help/print.txt"),
+            Command::Names => include_str!("help/names.txt"),
         }
     }
 
-    /// How its answer is written if no option says it. A stored list has the raw form only.
+    /// How its answer is written if no option says it. A stored list and names have the raw form only.
     fn form(self) -> Form {
         match self {
-            Command::Print => Form::Raw,
+            Command::Print | Command::Names => Form::Raw,
             _ => Form::People,
         }
     }
@@ -163,20 +171,18 @@ impl Words {
             None => (option, None),
         };
         let command = self.request.command;
-        let searches = command.searches();
+        let (searches, plain) = (command.searches(), value.is_none());
         match name {
             "--depth" => self.request.depth = Some(self.number(name, value, 1, DEPTH_LIMIT)? as u8),
             "--steps" => self.request.steps = Some(self.number(name, value, 0, STEP_LIMIT)? as u16),
             "--limit" if searches => self.request.limit = Some(self.seconds(name, value)?),
-            "--raw" if searches && value.is_none() => self.form(Form::Raw)?,
-            "--json" if searches && value.is_none() => self.form(Form::Json)?,
+            "--raw" if command.has_forms() && plain => self.form(Form::Raw)?,
+            "--json" if command.has_forms() && plain => self.form(Form::Json)?,
             "--save" if command == Command::List => {
                 self.request.save = Some(self.file(name, value)?)
             }
-            "--full" if command == Command::Print && value.is_none() => self.request.full = true,
-            "--length" if command == Command::Print && value.is_none() => {
-                self.request.length = true
-            }
+            "--full" if command == Command::Print && plain => self.request.full = true,
+            "--length" if command == Command::Print && plain => self.request.length = true,
             _ => return Err(wrong(format_args!("there is no option {option} here"))),
         }
         Ok(())
@@ -247,7 +253,7 @@ impl Words {
         }
         let more = self.places.split_off(1);
         let few = match self.request.command {
-            Command::List | Command::Check => more.is_empty(),
+            Command::List | Command::Check | Command::Names => more.is_empty(),
             Command::Entry | Command::Print => more.len() == 1,
             Command::Run => true,
         };

@@ -1,5 +1,5 @@
-//! The command for people: a rule's list, one of its entries, a run on one input, the check, and the text of a stored list, by the proved
-//! calls of the library.
+//! The command for people: a rule's list, one of its entries, its names, a run on one input, the check, and the text of a stored list, by
+//! the proved calls of the library.
 //!
 //! `arguments` reads the command line and `subject` the rule, by `text` and tools/rule where it is a text. `answers` gives the answer: by
 //! `searching` where it takes a search, by `storing` where a list is stored or was, in the sentences of `wording` and the lines of `lines`,

@@ -1,6 +1,6 @@
-//! A search in a thread of its own, so that the time it takes can be shown and limited.
+//! A search, or that of names, in a thread of its own, so that the time it takes can be shown and limited.
 use crate::status::{fault, Stop};
-use remburai::{search, work_words, Listed, SearchError, LIST_LIMIT};
+use remburai::{names, search, work_words, Listed, SearchError, LIST_LIMIT};
 use std::io::{self, IsTerminal, Write};
 use std::sync::mpsc::{channel, Receiver, RecvTimeoutError};
 use std::thread;
@@ -45,14 +45,36 @@ pub fn searched(
     steps: u16,
     limit: Option<Duration>,
 ) -> Result<Option<Searched>, Stop> {
-    let (send, receive) = channel();
     let file = file.to_vec();
-    let call = move || {
+    called(limit, move || {
         let mut work = vec![0; work_words(steps as usize)];
         let mut slice = vec![0; LIST_LIMIT];
         let answer = search(&file, &mut work, &mut slice);
+        Searched { slice, answer }
+    })
+}
+
+/// The text of the names in the list of a rule file of step limit `steps`. Nothing where there is none within the limit.
+pub fn named(file: &[u8], steps: u16, limit: Option<Duration>) -> Result<Option<Vec<u8>>, Stop> {
+    let file = file.to_vec();
+    called(limit, move || {
+        let mut work = vec![0; work_words(steps as usize)];
+        let (mut list, mut text) = (vec![0; LIST_LIMIT], vec![0; 4 * LIST_LIMIT + 64]);
+        let length = names(&file, &mut work, &mut list, &mut text);
+        text.truncate(length);
+        text
+    })
+}
+
+/// What a call gives, in a thread of its own.
+fn called<T: Send + 'static>(
+    limit: Option<Duration>,
+    call: impl FnOnce() -> T + Send + 'static,
+) -> Result<Option<T>, Stop> {
+    let (send, receive) = channel();
+    let call = move || {
         // There is no one to send it to where the limit has passed.
-        let _ = send.send(Searched { slice, answer });
+        let _ = send.send(call());
     };
     let thread = thread::Builder::new().stack_size(STACK).spawn(call);
     thread.map_err(|why| fault("the search cannot be started", why))?;
@@ -78,7 +100,7 @@ impl Waiting {
         }
     }
 
-    fn wait(mut self, receive: &Receiver<Searched>) -> Result<Option<Searched>, Stop> {
+    fn wait<T>(mut self, receive: &Receiver<T>) -> Result<Option<T>, Stop> {
         loop {
             let passed = self.began.elapsed();
             let left = self

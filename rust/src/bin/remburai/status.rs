@@ -5,7 +5,7 @@ use std::fmt::Display;
 /// The exit statuses; help/remburai.txt says the same.
 #[derive(Clone, Copy)]
 pub enum Status {
-    /// Found, accepted or reached; the entry asked for; a stored list printed.
+    /// Found, accepted or reached; the entry asked for; a stored list or names printed.
     Yes = 0,
     /// None, ended or missing; no such entry.
     No = 1,

@@ -1,5 +1,5 @@
 //! What an answer stands for, in sentences: never without the depth and the step limit within which it holds.
-use remburai::{Goal, Outcome, Ran, Refusal, Total, Verdict, STEP_LIMIT};
+use remburai::{Goal, Outcome, Ran, Refusal, Rule, Total, Verdict, STEP_LIMIT};
 
 /// The depth and the step limit.
 pub fn limits(goal: Goal) -> String {
@@ -89,6 +89,24 @@ pub fn handed_in(goal: Goal) -> String {
     format!("what is printed speaks for the rule only if its search {within} returned this list")
 }
 
+/// What so many names in the list of a rule stand for, which may be cut short.
+pub fn named(count: usize, rule: &Rule, full: bool) -> String {
+    let within = within(rule.goal());
+    let (names, whose) = match count {
+        0 if rule.names().is_none() => return "no names: the rule has no record NA".to_string(),
+        0 if rule.named_parameters() == 0 => {
+            return "no names: no parameter of the source is of the named type".to_string()
+        }
+        0 => return format!("no names {within}: the list has no entry"),
+        1 => ("1 name".to_string(), "its entry"),
+        n => (format!("{n} names"), "their entries"),
+    };
+    match full {
+        true => format!("{names} {within}: the list is full, and there are more"),
+        false => format!("{names} {within}; {whose} may stand for others too"),
+    }
+}
+
 /// What the outcome of a run stands for, and how deep its input goes.
 pub fn ran(ran: Ran, goal: Goal) -> String {
     let (depth, within) = (ran.depth, within(goal));
@@ -132,6 +150,9 @@ pub fn advice(why: Refusal) -> &'static str {
         Refusal::TextTooShort => "lend as many bytes as the text has",
         Refusal::BadList => {
             "give the list that remburai list --save has stored for this rule, with the --depth and the --steps of that search"
+        }
+        Refusal::BadSpelling => {
+            "name a type of two constructors: one without fields, then one with two halves, each of a type of sixteen without fields, and the type itself"
         }
     }
 }

@@ -1,0 +1,3 @@
+pub mod Filling
+pub mod Spelling
+pub mod NameList
