@@ -29,10 +29,10 @@ use Rattle.registers.specs.declared.Registers.{Registers}
 use Rattle.choices.specs.Choices.{Setting, AllOpen, ChoicesAt, no-choice, one-choice}
 use Rattle.choices.specs.Returning.{setting}
 use Rattle.choices.proofs.Returning.{limit-few}
-use Rattle.moves.specs.declared.Position.the-variants as Position
-use Rattle.moves.specs.declared.Walk.{Walk}
-use Rattle.moves.specs.declared.Moved.{Moved}
-use Rattle.moves.specs.Moving.{positionOf, PositionAt, StandsAs, EntryIn, Lists, walkWeight, Makes, ActiveAt, Active, SearchStands, Moves}
+use Rattle.arriving.specs.declared.Position.the-variants as Position
+use Rattle.arriving.specs.declared.Walk.{Walk}
+use Rattle.arriving.specs.declared.Moved.{Moved}
+use Rattle.arriving.specs.Moving.{positionOf, PositionAt, StandsAs, EntryIn, Lists, walkWeight, Makes, ActiveAt, Active, SearchStands, Moves}
 use Rattle.listing.specs.declared.Written.{Written}
 use Rattle.listing.specs.declared.Written.the-variants as Written
 use Rattle.listing.specs.Entry.{InputIn, Listable, entryFor, WroteFor, WroteEntry}

@@ -17,8 +17,8 @@ use Rattle.machine.specs.Cells.{Cells}
 use Rattle.registers.specs.declared.Registers.{Registers}
 use Rattle.choices.specs.Choices.{Setting, Given, AllOpen}
 use Rattle.choices.specs.Returning.{setting}
-use Rattle.moves.specs.declared.Walk.{Walk}
-use Rattle.moves.specs.Moving.{UnderWay, Active}
+use Rattle.arriving.specs.declared.Walk.{Walk}
+use Rattle.arriving.specs.Moving.{UnderWay, Active}
 use Rattle.listing.specs.declared.Written.{Written}
 use Rattle.listing.specs.declared.Written.the-variants as Written
 use Rattle.listing.specs.Entry.{Listable, WroteEntry}

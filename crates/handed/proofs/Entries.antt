@@ -24,10 +24,10 @@ use Rattle.reach.specs.Handed.{spanning}
 use Rattle.reach.specs.Places.{wordAt, typeAt, headAt}
 use Rattle.reach.proofs.ReadBack.{size-told}
 use Rattle.reach.proofs.HandedEntry.{headed}
-use Rattle.partials.specs.declared.Measured.{Measured}
-use Rattle.partials.specs.declared.Measured.the-variants as Measured
-use Rattle.partials.specs.Values.{ofRow, slotsAt}
-use Rattle.partials.proofs.Rows.{manner-entries}
+use Rattle.rows.specs.declared.Measured.{Measured}
+use Rattle.rows.specs.declared.Measured.the-variants as Measured
+use Rattle.rows.specs.Values.{ofRow, slotsAt}
+use Rattle.rows.proofs.Rows.{manner-entries}
 use Rattle.handed.specs.Fits.{entryAt, Told}
 
 -- The entry of n bytes at a place.

@@ -8,9 +8,9 @@ use depths::Depths;
 use entries::Size;
 use entries::size_at;
 use entries::word_at;
+use fitting::slots;
 use lookups::head_of;
-use partials::Measured;
-use partials::slots;
+use rows::Measured;
 
 // The entry of n bytes at a place has at most so many steps, and a value for each parameter of the source, at most so deep.
 fn entry_fits<'a>(

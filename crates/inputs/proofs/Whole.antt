@@ -15,9 +15,9 @@ use Rattle.reach.specs.Reader.{Got, got, refused, onGot, _>>_, give, atEnd}
 use Rattle.reach.specs.Partial.{inInputs, slotted}
 use Rattle.reach.specs.Input.{inputBy}
 use Rattle.reach.proofs.Base.{clash}
-use Rattle.partials.specs.declared.Measured.{Measured}
-use Rattle.partials.specs.declared.Measured.the-variants as Measured
-use Rattle.partials.specs.Values.{ofRow}
+use Rattle.rows.specs.declared.Measured.{Measured}
+use Rattle.rows.specs.declared.Measured.the-variants as Measured
+use Rattle.rows.specs.Values.{ofRow}
 use Rattle.inputs.specs.declared.Reading.{Reading}
 use Rattle.inputs.specs.declared.Reading.the-variants as Reading
 use Rattle.inputs.specs.Depth.{readingOf}

@@ -2,9 +2,9 @@
 // partials.
 ghost use mathlib.Core.Path.{_≡_};
 ghost use Rattle.inputs.specs.Depth.{readingOf, inputAt};
+use fitting::slots;
 use lookups::head_of;
-use partials::Measured;
-use partials::slots;
+use rows::Measured;
 
 // What an input is: as deep as its deepest parameter, 0 without parameters; or it does not fit.
 pub enum Reading {

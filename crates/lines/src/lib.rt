@@ -1,36 +1,24 @@
 // The lines of a printed text, each written into a lent slice: the line of an entry, the total line, the line of a refusal. Rests on crates marks,
 // entries, refusals and writing.
-ghost use mathlib.Core.Path.{_≡_};
-ghost use mathlib.Core.List.{_∷_, map};
+ghost use mathlib.Core.List.{map};
 ghost use Prim.Native.Nat.{_+_, _*_, _≤_, _<_};
 ghost use lib.ListN.{length, drop};
-ghost use Rattle.reach.specs.Search.{verdictBy};
 ghost use Rattle.reach.specs.Lists.{decoded};
-ghost use Rattle.reach.specs.Words.{verdictWord};
-ghost use Rattle.reach.specs.Text.{space, spaced, kindWord, partWord, lineSaying, share, totalLine, refusalLine, lastLine};
+ghost use Rattle.reach.specs.Text.{spaced, partWord, lineSaying, totalLine, refusalLine, lastLine};
 ghost use Rattle.lines.specs.Counting.{Few};
 ghost use Rattle.writing.specs.Writing.{Puts};
 use entries::kind_at;
 use entries::word_at;
-use marks::wide;
 use reach::Counts;
-use reach::Kind;
 use reach::Refusal;
 use refusals::number;
+use words::put_kind;
+use words::put_part;
+use words::put_verdict;
+use words::share_of;
 use writing::put_byte;
 use writing::put_bytes;
 use writing::put_number;
-
-// Writes a space and a byte of the prefix form.
-fn put_part(text: &mut [u8], at: usize, b: u8) -> usize
-    requires { ⌜ at < 2305843009213693952 ⌝ }
-    ensures { λ r. ⌜ Puts (now (text .entry)) at (space ∷ partWord b) (now (text .exit)) r ⌝ }
-{
-    if b == 255 {
-        return put_bytes(b" _", text, at);
-    }
-    put_number(text, at, wide(b) as u64)
-}
 
 // Writes the parameters of an entry, each byte behind a space.
 fn put_parts(entry: &[u8], text: &mut [u8], at: usize) -> usize
@@ -46,18 +34,6 @@ fn put_parts(entry: &[u8], text: &mut [u8], at: usize) -> usize
     to
 }
 
-// Writes the word for a kind.
-fn put_kind(kind: Kind, text: &mut [u8], at: usize) -> usize
-    requires { ⌜ at < 4611686018427387904 ⌝ }
-    ensures { λ r. ⌜ Puts (now (text .entry)) at (kindWord kind) (now (text .exit)) r ⌝ }
-{
-    match kind {
-        Kind::RE => return put_bytes(b"reach", text, at),
-        Kind::UN => return put_bytes(b"unfinished", text, at),
-        Kind::MI => return put_bytes(b"missing", text, at),
-    }
-}
-
 // Writes the line of an entry.
 pub fn put_line(entry: &[u8], text: &mut [u8], at: usize) -> usize
     requires { ⌜ (6 ≤ length (now entry)) × (length (now entry) ≤ 16777216) × (at < 576460752303423488) ⌝ }
@@ -67,32 +43,6 @@ pub fn put_line(entry: &[u8], text: &mut [u8], at: usize) -> usize
     let parts = put_number(text, steps, word_at(entry, 2) as u64);
     let end = put_parts(entry, text, parts);
     put_byte(text, end, b'\n')
-}
-
-// The unfinished share of both counts in whole per cent, rounded down.
-fn share_of(reach: u64, unfinished: u64) -> u64
-    requires { ⌜ (reach ≤ 16777216) × (unfinished ≤ 16777216) ⌝ }
-    ensures { λ r. ⌜ r ≡ share reach unfinished ⌝ }
-{
-    let both = reach + unfinished;
-    if both == 0 {
-        return 0;
-    }
-    100 * unfinished / both
-}
-
-// Writes a space and the verdict that the counts give.
-fn put_verdict(text: &mut [u8], at: usize, counts: Counts) -> usize
-    requires { ⌜ at < 4611686018427387904 ⌝ }
-    ensures { λ r. ⌜ Puts (now (text .entry)) at (space ∷ verdictWord (verdictBy counts)) (now (text .exit)) r ⌝ }
-{
-    if 0 < counts.reach {
-        return put_bytes(b" found", text, at);
-    }
-    if 0 < counts.unfinished {
-        return put_bytes(b" undecided", text, at);
-    }
-    put_bytes(b" none", text, at)
 }
 
 // Writes the total line.

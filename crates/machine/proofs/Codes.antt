@@ -14,7 +14,7 @@ use Rattle.reach.specs.RuleFile.{Head, Declarations}
 use Rattle.reach.specs.Encoding.{encode, ByteAt, countAlternatives, nesting}
 use Rattle.reach.specs.Eval.{Env, Frame, State, evaluating, uncovered, choose}
 use Rattle.reach.proofs.Base.{clash}
-use Rattle.reach.proofs.Encoding.{stands-variable, stands-call, stands-construct, stands-case, stands-let, stands-target, stands-next, stands-absent, stands-present, skipped-finds, BodyAt}
+use Rattle.codes.proofs.Encoding.{stands-variable, stands-call, stands-construct, stands-case, stands-let, stands-target, stands-next, stands-absent, stands-present, skipped-finds, BodyAt}
 use Rattle.machine.specs.Records.{Code, CodeAll, CodeAlternatives}
 use Rattle.machine.specs.Walks.{Behind, OperandAt, this-operand, later-operand, ChosenAt, none-chosen, this-chosen, past-absent, past-present}
 

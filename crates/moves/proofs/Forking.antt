@@ -36,8 +36,8 @@ use Rattle.choices.proofs.Keeping.{reopened-other, there, cell-below, choices-k
 use Rattle.choices.proofs.Taking.{path-taken, goes-taken, choices-taken, step-kept, path-goes}
 use Rattle.choices.proofs.Weights.{weight-kept, weight-taken}
 use Rattle.choices.proofs.Returning.{height-small, long, cells-small}
-use Rattle.moves.specs.Moving.{UnderWay, ComesTo, Forking, Takes}
-use Rattle.moves.proofs.Arriving.{step-standing}
+use Rattle.arriving.specs.Moving.{UnderWay, ComesTo, Forking, Takes}
+use Rattle.arriving.proofs.Arriving.{step-standing}
 
 -- the model's fork, where the choice point's numbers are known
 take-is :

@@ -20,12 +20,12 @@ use Rattle.choices.specs.Choices.{Given, ChoicesAt}
 use Rattle.choices.specs.Weights.{power, weight}
 use Rattle.choices.specs.Returning.{setting, ReturnMeans, Returns, SomeChoices}
 use Rattle.choices.proofs.Weights.{weight-some}
-use Rattle.moves.specs.declared.Position.{Position}
-use Rattle.moves.specs.declared.Position.the-variants as Position
-use Rattle.moves.specs.declared.Walk.{Walk}
-use Rattle.moves.specs.declared.Moved.{Moved}
-use Rattle.moves.specs.Moving.{positionOf, endedWalk, PositionAt, StandsAs, positionWeight, walkWeight, ComesTo, ResumesAt, SomeUnderWay, Arrives, SomeForking, Takes, ActiveAt, Active, Resumable, Resumes, SearchStands, Moves}
-use Rattle.moves.proofs.Arriving.{ended, moves-none}
+use Rattle.arriving.specs.declared.Position.{Position}
+use Rattle.arriving.specs.declared.Position.the-variants as Position
+use Rattle.arriving.specs.declared.Walk.{Walk}
+use Rattle.arriving.specs.declared.Moved.{Moved}
+use Rattle.arriving.specs.Moving.{positionOf, endedWalk, PositionAt, StandsAs, positionWeight, walkWeight, ComesTo, ResumesAt, SomeUnderWay, Arrives, SomeForking, Takes, ActiveAt, Active, Resumable, Resumes, SearchStands, Moves}
+use Rattle.arriving.proofs.Arriving.{ended, moves-none}
 
 move-over : (p : Program) (table : List ℕ) (cs : List Choice) (es : List Entry) → moveFrom p table Model.over cs es ≡ return p table cs es
 unfolding moveFrom

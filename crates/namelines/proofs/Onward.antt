@@ -22,8 +22,8 @@ use Rattle.names.specs.NameList.{nameLine, nameLines, namesIn}
 use Rattle.names.specs.Filling.{fill, fillNamed}
 use Rattle.names.specs.Spelling.{spelled}
 use Rattle.naming.specs.Letters.{letters, Spelt}
-use Rattle.partials.specs.declared.Measured.{Measured}
-use Rattle.partials.specs.Values.{ofRow, mannerOf}
+use Rattle.rows.specs.declared.Measured.{Measured}
+use Rattle.rows.specs.Values.{ofRow, mannerOf}
 use Rattle.writing.specs.Writing.{Puts}
 use Rattle.writing.proofs.Writing.{Left, left-whole, left-next, left-none}
 use Rattle.namelines.specs.Rows.{rowNames, RowStands, rowRead, Legible}

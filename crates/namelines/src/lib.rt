@@ -15,14 +15,14 @@ ghost use Rattle.namelines.specs.Rows.{rowNames, rowRead, typesAsked, Re
 ghost use Rattle.namelines.specs.Lists.{listNames, Listed, FitsFile, PutsNames, WritesNames};
 use entries::Size;
 use entries::size_at;
+use fitting::slots;
 use goal::Named;
 use lines::put_refusal;
 use lookups::head_of;
 use marks::byte_or_zero;
 use naming::put_name;
-use partials::Measured;
-use partials::slots;
 use reach::Refusal;
+use rows::Measured;
 use rulefile::Loaded;
 use rulefile::load;
 

@@ -17,8 +17,8 @@ use Rattle.reach.proofs.Places.{Read, type-read, head-read}
 use Rattle.records.specs.declared.Step.{Step}
 use Rattle.records.specs.Steps.{stepOf}
 use Rattle.records.proofs.Answers.{step-got, step-refused}
-use Rattle.outline.specs.declared.Turn.{Turn}
-use Rattle.outline.specs.Tables.{typesFrom, functionsFrom, onTurn, Room}
+use Rattle.turns.specs.declared.Turn.{Turn}
+use Rattle.turns.specs.Turns.{typesFrom, functionsFrom, onTurn, Room}
 
 -- one record, and then those that follow
 abbrev pub joined : {A : Type 0} → Got A → (ℕ → Got (List A)) → Got (List A)

@@ -15,7 +15,8 @@ use Rattle.reach.proofs.Places.{goal-read}
 use Rattle.records.specs.declared.Step.{Step}
 use Rattle.records.specs.Steps.{stepOf}
 use Rattle.records.proofs.Answers.{step-got, step-refused, on-got}
-use Rattle.outline.specs.Tables.{typesFrom, functionsFrom, onStep, firstMark, lastRecord}
+use Rattle.outline.specs.Tables.{onStep, lastRecord}
+use Rattle.turns.specs.Turns.{typesFrom, functionsFrom, firstMark}
 
 -- one reading and then the rest, however the rest is grouped
 regroup : {A B C : Type 0} (x : Got A) (f : A → ℕ → Got B) (g : B → ℕ → Got C) (h : A → ℕ → Got C)

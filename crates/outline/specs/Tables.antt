@@ -1,57 +1,23 @@
 -- What the first pass leaves: the places of the records, what the readers of crate reach find there, the type that NA names, and the goal.
 -- Rests on reach's RuleFile and Places, on goal's Goals and on the structs of src/lib.rt.
-use Prim.Native.Nat.{ℕ, pred, _≤_, _<_}
-use mathlib.Core.List.{List, [], _∷_, map}
+use Prim.Native.Nat.{ℕ, _≤_}
+use mathlib.Core.List.{List, map}
 use mathlib.Core.Option.{Option}
 use lib.ListN.{take}
 use Rattle.reach.specs.Limits.{typeLimit, functionLimit}
 use Rattle.reach.specs.Syntax.{Types}
-use Rattle.reach.specs.declared.Refusal.the-variants.{UnexpectedMark, TrailingBytes}
-use Rattle.reach.specs.Reader.{Got, got, refused, Reader, _>>=_, _>>_, give, refuse, atEnd}
-use Rattle.reach.specs.RuleFile.{onMark, mark, typeRecord, moreTypes, Head, functionRecord, moreFunctions, Goal, goalRecord, Outline}
+use Rattle.reach.specs.declared.Refusal.the-variants.{TrailingBytes}
+use Rattle.reach.specs.Reader.{Got, got, refused, Reader, _>>=_, _>>_, give, atEnd}
+use Rattle.reach.specs.RuleFile.{Head, Goal, goalRecord, Outline}
 use Rattle.reach.specs.Places.{typeAt, headAt, outlineAt}
 use Rattle.records.specs.declared.Step.{Step}
 use Rattle.records.specs.declared.Step.the-variants.{Next, Refused}
 use Rattle.goal.specs.declared.Goal as Goal
 use Rattle.goal.specs.Goals.{goalOf, namedOf}
-use Rattle.outline.specs.declared.Turn.{Turn}
-use Rattle.outline.specs.declared.Turn.the-variants as Turn
 use Rattle.outline.specs.declared.TypeTable.{TypeTable}
 use Rattle.outline.specs.declared.FunctionTable.{FunctionTable}
 use Rattle.outline.specs.declared.Naming.{Naming}
 use Rattle.outline.specs.declared.Outlined.{Outlined}
-
--- a type's record, then up to k more types, up to behind the mark of the first function
-unfoldable pub typesFrom : ℕ → Reader Types
-typesFrom k = do
-  t ← typeRecord
-  ts ← moreTypes k
-  give (t ∷ ts)
-
--- a function's record, then up to k more functions, up to the mark NA or GO
-unfoldable pub functionsFrom : ℕ → Reader (List Head)
-functionsFrom k = do
-  f ← functionRecord
-  fs ← moreFunctions k
-  give (f ∷ fs)
-
-abbrev pub onTurn : {A : Type 0} → (ℕ → Got (List A)) → Turn → Got (List A)
-onTurn again (Turn.Again next) = again next
-onTurn again (Turn.Done next) = got [] next
-onTurn again (Turn.Refused why) = refused why
-
--- what follows a mark, as the turn says
-abbrev pub typesTurn : List ℕ → ℕ → Turn → Got Types
-typesTurn s more t = onTurn (λ next. typesFrom (pred more) s next) t
-
-abbrev pub functionsTurn : List ℕ → ℕ → Turn → Got (List Head)
-functionsTurn s more t = onTurn (λ next. functionsFrom (pred more) s next) t
-
--- one more record is called for only where one may come
-abbrev pub Room : ℕ → Turn → Type 0
-Room more (Turn.Again next) = 0 < more
-Room more (Turn.Done next) = Unit {0}
-Room more (Turn.Refused why) = Unit {0}
 
 abbrev pub onStep : {A : Type 0} → A → Step → Got A
 onStep a (Next next) = got a next
@@ -88,12 +54,6 @@ outlineOf step types functions naming goal =
 pub record InLimits (r : Outlined) : Type 0 where
   pub types-limit : r .types ≤ typeLimit
   pub functions-limit : r .functions ≤ functionLimit
-
--- the first mark must be that of a type
-unfoldable pub firstMark : Reader (Unit {0})
-firstMark = do
-  m ← mark
-  onMark (give tt) (refuse UnexpectedMark) (refuse UnexpectedMark) (refuse UnexpectedMark) (refuse UnexpectedMark) m
 
 -- the goal, and nothing behind it
 unfoldable pub lastRecord : Reader Goal

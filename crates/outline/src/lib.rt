@@ -6,11 +6,11 @@ ghost use mathlib.Core.Path.{_≡_};
 ghost use Prim.Native.Nat.{ℕ, _≤_};
 ghost use lib.ListN.{length};
 ghost use Rattle.reach.specs.Limits.{typeLimit, functionLimit};
-ghost use Rattle.reach.specs.RuleFile.{moreTypes, moreFunctions, goalMark, nameRecord, naming, outline};
+ghost use Rattle.reach.specs.RuleFile.{nameRecord, naming, outline};
 ghost use Rattle.records.specs.Steps.{stepOf};
-ghost use Rattle.outline.specs.Tables.{typesTurn, functionsTurn, Room, typesFrom, functionsFrom, typesOf, functionsOf, outlinedOf, namingOf, outlineOf, InLimits, firstMark, lastRecord};
+ghost use Rattle.outline.specs.Tables.{typesOf, functionsOf, outlinedOf, namingOf, outlineOf, InLimits, lastRecord};
+ghost use Rattle.turns.specs.Turns.{typesFrom, functionsFrom};
 use cursor::mark_at;
-use cursor::mark_behind;
 use goal::Goal;
 use goal::Named;
 use goal::goal_of;
@@ -25,17 +25,15 @@ use records::Step;
 use records::skip_function;
 use records::skip_goal;
 use records::skip_type;
+use turns::Turn;
+use turns::first_mark;
+use turns::goal_mark;
+use turns::turn_after_function;
+use turns::turn_after_type;
 
 const TYPE_LIMIT: usize = 32;
 
 const FUNCTION_LIMIT: usize = 64;
-
-// What the mark behind a record calls for: one more record of its kind, the next kind, or a refusal.
-pub enum Turn {
-    Again(usize),
-    Done(usize),
-    Refused(Refusal),
-}
 
 // The types: how far they go, how many there are, and where each one's record stands behind its mark.
 pub struct TypeTable {
@@ -66,52 +64,6 @@ pub struct Outlined {
     pub function_at: [u16; 64],
     pub named: Named,
     pub goal: Goal,
-}
-
-// The mark behind a type that begins at `from`, where so many more types may come.
-fn turn_after_type(s: &[u8], from: usize, behind: usize, more: usize) -> Turn
-    ensures { λ r. ⌜ moreTypes more (now (s .entry)) behind ≡ typesTurn (now (s .entry)) more r ⌝ }
-    ensures room { λ r. ⌜ Room more r ⌝ }
-{
-    let Marked::Mark(mark, next) = mark_behind(s, from, behind) else {
-        return Turn::Refused(Refusal::Truncated);
-    };
-    match mark {
-        Mark::Type => {
-            if more == 0 {
-                Turn::Refused(Refusal::OutOfRange)
-            } else {
-                Turn::Again(next)
-            }
-        }
-        Mark::Function => Turn::Done(next),
-        Mark::Name => Turn::Refused(Refusal::UnexpectedMark),
-        Mark::Goal => Turn::Refused(Refusal::UnexpectedMark),
-        Mark::Other => Turn::Refused(Refusal::UnexpectedMark),
-    }
-}
-
-// The mark behind a function that begins at `from`, where so many more functions may come. NA and GO are left to be read.
-fn turn_after_function(s: &[u8], from: usize, behind: usize, more: usize) -> Turn
-    ensures { λ r. ⌜ moreFunctions more (now (s .entry)) behind ≡ functionsTurn (now (s .entry)) more r ⌝ }
-    ensures room { λ r. ⌜ Room more r ⌝ }
-{
-    let Marked::Mark(mark, next) = mark_behind(s, from, behind) else {
-        return Turn::Refused(Refusal::Truncated);
-    };
-    match mark {
-        Mark::Type => Turn::Refused(Refusal::UnexpectedMark),
-        Mark::Function => {
-            if more == 0 {
-                Turn::Refused(Refusal::OutOfRange)
-            } else {
-                Turn::Again(next)
-            }
-        }
-        Mark::Name => Turn::Done(behind),
-        Mark::Goal => Turn::Done(behind),
-        Mark::Other => Turn::Refused(Refusal::UnexpectedMark),
-    }
 }
 
 // The types from behind the first mark to behind the mark of the first function.
@@ -194,22 +146,6 @@ fn read_functions(s: &[u8], first: usize) -> FunctionTable
     }
 }
 
-// The place behind the first mark, which must be that of a type.
-fn first_mark(s: &[u8]) -> Step
-    ensures { λ r. ⌜ r ≡ stepOf (firstMark (now (s .entry)) 0) ⌝ }
-{
-    let Marked::Mark(mark, next) = mark_at(s, 0) else {
-        return Step::Refused(Refusal::Truncated);
-    };
-    match mark {
-        Mark::Type => Step::Next(next),
-        Mark::Function => Step::Refused(Refusal::UnexpectedMark),
-        Mark::Name => Step::Refused(Refusal::UnexpectedMark),
-        Mark::Goal => Step::Refused(Refusal::UnexpectedMark),
-        Mark::Other => Step::Refused(Refusal::UnexpectedMark),
-    }
-}
-
 // An outline that was not read.
 fn not_read(step: Step) -> Outlined
     ensures { λ r. ⌜ r .step ≡ step ⌝ }
@@ -223,22 +159,6 @@ fn not_read(step: Step) -> Outlined
         function_at: [0; 64],
         named: Named::Nothing,
         goal: no_goal(),
-    }
-}
-
-// The place behind the mark GO, which must come behind NA's type number; `from` is where that number stands.
-fn goal_mark(s: &[u8], from: usize, behind: usize) -> Step
-    ensures { λ r. ⌜ r ≡ stepOf (goalMark (now (s .entry)) behind) ⌝ }
-{
-    let Marked::Mark(mark, next) = mark_behind(s, from, behind) else {
-        return Step::Refused(Refusal::Truncated);
-    };
-    match mark {
-        Mark::Type => Step::Refused(Refusal::UnexpectedMark),
-        Mark::Function => Step::Refused(Refusal::UnexpectedMark),
-        Mark::Name => Step::Refused(Refusal::UnexpectedMark),
-        Mark::Goal => Step::Next(next),
-        Mark::Other => Step::Refused(Refusal::UnexpectedMark),
     }
 }
 

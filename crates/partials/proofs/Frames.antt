@@ -8,14 +8,14 @@ use lib.Seq.{getD-set-same, getD-set-other}
 use native.Mathlib.Numerals.{add-one}
 use native.Mathlib.Omega.{arith}
 use Rattle.reach.specs.Places.{bytesAt}
-use Rattle.partials.specs.declared.Measured.{Measured}
-use Rattle.partials.specs.declared.Measured.the-variants as Measured
-use Rattle.partials.specs.declared.Row.{Row}
-use Rattle.partials.specs.declared.First.{First}
-use Rattle.partials.specs.declared.First.the-variants as First
-use Rattle.partials.specs.Values.{ofValue, ofRow, valueAt, rowAt}
-use Rattle.partials.specs.Stack.{joined, above, pastOf, Low, ofRest, ofFirst, NearFirst}
-use Rattle.partials.proofs.Rows.{joined-twice, row-done, row-next, row-stops}
+use Rattle.rows.specs.declared.Measured.{Measured}
+use Rattle.rows.specs.declared.Measured.the-variants as Measured
+use Rattle.rows.specs.declared.Row.{Row}
+use Rattle.rows.specs.declared.First.{First}
+use Rattle.rows.specs.declared.First.the-variants as First
+use Rattle.rows.specs.Values.{ofValue, ofRow, valueAt, rowAt}
+use Rattle.rows.specs.Stack.{joined, above, pastOf, Low, ofRest, ofFirst, NearFirst}
+use Rattle.rows.proofs.Rows.{joined-twice, row-done, row-next, row-stops}
 
 -- ---- the rows that wait
 

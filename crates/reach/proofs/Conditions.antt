@@ -32,7 +32,7 @@ use Rattle.reach.proofs.Numbers.{named-tells, numbers-tell, numbers-exi
 use Rattle.reach.proofs.Spelling.{spells-tells}
 use Rattle.reach.proofs.WellTyped.{at-below, at-getD}
 use Rattle.reach.proofs.LeastDepths.{rounds-length, least-depth-values, no-value}
-use Rattle.reach.proofs.Encoding.{Bodies, function-of, head-of, bodies-are}
+use Rattle.reach.proofs.Heads.{Heads, function-of, head-of, heads-are}
 use Rattle.reach.proofs.Stages.{size-refused, outline-refused, numbers-refused, bodies-refused, empty-refused, depth-refused, spelling-refused, file-accepted}
 use Rattle.reach.proofs.Refusals.{first-pass-gives, body-gives}
 
@@ -159,11 +159,11 @@ module _ (o : Outline) where
       omega (arith, least v value, deep, fits, over)
 
   -- the parameters of the source function are those of its head
-  module _ (file : List ℕ) (fs : List Function) (bodies : Bodies (o .declared) file (o .declared .heads) fs) where
+  module _ (file : List ℕ) (fs : List Function) (bodies : Heads (o .declared .heads) fs) where
     parameter-in : (t : ℕ) → SourceParameter o t → t ∈ sourceTypes (programOf o fs)
     unfolding sourceTypes functionAt programOf
     parameter-in t (h, is, m) =
-        let (g, g-is, body) = function-of (o .declared) file (o .declared .heads) fs bodies (o .goal .source) h is in
+        let (g, g-is, body) = function-of (o .declared .heads) fs bodies (o .goal .source) h is in
         rw (g-is, body .parameters) m
 
     in-parameter : (t : ℕ) → t ∈ sourceTypes (programOf o fs) → SourceParameter o t
@@ -173,7 +173,7 @@ module _ (o : Outline) where
         go : (g : Option Function) → getElem? fs (o .goal .source) ≡ g → t ∈ parametersOf g → SourceParameter o t
         go none is m = absurd (List·Memᴰ·not-nil m)
         go (some g) is m =
-            let (h, h-is, body) = head-of (o .declared) file (o .declared .heads) fs bodies (o .goal .source) g is in
+            let (h, h-is, body) = head-of (o .declared .heads) fs bodies (o .goal .source) g is in
             (h, h-is, subst (λ (ts : List ℕ). t ∈ ts) (body .parameters) m)
 
     parameters-tell : AllNumbersExist o → AllTypesInhabited (o .declared) → Tells (deepEnough (programOf o fs)) (AllParametersFit o) (SomeParameterTooDeep o)
@@ -240,7 +240,7 @@ module _ (file : List ℕ) where
 
         by-types : Tells (noEmptyType (leastDepths (o .declared .types))) (AllTypesInhabited (o .declared)) (SomeTypeEmpty (o .declared)) → Answered
         by-types (passes filled inhabited) =
-            by-parameters filled inhabited (parameters-tell o file fs (bodies-are file o n read n fs m bodies) numbers inhabited)
+            by-parameters filled inhabited (parameters-tell o file fs (heads-are (o .declared) file (o .declared .heads) n fs m bodies) numbers inhabited)
         by-types (fails filled empty) = (turnedBack EmptyType, empty-refused file size read exist bodies filled, by-empty-type refl (o, passed, empty))
 
     after-numbers : AllNumbersExist o → (g : Got (List Function)) → functionsOf (o .declared) (o .declared .heads) file n ≡ g
@@ -272,7 +272,7 @@ module _ (file : List ℕ) where
       let exist = (numbers-exist-exactly o) .1 (passed .numbers) in
       let (fs, m, bodies) = bodies-read (o .declared) file n (passed .bodies) in
       let filled = (passes-exactly (types-apart (o .declared)) (types-inhabited-tell (o .declared))) .1 inhabited in
-      let told = parameters-tell o file fs (bodies-are file o n read n fs m bodies) (passed .numbers) inhabited in
+      let told = parameters-tell o file fs (heads-are (o .declared) file (o .declared .heads) n fs m bodies) (passed .numbers) inhabited in
       let deep = (passes-exactly (parameters-apart o) told) .1 fit in
       (programOf o fs, file-accepted file size read exist bodies filled deep ((passes-exactly (names-apart o) (names-tell o)) .1 spelled))
 
@@ -292,7 +292,7 @@ module _ (file : List ℕ) where
   turns-back why (by-depth is (o, passed, inhabited, over)) =
       let (size, (n, read)) = passed .outlined in
       let (fs, m, bodies) = bodies-read (o .declared) file n (passed .bodies) in
-      let told = parameters-tell o file fs (bodies-are file o n read n fs m bodies) (passed .numbers) inhabited in
+      let told = parameters-tell o file fs (heads-are (o .declared) file (o .declared .heads) n fs m bodies) (passed .numbers) inhabited in
       depth-refused file size read ((numbers-exist-exactly o) .1 (passed .numbers)) bodies
       ((passes-exactly (types-apart (o .declared)) (types-inhabited-tell (o .declared))) .1 inhabited)
       ((fails-exactly (parameters-apart o) told) .1 over)
@@ -300,7 +300,7 @@ module _ (file : List ℕ) where
   turns-back why (by-spelling is (o, passed, inhabited, fit, otherwise)) =
       let (size, (n, read)) = passed .outlined in
       let (fs, m, bodies) = bodies-read (o .declared) file n (passed .bodies) in
-      let told = parameters-tell o file fs (bodies-are file o n read n fs m bodies) (passed .numbers) inhabited in
+      let told = parameters-tell o file fs (heads-are (o .declared) file (o .declared .heads) n fs m bodies) (passed .numbers) inhabited in
       spelling-refused file size read ((numbers-exist-exactly o) .1 (passed .numbers)) bodies
       ((passes-exactly (types-apart (o .declared)) (types-inhabited-tell (o .declared))) .1 inhabited)
       ((passes-exactly (parameters-apart o) told) .1 fit)

@@ -25,7 +25,7 @@ pub mod WellTyped
 pub mod ClosedInputs
 pub mod NeverStuck
 pub mod Reached
-pub mod Encoding
+pub mod Heads
 pub mod Conditions
 pub mod Accepted
 pub mod ReadBack

@@ -14,7 +14,7 @@ use Rattle.reach.specs.Places.{typeAt, headAt, declarationsAt, outlineAt}
 use Rattle.reach.specs.Base.{Each}
 use Rattle.reach.proofs.Base.{clash, nth-member, each-member}
 use Rattle.reach.proofs.Limits.{IfFound, ConstructorKept, TypeKept, HeadKept, OutlineKept, outline-kept}
-use Rattle.reach.proofs.Encoding.{BodyInside, outline-inside}
+use Rattle.codes.proofs.Encoding.{BodyInside, outline-inside}
 use Rattle.records.specs.Steps.{stepOf}
 use Rattle.lookups.proofs.Tables.{found}
 use Rattle.bodies.specs.declared.Judged.{Judged}

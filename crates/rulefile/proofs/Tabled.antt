@@ -13,7 +13,7 @@ use Rattle.reach.specs.RuleFile.{Head, Goal, Declarations, Outline, programOf, 
 use Rattle.reach.specs.Places.{typeAt, headAt, declarationsAt, outlineAt}
 use Rattle.reach.proofs.Base.{clash}
 use Rattle.reach.proofs.Numbers.{numbers-exist-exactly}
-use Rattle.reach.proofs.Encoding.{BodyAt, Bodies, function-of, bodies-are}
+use Rattle.codes.proofs.Encoding.{BodyAt, Bodies, function-of, bodies-are}
 use Rattle.lookups.proofs.Tables.{found, missing}
 use Rattle.goal.specs.Goals.{Asks, namedOf}
 use Rattle.depths.specs.Table.{padded}

@@ -14,7 +14,7 @@ use Rattle.reach.specs.Syntax.{Expr, Exprs, []ₑ, _∷ₑ_, Alternatives, no-m
 use Rattle.reach.specs.Encoding.{encode, encodeAll, encodeAlternatives, countAlternatives}
 use Rattle.reach.specs.Places.{bytesAt, constructorsAt, typeAt, headAt, declarationsAt}
 use Rattle.reach.specs.RuleFile.{Declarations}
-use Rattle.reach.proofs.Encoding.{places}
+use Rattle.codes.proofs.Encoding.{places}
 use Rattle.reach.proofs.Places.{bytes-length}
 use Rattle.lookups.specs.Fields.{fieldsOf, fieldsIn}
 use Rattle.lookups.specs.Heads.{headOf}

@@ -12,9 +12,9 @@ use Rattle.reach.specs.Types.{Slot}
 use Rattle.reach.specs.Partial.{OpenApart}
 use Rattle.reach.specs.Places.{typeAt}
 use Rattle.machine.specs.Cells.{cellWord, cellOf, Cells}
-use Rattle.partials.specs.declared.Measured.{Measured}
-use Rattle.partials.specs.declared.Measured.the-variants as Measured
-use Rattle.partials.specs.Values.{ofValue, valueAt}
+use Rattle.rows.specs.declared.Measured.{Measured}
+use Rattle.rows.specs.declared.Measured.the-variants as Measured
+use Rattle.rows.specs.Values.{ofValue, valueAt}
 use Rattle.values.specs.Positions.{RowStands, byteOf}
 
 -- the place noted in cell x: its low half is word 4, its high half word 1

@@ -8,8 +8,8 @@ ghost use Rattle.reach.specs.Places.{bytesAt};
 ghost use Rattle.values.specs.Notes.{Noted, notedPlace, notePlace, behindValue};
 use machine::cell_word;
 use marks::byte_or_zero;
-use partials::Measured;
 use partials::value;
+use rows::Measured;
 
 // The place that is noted in an open cell.
 pub fn noted(work: &[u32], cell: usize) -> usize

@@ -2,7 +2,7 @@
 -- program's list. The measure is the weight of where it stands. Rests on Exploring.
 use mathlib.Core.Path.{_≡_, refl, _∙_, subst}
 use lib.ListN.{length}
-use Rattle.moves.specs.Moving.{walkWeight}
+use Rattle.arriving.specs.Moving.{walkWeight}
 use Rattle.exploring.specs.Exploring.{GoesOn}
 use Rattle.exploring.proofs.Exploring.{CameFrom, came-begin, came-standing, same-room, came-over, move-lighter, move-length, move-listable, came-on, came-full}
 use native.Mathlib.Omega.{arith}

@@ -5,7 +5,7 @@ use Prim.Native.Nat.{_-_}
 use mathlib.Core.Path.{refl}
 use native.Mathlib.Omega.{arith}
 use borrow.Author.Needs.{needs}
-use Rattle.outline.specs.Tables.{functionsFrom}
+use Rattle.turns.specs.Turns.{functionsFrom}
 use Rattle.outline.proofs.Rows.{functionsKind, Rows, rows-none, row-begins, rows-stop, rows-again, rows-done, rows-refused}
 use Rattle.outline.proofs.read_functions.Statement.{statement}
 use Rattle.outline.proofs.read_functions.Tie as tie

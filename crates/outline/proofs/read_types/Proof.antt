@@ -5,7 +5,7 @@ use Prim.Native.Nat.{_-_}
 use mathlib.Core.Path.{refl}
 use native.Mathlib.Omega.{arith}
 use borrow.Author.Needs.{needs}
-use Rattle.outline.specs.Tables.{typesFrom}
+use Rattle.turns.specs.Turns.{typesFrom}
 use Rattle.outline.proofs.Rows.{typesKind, Rows, rows-none, row-begins, rows-stop, rows-again, rows-done, rows-refused}
 use Rattle.outline.proofs.read_types.Statement.{statement}
 use Rattle.outline.proofs.read_types.Tie as tie

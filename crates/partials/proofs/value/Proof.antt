@@ -3,9 +3,9 @@ use Prim.Native.Nat.{suc, _+_, _-_}
 use mathlib.Core.Path.{_≡_, sym, _∙_, ap, subst}
 use native.Mathlib.Omega.{arith}
 use borrow.Author.Needs.{needs}
-use Rattle.partials.specs.declared.Measured.the-variants as Measured
-use Rattle.partials.specs.Values.{Near}
-use Rattle.partials.specs.Stack.{above, ofFirst}
+use Rattle.rows.specs.declared.Measured.the-variants as Measured
+use Rattle.rows.specs.Values.{Near}
+use Rattle.rows.specs.Stack.{above, ofFirst}
 use Rattle.partials.proofs.Frames.{part-near, node-near}
 use Rattle.partials.proofs.value.Statement.{statement}
 use Rattle.partials.proofs.value.Tie as tie

@@ -5,7 +5,7 @@ use mathlib.Core.Path.{refl, sym}
 use lib.ListN.{length}
 use native.Mathlib.Omega.{arith}
 use borrow.Author.Needs.{needs}
-use Rattle.partials.specs.Stack.{ofRest}
+use Rattle.rows.specs.Stack.{ofRest}
 use Rattle.partials.proofs.Frames.{Reading, begun, last-waits, ended, popped, stopped, passed, pushed, part-near, node-near}
 use Rattle.partials.proofs.values.Statement.{statement}
 use Rattle.partials.proofs.values.Tie as tie

@@ -1,0 +1,19 @@
+-- `words::share_of` meets its contract: both counts together are tried for 0 before they divide.
+-- Rests on nothing of this crate.
+use Prim.Native.Nat.{_+_}
+use borrow.Author.Tests.{eq-eqb, ne-eqb}
+use borrow.Author.Needs.{needs}
+use Rattle.reach.specs.Text.{share}
+use Rattle.words.proofs.share_of.Tie as tie
+use Rattle.words.proofs.share_of.Statement.{statement}
+
+returns : tie.Need-returns
+unfolding share
+returns c = rw (eq-eqb (c .before .args .reach + c .before .args .unfinished) 0 (c .if1 .taken))
+
+returns-2 : tie.Need-returns-2
+unfolding share
+returns-2 c = rw (ne-eqb (c .before .args .reach + c .before .args .unfinished) 0 (c .if1 .left))
+
+pub share-of-spec : {M : Type 1} → statement M
+share-of-spec = tie.close (tie.spec (λ c. search needs) returns (λ c. search needs) (λ c. search needs) returns-2)
