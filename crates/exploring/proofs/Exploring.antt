@@ -79,28 +79,28 @@ verdict-none : verdict [] ≡ Verdict.None
 unfolding verdict counts countFrom verdictBy
 verdict-none = refl
 
-module _ (file types functions least : List ℕ) (label : ℕ) (w₀ : List ℕ) (limit base stack parameters : ℕ) (from : Registers) (before : List ℕ) where
-  abbrev at-program : Program → Setting
-  at-program p = setting file types functions least p limit base stack
+-- the search of a program came to here
+pub record Came (g : Setting) (before w : List ℕ) (x : Walk) (l : List ℕ) (n : ℕ) (v : Verdict) : Type 0 where
+  pub position : Model.Position
+  pub choices : List Choice
+  pub listed : List Entry
+  pub stands : StandsAs g w x position choices
+  pub owed-is : listed ++ owedFrom (g .program) (leastDepths (g .program .types)) position choices ≡ entries (g .program)
+  pub length-is : n ≡ length (listBytes listed)
+  pub fits : n ≤ length before
+  pub list-is : l ≡ written listed before
+  pub verdict-is : v ≡ verdict listed
 
-  -- the search of a program came to here
-  pub record Came (p : Program) (w : List ℕ) (x : Walk) (l : List ℕ) (n : ℕ) (v : Verdict) : Type 0 where
-    pub position : Model.Position
-    pub choices : List Choice
-    pub listed : List Entry
-    pub stands : StandsAs (at-program p) w x position choices
-    pub owed-is : listed ++ owedFrom p (leastDepths (p .types)) position choices ≡ entries p
-    pub length-is : n ≡ length (listBytes listed)
-    pub fits : n ≤ length before
-    pub list-is : l ≡ written listed before
-    pub verdict-is : v ≡ verdict listed
+-- and so did that of every program that begins as the loop did
+pub record CameTo (file types functions least : List ℕ) (label : ℕ) (w₀ : List ℕ) (limit base stack parameters : ℕ) (from : Registers) (before w : List ℕ) (x : Walk) (l : List ℕ) (n : ℕ) (v : Verdict) : Type 0 where
+  pub of :
+      (p : Program) → Begins (setting file types functions least p limit base stack) label w₀ parameters from
+      → Came (setting file types functions least p limit base stack) before w x l n v
 
-  abbrev pub CameTo : List ℕ → Walk → List ℕ → ℕ → Verdict → Type 0
-  CameTo w x l n v = (p : Program) → Begins (at-program p) label w₀ parameters from → Came p w x l n v
-
-  pub came-first : CameTo w₀ (firstWalk parameters from) before 0 Verdict.None
+module _ {file types functions least : List ℕ} {label : ℕ} {w₀ : List ℕ} {limit base stack parameters : ℕ} {from : Registers} {before : List ℕ} where
+  first : (p : Program) → Begins (setting file types functions least p limit base stack) label w₀ parameters from → Came (setting file types functions least p limit base stack) before w₀ (firstWalk parameters from) before 0 Verdict.None
   unfolding listBytes flatMap
-  came-first p begins =
+  first p begins =
       let none : limit - 0 ≡ limit = omega arith in
       record {
         position = Model.on (record { state = start p; left = limit - 0; done = 0; input = openInput p });
@@ -114,15 +114,18 @@ module _ (file types functions least : List ℕ) (label : ℕ) (w₀ : List ℕ)
         verdict-is = sym verdict-none;
       }
 
-  module _ (w : List ℕ) (x : Walk) (l : List ℕ) (n : ℕ) (v : Verdict) (came : CameTo w x l n v) where
+  pub came-first : CameTo file types functions least label w₀ limit base stack parameters from before w₀ (firstWalk parameters from) before 0 Verdict.None
+  came-first = record { of = first }
+
+  module _ {w : List ℕ} {x : Walk} {l : List ℕ} {n : ℕ} {v : Verdict} (came : CameTo file types functions least label w₀ limit base stack parameters from before w x l n v) where
     -- so it stands somewhere
     pub came-standing : SomeBegins file types functions least label w₀ limit base stack parameters from → SearchStands file types functions least label w limit base stack x
-    came-standing (p, begins) = let now = came p begins in (p, now .position, now .choices, begins .given, begins .sought, now .stands)
+    came-standing (p, begins) = let now = came .of p begins in (p, now .position, now .choices, begins .given, begins .sought, now .stands)
 
     -- the list is as long as the slice
     pub same-room : SomeBegins file types functions least label w₀ limit base stack parameters from → (length l ≡ length before) × (n ≤ length before)
     same-room (p, begins) =
-        let now = came p begins in
+        let now = came .of p begins in
         (ap length (now .list-is) ∙ written-length (now .listed) before (omega (arith, now .length-is, now .fits)), now .fits)
 
     -- the end of the search
@@ -130,9 +133,9 @@ module _ (file types functions least : List ℕ) (label : ℕ) (w₀ : List ℕ)
         {b : Bool} → GoesOn x b → b ≡ false
         → Explores file types functions least label w₀ w limit base stack parameters from before l (Answer.Complete n v)
     came-over goes is p begins =
-        let now = came p begins in
+        let now = came .of p begins in
         let (over, lowest) = subst (GoesOn x) is goes in
-        let last = at-end p (now .position) (now .choices) (subst (λ going. PositionAt (at-program p) w (x .cells) (x .done) (x .height) (positionOf going (x .registers)) (now .position) (now .choices)) over (now .stands)) lowest in
+        let last = at-end p (now .position) (now .choices) (subst (λ going. PositionAt (setting file types functions least p limit base stack) w (x .cells) (x .done) (x .height) (positionOf going (x .registers)) (now .position) (now .choices)) over (now .stands)) lowest in
         let whole : now .listed ≡ entries p =
         sym (append-nil (now .listed)) ∙ ap (λ es. now .listed ++ es) (sym (last .0)) ∙ now .owed-is in
         record {
@@ -145,22 +148,22 @@ module _ (file types functions least : List ℕ) (label : ℕ) (w₀ : List ℕ)
         }
       where
         by-choices :
-            (p : Program) {h cells records : ℕ} (cs : List Choice) → ChoicesAt (at-program p) w h cells records cs → h ≡ 0
-            → (owedFrom p (leastDepths (p .types)) Model.over cs ≡ []) × (some : ℕ) × AllOpen (at-program p) w some
+            (p : Program) {h cells records : ℕ} (cs : List Choice) → ChoicesAt (setting file types functions least p limit base stack) w h cells records cs → h ≡ 0
+            → (owedFrom p (leastDepths (p .types)) Model.over cs ≡ []) × (some : ℕ) × AllOpen (setting file types functions least p limit base stack) w some
         by-choices p {cells = cells} cs (no-choice all-open) lowest = (nothing-owed p (leastDepths (p .types)), cells, all-open)
         by-choices p cs (one-choice at-h few fewer rest) lowest = absurd (omega arith)
 
         at-end :
-            (p : Program) (position : Model.Position) (cs : List Choice) → PositionAt (at-program p) w (x .cells) (x .done) (x .height) Position.Over position cs → x .height ≡ 0
-            → (owedFrom p (leastDepths (p .types)) position cs ≡ []) × (some : ℕ) × AllOpen (at-program p) w some
+            (p : Program) (position : Model.Position) (cs : List Choice) → PositionAt (setting file types functions least p limit base stack) w (x .cells) (x .done) (x .height) Position.Over position cs → x .height ≡ 0
+            → (owedFrom p (leastDepths (p .types)) position cs ≡ []) × (some : ℕ) × AllOpen (setting file types functions least p limit base stack) w some
         at-end p (Model.on y) cs none lowest = absurd none
         at-end p Model.over cs (some, records, choices) lowest = by-choices p cs choices lowest
 
     -- A move.
     module _ {w′ : List ℕ} {m : Moved} (moves : Moves file types functions least label w w′ limit base stack x m) (same-length : length w ≡ length w₀) where
-      makes : (p : Program) (begins : Begins (at-program p) label w₀ parameters from)
-          → Makes (at-program p) w w′ (walkWeight stack limit w x) m (moveFrom p (leastDepths (p .types)) (came p begins .position) (came p begins .choices))
-      makes p begins = let now = came p begins in moves p (now .position) (now .choices) (begins .given) (begins .sought) (now .stands)
+      makes : (p : Program) (begins : Begins (setting file types functions least p limit base stack) label w₀ parameters from)
+          → Makes (setting file types functions least p limit base stack) w w′ (walkWeight stack limit w x) m (moveFrom p (leastDepths (p .types)) (came .of p begins .position) (came .of p begins .choices))
+      makes p begins = let now = came .of p begins in moves p (now .position) (now .choices) (begins .given) (begins .sought) (now .stands)
 
       pub move-lighter : SomeBegins file types functions least label w₀ limit base stack parameters from → walkWeight stack limit w′ (m .walk) < walkWeight stack limit w x
       move-lighter (p, begins) = makes p begins .lighter
@@ -168,14 +171,14 @@ module _ (file types functions least : List ℕ) (label : ℕ) (w₀ : List ℕ)
       pub move-length : SomeBegins file types functions least label w₀ limit base stack parameters from → length w′ ≡ length w₀
       move-length (p, begins) = makes p begins .same-length ∙ same-length
 
-      lists : (p : Program) (begins : Begins (at-program p) label w₀ parameters from) (listing : PathEnd) → m .listing ≡ listing → Lists (at-program p) w′ (m .walk) listing (makes p begins .new)
-      lists p begins listing is = subst (λ y. Lists (at-program p) w′ (m .walk) y (makes p begins .new)) is (makes p begins .lists)
+      lists : (p : Program) (begins : Begins (setting file types functions least p limit base stack) label w₀ parameters from) (listing : PathEnd) → m .listing ≡ listing → Lists (setting file types functions least p limit base stack) w′ (m .walk) listing (makes p begins .new)
+      lists p begins listing is = subst (λ y. Lists (setting file types functions least p limit base stack) w′ (m .walk) y (makes p begins .new)) is (makes p begins .lists)
 
       owed-after :
-          (p : Program) (begins : Begins (at-program p) label w₀ parameters from) (new : List Entry) → makes p begins .new ≡ new
-          → (came p begins .listed ++ new) ++ owedFrom p (leastDepths (p .types)) (makes p begins .position) (makes p begins .choices) ≡ entries p
+          (p : Program) (begins : Begins (setting file types functions least p limit base stack) label w₀ parameters from) (new : List Entry) → makes p begins .new ≡ new
+          → (came .of p begins .listed ++ new) ++ owedFrom p (leastDepths (p .types)) (makes p begins .position) (makes p begins .choices) ≡ entries p
       owed-after p begins new is =
-          let now = came p begins in
+          let now = came .of p begins in
           let made = makes p begins in
           ap (λ (es : List Entry). (now .listed ++ es) ++ owedFrom p (leastDepths (p .types)) (made .position) (made .choices)) (sym is)
           ∙ moved-keeps p (leastDepths (p .types)) (now .position) (made .position) (now .choices) (made .choices) (now .listed) (made .new) (made .more) (made .model-is (now .listed))
@@ -183,7 +186,7 @@ module _ (file types functions least : List ℕ) (label : ℕ) (w₀ : List ℕ)
 
       -- the input of an entry that a path lists
       input-in :
-          (p : Program) → Begins (at-program p) label w₀ parameters from → (kind : Kind) {new : List Entry} (entry : EntryIn (at-program p) w′ (m .walk) kind new)
+          (p : Program) → Begins (setting file types functions least p limit base stack) label w₀ parameters from → (kind : Kind) {new : List Entry} (entry : EntryIn (setting file types functions least p limit base stack) w′ (m .walk) kind new)
           → InputIn file types w′ parameters (m .walk .cells) (p .types) (sourceSlots p) (entry .0)
       input-in p begins kind (e, new-is, cells, typed) = record {
         types-there = begins .given .file-of .types-there;
@@ -193,7 +196,7 @@ module _ (file types functions least : List ℕ) (label : ℕ) (w₀ : List ℕ)
       }
 
       listable-one :
-          (p : Program) → Begins (at-program p) label w₀ parameters from → (kind : Kind) {new : List Entry} → EntryIn (at-program p) w′ (m .walk) kind new
+          (p : Program) → Begins (setting file types functions least p limit base stack) label w₀ parameters from → (kind : Kind) {new : List Entry} → EntryIn (setting file types functions least p limit base stack) w′ (m .walk) kind new
           → Listable file types w′ parameters (m .walk .cells)
       listable-one p begins kind entry = (
         (p .types, sourceSlots p, entry .0, input-in p begins kind entry),
@@ -214,11 +217,11 @@ module _ (file types functions least : List ℕ) (label : ℕ) (w₀ : List ℕ)
 
         -- an entry was written
         wrote-one :
-            (p : Program) (begins : Begins (at-program p) label w₀ parameters from) (kind : Kind) → EntryIn (at-program p) w′ (m .walk) kind (makes p begins .new)
+            (p : Program) (begins : Begins (setting file types functions least p limit base stack) label w₀ parameters from) (kind : Kind) → EntryIn (setting file types functions least p limit base stack) w′ (m .walk) kind (makes p begins .new)
             → WroteEntry file types w′ parameters (m .walk .cells) kind (m .walk .done) n l l′ r → (behind : ℕ) → r ≡ Written.Behind behind
-            → {v′ : Verdict} → WithEntry v kind v′ → Came p w′ (m .walk) l′ behind v′
+            → {v′ : Verdict} → WithEntry v kind v′ → Came (setting file types functions least p limit base stack) before w′ (m .walk) l′ behind v′
         wrote-one p begins kind entry told behind is with-entry =
-            let now = came p begins in
+            let now = came .of p begins in
             let made = makes p begins in
             let e = entry .0 in
             let new = entryFor kind (m .walk .done) e in
@@ -238,14 +241,16 @@ module _ (file types functions least : List ℕ) (label : ℕ) (w₀ : List ℕ)
               verdict-is = verdict-with (now .listed) new (now .verdict-is) with-entry;
             }
 
-        pub came-on : {behind : ℕ} → r ≡ Written.Behind behind → {v′ : Verdict} → VerdictAfter v (m .listing) v′ → CameTo w′ (m .walk) l′ behind v′
-        came-on {behind} is {v′} after p begins = by-listing (m .listing) refl wrote after
+        went-on :
+            {behind : ℕ} → r ≡ Written.Behind behind → {v′ : Verdict} → VerdictAfter v (m .listing) v′
+            → (p : Program) → Begins (setting file types functions least p limit base stack) label w₀ parameters from → Came (setting file types functions least p limit base stack) before w′ (m .walk) l′ behind v′
+        went-on {behind} is {v′} after p begins = by-listing (m .listing) refl wrote after
           where
             by-listing :
                 (y : PathEnd) → m .listing ≡ y → WroteAs file types w′ parameters (m .walk .cells) (m .walk .done) y l l′ n r → VerdictAfter v y v′
-                → Came p w′ (m .walk) l′ behind v′
+                → Came (setting file types functions least p limit base stack) before w′ (m .walk) l′ behind v′
             by-listing Unlisted same (place-is, list-same) v-same =
-                let now = came p begins in
+                let now = came .of p begins in
                 let made = makes p begins in
                 let none : made .new ≡ [] = lists p begins Unlisted same in
                 let here : behind ≡ n = placed (sym is ∙ place-is) in
@@ -265,12 +270,17 @@ module _ (file types functions least : List ℕ) (label : ℕ) (w₀ : List ℕ)
                 placed h = cc
             by-listing (Listed kind) same told with-entry = wrote-one p begins kind (lists p begins (Listed kind) same) told behind is with-entry
 
+        pub came-on :
+            {behind : ℕ} → r ≡ Written.Behind behind → {v′ : Verdict} → VerdictAfter v (m .listing) v′
+            → CameTo file types functions least label w₀ limit base stack parameters from before w′ (m .walk) l′ behind v′
+        came-on is after = record { of = went-on is after }
+
         -- an entry does not fit
         full-one :
-            (p : Program) (begins : Begins (at-program p) label w₀ parameters from) (kind : Kind) → EntryIn (at-program p) w′ (m .walk) kind (makes p begins .new)
-            → WroteEntry file types w′ parameters (m .walk .cells) kind (m .walk .done) n l l′ r → r ≡ Written.Full → FirstEntries (at-program p) before l′ w′ n
+            (p : Program) (begins : Begins (setting file types functions least p limit base stack) label w₀ parameters from) (kind : Kind) → EntryIn (setting file types functions least p limit base stack) w′ (m .walk) kind (makes p begins .new)
+            → WroteEntry file types w′ parameters (m .walk .cells) kind (m .walk .done) n l l′ r → r ≡ Written.Full → FirstEntries (setting file types functions least p limit base stack) before l′ w′ n
         full-one p begins kind entry told is =
-            let now = came p begins in
+            let now = came .of p begins in
             let made = makes p begins in
             let e = entry .0 in
             let new = entryFor kind (m .walk .done) e in
@@ -295,7 +305,7 @@ module _ (file types functions least : List ℕ) (label : ℕ) (w₀ : List ℕ)
         came-full is p begins = by-listing (m .listing) refl wrote
           where
             by-listing :
-                (y : PathEnd) → m .listing ≡ y → WroteAs file types w′ parameters (m .walk .cells) (m .walk .done) y l l′ n r → FirstEntries (at-program p) before l′ w′ n
+                (y : PathEnd) → m .listing ≡ y → WroteAs file types w′ parameters (m .walk .cells) (m .walk .done) y l l′ n r → FirstEntries (setting file types functions least p limit base stack) before l′ w′ n
             by-listing Unlisted same (place-is, list-same) = absurd (clash (cc (is, place-is)))
             by-listing (Listed kind) same told = full-one p begins kind (lists p begins (Listed kind) same) told is
 
@@ -306,8 +316,7 @@ CameFrom file types functions least label w₀ limit base stack parameters befor
     (from : Registers) → x₀ ≡ firstWalk parameters from → CameTo file types functions least label w₀ limit base stack parameters from before w x l n v
 
 pub came-begin :
-    (file types functions least : List ℕ) (label : ℕ) (w₀ : List ℕ) (limit base stack parameters : ℕ) (before : List ℕ) (x₀ : Walk)
+    {file types functions least : List ℕ} {label : ℕ} {w₀ : List ℕ} {limit base stack parameters : ℕ} {before : List ℕ} (x₀ : Walk)
     → CameFrom file types functions least label w₀ limit base stack parameters before x₀ w₀ x₀ before 0 Verdict.None
-came-begin file types functions least label w₀ limit base stack parameters before x₀ r is =
-    subst (λ y. CameTo file types functions least label w₀ limit base stack parameters r before w₀ y before 0 Verdict.None) (sym is)
-    (came-first file types functions least label w₀ limit base stack parameters r before)
+came-begin {file} {types} {functions} {least} {label} {w₀} {limit} {base} {stack} {parameters} {before} x₀ r is =
+    subst (λ y. CameTo file types functions least label w₀ limit base stack parameters r before w₀ y before 0 Verdict.None) (sym is) came-first

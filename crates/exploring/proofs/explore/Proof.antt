@@ -22,7 +22,7 @@ first-walk-requires c κs = search needs
 loop-holds : tie.Need-loop-holds Inv-loop μ-loop
 loop-holds c =
     let a = c .before .before .before .before .before .before .before .args in
-    (refl, refl, came-begin (a .file .now) (a .types .now) (a .functions .now) (a .least .of) (a .label) (a .work .now) (a .limit) (a .base) (a .stack) (a .parameters) (a .list .now) _)
+    (refl, refl, came-begin _)
 
 is-active-requires : tie.Need-is-active-requires Inv-loop μ-loop
 is-active-requires c κs = search needs
@@ -31,13 +31,13 @@ make-moves-requires : tie.Need-make-moves-requires Inv-loop μ-loop
 make-moves-requires c κs =
     let a = c .before .before .before .before .before .before .before .before .before .before .before .args in
     let l = c .before .before .before .loop in
-    ((came-standing (a .file .now) (a .types .now) (a .functions .now) (a .least .of) (a .label) (a .work .now) (a .limit) (a .base) (a .stack) (a .parameters) (a .from) (a .list .now) (l .work) (l .walk) (l .list) (l .at) (l .verdict) (l .inv .2 (a .from) (c .before .before .before .before .first-walk .ensures)) (c .before .before .before .before .before .before .before .before .before .before .before .pre .0), subst (GoesOn (l .walk)) (c .before .if1 .taken) (c .before .before .is-active .ensures)), c .before .before .before .before .before .before .before .before .before .before .before .pre .1)
+    ((came-standing (l .inv .2 (a .from) (c .before .before .before .before .first-walk .ensures)) (c .before .before .before .before .before .before .before .before .before .before .before .pre .0), subst (GoesOn (l .walk)) (c .before .if1 .taken) (c .before .before .is-active .ensures)), c .before .before .before .before .before .before .before .before .before .before .before .pre .1)
 
 write-listing-requires : tie.Need-write-listing-requires Inv-loop μ-loop
 write-listing-requires c κs =
     let a = c .before .before .before .before .before .before .before .before .before .before .before .before .before .before .before .before .before .args in
     let l = c .before .before .before .before .before .before .before .before .before .loop in
-    (move-listable (a .file .now) (a .types .now) (a .functions .now) (a .least .of) (a .label) (a .work .now) (a .limit) (a .base) (a .stack) (a .parameters) (a .from) (a .list .now) (l .work) (l .walk) (l .list) (l .at) (l .verdict) (l .inv .2 (a .from) (c .before .before .before .before .before .before .before .before .before .before .first-walk .ensures)) (c .before .before .before .before .before .make-moves .ensures) (l .inv .0) (c .before .before .before .before .before .before .before .before .before .before .before .before .before .before .before .before .before .pre .0), let room = same-room (a .file .now) (a .types .now) (a .functions .now) (a .least .of) (a .label) (a .work .now) (a .limit) (a .base) (a .stack) (a .parameters) (a .from) (a .list .now) (l .work) (l .walk) (l .list) (l .at) (l .verdict) (l .inv .2 (a .from) (c .before .before .before .before .before .before .before .before .before .before .first-walk .ensures)) (c .before .before .before .before .before .before .before .before .before .before .before .before .before .before .before .before .before .pre .0) in omega (arith, l .inv .1, room .1))
+    (move-listable (l .inv .2 (a .from) (c .before .before .before .before .before .before .before .before .before .before .first-walk .ensures)) (c .before .before .before .before .before .make-moves .ensures) (l .inv .0) (c .before .before .before .before .before .before .before .before .before .before .before .before .before .before .before .before .before .pre .0), let room = same-room (l .inv .2 (a .from) (c .before .before .before .before .before .before .before .before .before .before .first-walk .ensures)) (c .before .before .before .before .before .before .before .before .before .before .before .before .before .before .before .before .before .pre .0) in omega (arith, l .inv .1, room .1))
 
 enum-known-written : tie.Need-enum-known-written Inv-loop μ-loop
 enum-known-written c = search needs
@@ -55,7 +55,7 @@ returns : tie.Need-returns Inv-loop μ-loop
 returns c =
     let a = c .before .before .before .before .before .before .before .before .before .before .before .before .before .before .before .before .before .before .before .before .before .before .args in
     let l = c .before .before .before .before .before .before .before .before .before .before .before .before .before .before .loop in
-    came-full (a .file .now) (a .types .now) (a .functions .now) (a .least .of) (a .label) (a .work .now) (a .limit) (a .base) (a .stack) (a .parameters) (a .from) (a .list .now) (l .work) (l .walk) (l .list) (l .at) (l .verdict) (l .inv .2 (a .from) (c .before .before .before .before .before .before .before .before .before .before .before .before .before .before .before .first-walk .ensures)) (c .before .before .before .before .before .before .before .before .before .before .make-moves .ensures) (l .inv .0) _ _ (c .before .before .before .before .write-listing .ensures) (c .enum-told .given .1)
+    came-full (l .inv .2 (a .from) (c .before .before .before .before .before .before .before .before .before .before .before .before .before .before .before .first-walk .ensures)) (c .before .before .before .before .before .before .before .before .before .before .make-moves .ensures) (l .inv .0) _ _ (c .before .before .before .before .write-listing .ensures) (c .enum-told .given .1)
 
 verdict-after-requires : tie.Need-verdict-after-requires Inv-loop μ-loop
 verdict-after-requires c κs = search needs
@@ -64,13 +64,13 @@ loop-less : tie.Need-loop-less Inv-loop μ-loop
 loop-less c =
     let a = c .before .before .before .before .before .before .before .before .before .before .before .before .before .before .before .before .before .before .before .before .before .before .before .before .args in
     let l = c .before .before .before .before .before .before .before .before .before .before .before .before .before .before .before .before .loop in
-    move-lighter (a .file .now) (a .types .now) (a .functions .now) (a .least .of) (a .label) (a .work .now) (a .limit) (a .base) (a .stack) (a .parameters) (a .from) (a .list .now) (l .work) (l .walk) (l .list) (l .at) (l .verdict) (l .inv .2 (a .from) (c .before .before .before .before .before .before .before .before .before .before .before .before .before .before .before .before .before .first-walk .ensures)) (c .before .before .before .before .before .before .before .before .before .before .before .before .make-moves .ensures) (l .inv .0) (c .before .before .before .before .before .before .before .before .before .before .before .before .before .before .before .before .before .before .before .before .before .before .before .before .pre .0)
+    move-lighter (l .inv .2 (a .from) (c .before .before .before .before .before .before .before .before .before .before .before .before .before .before .before .before .before .first-walk .ensures)) (c .before .before .before .before .before .before .before .before .before .before .before .before .make-moves .ensures) (l .inv .0) (c .before .before .before .before .before .before .before .before .before .before .before .before .before .before .before .before .before .before .before .before .before .before .before .before .pre .0)
 
 loop-again : tie.Need-loop-again Inv-loop μ-loop
 loop-again c =
     let a = c .before .before .before .before .before .before .before .before .before .before .before .before .before .before .before .before .before .before .before .before .before .before .before .before .args in
     let l = c .before .before .before .before .before .before .before .before .before .before .before .before .before .before .before .before .loop in
-    (move-length (a .file .now) (a .types .now) (a .functions .now) (a .least .of) (a .label) (a .work .now) (a .limit) (a .base) (a .stack) (a .parameters) (a .from) (a .list .now) (l .work) (l .walk) (l .list) (l .at) (l .verdict) (l .inv .2 (a .from) (c .before .before .before .before .before .before .before .before .before .before .before .before .before .before .before .before .before .first-walk .ensures)) (c .before .before .before .before .before .before .before .before .before .before .before .before .make-moves .ensures) (l .inv .0) (c .before .before .before .before .before .before .before .before .before .before .before .before .before .before .before .before .before .before .before .before .before .before .before .before .pre .0), c .before .before .before .before .before .before .write-listing .kept .1 .1 .1 .1 .1 .1 .1 .0 ∙ l .inv .1, λ r is. came-on (a .file .now) (a .types .now) (a .functions .now) (a .least .of) (a .label) (a .work .now) (a .limit) (a .base) (a .stack) (a .parameters) r (a .list .now) (l .work) (l .walk) (l .list) (l .at) (l .verdict) (l .inv .2 r is) (c .before .before .before .before .before .before .before .before .before .before .before .before .make-moves .ensures) (l .inv .0) _ _ (c .before .before .before .before .before .before .write-listing .ensures) (c .before .before .written .given .1) (c .verdict-after .ensures))
+    (move-length (l .inv .2 (a .from) (c .before .before .before .before .before .before .before .before .before .before .before .before .before .before .before .before .before .first-walk .ensures)) (c .before .before .before .before .before .before .before .before .before .before .before .before .make-moves .ensures) (l .inv .0) (c .before .before .before .before .before .before .before .before .before .before .before .before .before .before .before .before .before .before .before .before .before .before .before .before .pre .0), c .before .before .before .before .before .before .write-listing .kept .1 .1 .1 .1 .1 .1 .1 .0 ∙ l .inv .1, λ r is. came-on (l .inv .2 r is) (c .before .before .before .before .before .before .before .before .before .before .before .before .make-moves .ensures) (l .inv .0) _ _ (c .before .before .before .before .before .before .write-listing .ensures) (c .before .before .written .given .1) (c .verdict-after .ensures))
 
 same-length-3 : tie.Need-same-length-3 Inv-loop μ-loop
 same-length-3 c = search needs
@@ -82,7 +82,7 @@ returns-2 : tie.Need-returns-2 Inv-loop μ-loop
 returns-2 c =
     let a = c .before .before .before .before .before .before .before .before .before .before .args in
     let l = c .before .before .loop in
-    came-over (a .file .now) (a .types .now) (a .functions .now) (a .least .of) (a .label) (a .work .now) (a .limit) (a .base) (a .stack) (a .parameters) (a .from) (a .list .now) (l .work) (l .walk) (l .list) (l .at) (l .verdict) (l .inv .2 (a .from) (c .before .before .before .first-walk .ensures)) (c .before .is-active .ensures) (c .if1 .left)
+    came-over (l .inv .2 (a .from) (c .before .before .before .first-walk .ensures)) (c .before .is-active .ensures) (c .if1 .left)
 
 pub explore-spec : {M : Type 1} → statement M
 explore-spec =
