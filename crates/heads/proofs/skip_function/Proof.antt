@@ -1,4 +1,4 @@
--- `records::skip_function` meets its contract: the code goes through `functionRecord` in its order, and its end is `bodyPart`.
+-- `heads::skip_function` meets its contract: the code goes through `functionRecord` in its order, and its end is `bodyPart`.
 -- Rests on Answers, Counts and Tails, and on the answers of crate marks.
 use mathlib.Core.Path.{_≡_, sym, _∙_}
 use native.Mathlib.Omega.{arith}
@@ -8,11 +8,11 @@ use Rattle.reach.specs.Limits.{parameterLimit}
 use Rattle.reach.specs.Reader.{got}
 use Rattle.reach.specs.RuleFile.{counted, functionRecord}
 use Rattle.marks.proofs.Answers.{byte-got, byte-short}
 use Rattle.records.proofs.Answers.{bytes-got, bytes-refused}
 use Rattle.records.proofs.Counts.{counted-got, counted-short, counted-over}
 use Rattle.records.proofs.Tails.{function-tail}
-use Rattle.records.proofs.skip_function.Statement.{statement}
-use Rattle.records.proofs.skip_function.Tie as tie
+use Rattle.heads.proofs.skip_function.Statement.{statement}
+use Rattle.heads.proofs.skip_function.Tie as tie
 
 returns : tie.Need-returns
 unfolding functionRecord

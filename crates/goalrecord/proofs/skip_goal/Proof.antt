@@ -1,12 +1,12 @@
--- `records::skip_goal` meets its contract: the code goes through `goalRecord` in its order, and its end is `limitsPart`.
+-- `goalrecord::skip_goal` meets its contract: the code goes through `goalRecord` in its order, and its end is `limitsPart`.
 -- Rests on Tails and on the answers of crate marks.
 use mathlib.Core.Path.{sym, _∙_}
 use borrow.Author.Needs.{needs}
 use Rattle.reach.specs.RuleFile.{goalRecord}
 use Rattle.marks.proofs.Answers.{byte-got, byte-short}
 use Rattle.records.proofs.Tails.{goal-tail}
-use Rattle.records.proofs.skip_goal.Statement.{statement}
-use Rattle.records.proofs.skip_goal.Tie as tie
+use Rattle.goalrecord.proofs.skip_goal.Statement.{statement}
+use Rattle.goalrecord.proofs.skip_goal.Tie as tie
 
 returns : tie.Need-returns
 unfolding goalRecord

@@ -1,4 +1,4 @@
--- `records::skip_limits` meets its contract: the code goes through `limitsPart` in its order.
+-- `goalrecord::skip_limits` meets its contract: the code goes through `limitsPart` in its order.
 -- Rests on Counts and on the answers of crate marks.
 use mathlib.Core.Path.{_≡_}
 use native.Mathlib.Omega.{arith}
@@ -8,11 +8,11 @@ use borrow.Author.Needs.{needs}
 use Rattle.reach.specs.Limits.{depthLimit, stepLimit}
 use Rattle.reach.specs.Reader.{got}
 use Rattle.reach.specs.RuleFile.{counted}
 use Rattle.records.specs.Steps.{limitsPart}
 use Rattle.marks.proofs.Answers.{byte-got, byte-short, word-got, word-short}
 use Rattle.records.proofs.Counts.{counted-got, counted-short, counted-under, counted-over}
-use Rattle.records.proofs.skip_limits.Statement.{statement}
-use Rattle.records.proofs.skip_limits.Tie as tie
+use Rattle.goalrecord.proofs.skip_limits.Statement.{statement}
+use Rattle.goalrecord.proofs.skip_limits.Tie as tie
 
 returns : tie.Need-returns
 unfolding limitsPart
