@@ -25,7 +25,8 @@ use Rattle.registers.specs.declared.Next.{Next}
 use Rattle.registers.specs.declared.Next.the-variants as Next
 use Rattle.registers.specs.Stepping.{Standing, StepMeans, Stepped}
 use Rattle.steps.specs.Running.{StepsTo, no-step, one-more}
-use Rattle.choices.specs.Choices.{Setting, Given, Path, ChoicesAt, Pushes}
+use Rattle.points.specs.Points.{Pushes}
+use Rattle.choices.specs.Choices.{Setting, Given, Path, ChoicesAt}
 use Rattle.choices.specs.Weights.{power, weight}
 use Rattle.choices.proofs.Keeping.{choices-kept, choices-more}
 use Rattle.choices.proofs.Pushing.{newChoice, choices-pushed}

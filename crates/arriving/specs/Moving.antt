@@ -1,6 +1,6 @@
 -- Where the search stands between two moves, in the words and in numbers, and what `make_moves` promises: it makes moves of reach's
 -- Moves, those of one path to its end.
--- Rests on reach's Moves, on choices' Choices, Weights and Returning, and on the types of src/lib.rt.
+-- Rests on reach's Moves, on points' Points, choices' Choices, Weights and Returning, and on the types of src/lib.rt.
 use Prim.Native.Nat.{ℕ, suc, _+_, _-_, _≤_, _<_}
 use mathlib.Core.Path.{_≡_}
 use mathlib.Core.Bool.{Bool, true, false}
@@ -19,7 +19,8 @@ use Rattle.reach.specs.Moves.{Choice, takeFork, moveFrom}
 use Rattle.machine.specs.Cells.{Cells}
 use Rattle.registers.specs.declared.Registers.{Registers}
 use Rattle.registers.specs.Stepping.{missingKind}
-use Rattle.choices.specs.Choices.{Setting, Given, choiceWord, reopened, Path, ChoicesAt}
+use Rattle.points.specs.Points.{choiceWord, reopened}
+use Rattle.choices.specs.Choices.{Setting, Given, Path, ChoicesAt}
 use Rattle.choices.specs.Weights.{power, weight}
 use Rattle.choices.specs.Returning.{setting, NextAt}
 use Rattle.arriving.specs.declared.Position.{Position}

@@ -3,7 +3,7 @@
 ghost use mathlib.Core.Path.{_≡_};
 ghost use Rattle.skipping.specs.Ends.{Ends};
 ghost use Rattle.arriving.specs.Moving.{endedWalk, SomeUnderWay, Arrives};
-use choices::push_choice;
+use points::push_choice;
 use reach::Kind;
 use reach::PathEnd;
 use registers::MISSING;

@@ -1,5 +1,5 @@
 -- The bodies of the functions: one body inside its own length, and all of them in file order. One law for each answer of the code.
--- Rests on Steps, and on the answers of crate records.
+-- Rests on expressions' Steps, and on the answers of crate records.
 use Prim.Native.Nat.{ℕ, suc, _+_, _≤_, _<_}
 use mathlib.Core.Path.{_≡_, refl, sym, _∙_, ap}
 use mathlib.Core.List.{List, [], _∷_, map}
@@ -24,8 +24,9 @@ use Rattle.lookups.specs.Heads.{headOf}
 use Rattle.lookups.proofs.Tables.{parameters-many}
 use Rattle.bodies.specs.declared.Judged.{Judged}
 use Rattle.bodies.specs.declared.Judged.the-variants as Judged
-use Rattle.bodies.specs.Check.{declared, expressionAt, bodyAt, Small, BodyThere, bodiesOf}
-use Rattle.bodies.proofs.Steps.{both-next}
+use Rattle.expressions.specs.Readers.{declared, expressionAt, Small}
+use Rattle.expressions.proofs.Steps.{both-next}
+use Rattle.bodies.specs.Check.{bodyAt, BodyThere, bodiesOf}
 
 -- where a body ends, and the expression in it
 abbrev endOf : Head → ℕ

@@ -1,6 +1,1 @@
-pub mod Tables
-pub mod Views
-pub mod Steps
-pub mod Expressions
-pub mod Sequences
 pub mod Functions

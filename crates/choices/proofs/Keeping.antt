@@ -1,5 +1,5 @@
 -- A path and the choice points behind it are kept while the words that they speak of are: the cells and records in use, and the choice points' own.
--- Rests on specs/Choices, on registers' Standing and machine's laws of cells.
+-- Rests on specs/Choices, on points' Points, on registers' Standing and machine's laws of cells.
 use Prim.Native.Nat.{ℕ, zero, suc, _+_, _*_, _≤_, _<_}
 use mathlib.Core.Path.{_≡_, refl, sym, _∙_, ap, subst}
 use mathlib.Core.List.{List, [], _∷_}
@@ -19,7 +19,8 @@ use Rattle.machine.proofs.Records.{Same}
 use Rattle.forks.specs.Untried.{untried}
 use Rattle.registers.specs.declared.Registers.{Registers}
 use Rattle.registers.proofs.Standing.{stands-below}
-use Rattle.choices.specs.Choices.{Setting, choiceWord, reopened, waitingAt, Path, ChoiceAt, ChoicesAt, no-choice, one-choice}
+use Rattle.points.specs.Points.{choiceWord, reopened}
+use Rattle.choices.specs.Choices.{Setting, waitingAt, Path, ChoiceAt, ChoicesAt, no-choice, one-choice}
 
 -- The words of the first cells, records and choice points are as before.
 pub record Kept (g : Setting) (w w′ : List ℕ) (cells records h : ℕ) : Type 0 where

@@ -1,4 +1,3 @@
-pub mod Writing
 pub mod Keeping
 pub mod Pushing
 pub mod Taking

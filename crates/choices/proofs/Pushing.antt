@@ -24,7 +24,8 @@ use Rattle.forks.proofs.Untried.{untried-all}
 use Rattle.registers.specs.declared.Registers.{Registers}
 use Rattle.registers.specs.Stepping.{declarationsOf, controlIn, partKind}
 use Rattle.registers.proofs.Waiting.{inspects}
-use Rattle.choices.specs.Choices.{Setting, Given, choiceWord, reopened, Path, ChoiceAt, ChoicesAt, one-choice, Pushes}
+use Rattle.points.specs.Points.{choiceWord, reopened, Pushes}
+use Rattle.choices.specs.Choices.{Setting, Given, Path, ChoiceAt, ChoicesAt, one-choice}
 use Rattle.choices.proofs.Keeping.{Kept, path-kept, reopened-length, reopened-other, reopened-head, reopened-first, choices-kept}
 
 -- the registers that look at cell x, with the frames of others

@@ -19,9 +19,10 @@ use Rattle.forks.specs.declared.Candidate.the-variants as Candidate
 use Rattle.forks.specs.Untried.{untried}
 use Rattle.forks.proofs.Untried.{untried-padded}
 use Rattle.choices.specs.declared.Return.the-variants as Return
-use Rattle.choices.specs.Choices.{Setting, Given, choiceWord, reopened, ChoiceAt, ChoicesAt, no-choice, one-choice}
+use Rattle.points.specs.Points.{choiceWord, reopened, NextForkAt}
+use Rattle.choices.specs.Choices.{Setting, Given, ChoiceAt, ChoicesAt, no-choice, one-choice}
 use Rattle.choices.specs.Weights.{weight}
-use Rattle.choices.specs.Returning.{NextForkAt, setting, NextAt, ReturnsTo, ReturnMeans, Returns, SomeChoices}
+use Rattle.choices.specs.Returning.{setting, NextAt, ReturnsTo, ReturnMeans, Returns, SomeChoices}
 use Rattle.choices.proofs.Keeping.{reopened-length, cell-below, cells-fit, cell-fits}
 use Rattle.choices.proofs.Weights.{weight-dropped}
 

@@ -29,7 +29,8 @@ use Rattle.machine.specs.Records.{OnlyTop}
 use Rattle.registers.specs.Stepping.{Follows}
 use Rattle.registers.proofs.Standing.{stands-after, stands-below}
 use Rattle.machine.proofs.Words.{records-same}
-use Rattle.choices.specs.Choices.{Setting, Given, choiceWord, reopened, waitingAt, Path, ChoiceAt, ChoicesAt, one-choice}
+use Rattle.points.specs.Points.{choiceWord, reopened}
+use Rattle.choices.specs.Choices.{Setting, Given, waitingAt, Path, ChoiceAt, ChoicesAt, one-choice}
 use Rattle.choices.proofs.Keeping.{Kept, path-kept, reopened-length, reopened-other, reopened-same, reopened-lengths, unbound, there, cell-below, cells-fit, choice-same, choices-kept}
 
 -- binding keeps the types of an input, whatever the number of fields is called

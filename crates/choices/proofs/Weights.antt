@@ -14,7 +14,8 @@ use Rattle.reach.specs.Eval.{State, Question, next, waits}
 use Rattle.reach.specs.Moves.{Choice}
 use Rattle.machine.specs.Cells.{cellWord, cellOf, Binds}
 use Rattle.registers.specs.declared.Registers.{Registers}
-use Rattle.choices.specs.Choices.{Setting, Given, choiceWord, reopened, Path, ChoiceAt, ChoicesAt, no-choice, one-choice, Pushes}
+use Rattle.points.specs.Points.{choiceWord, reopened, Pushes}
+use Rattle.choices.specs.Choices.{Setting, Given, Path, ChoiceAt, ChoicesAt, no-choice, one-choice}
 use Rattle.choices.specs.Weights.{power, weight}
 use Rattle.choices.proofs.Keeping.{Kept, word-kept, head-kept, kept-before}
 use Rattle.choices.proofs.Pushing as Pushing

@@ -1,12 +1,10 @@
--- The search in the lent words: the path under way, and the choice points behind it. A choice point keeps what a return needs: the cell that it
--- binds, that cell's word 1 before, the frame that waits, how many records and cells there were, and the steps done. Which constructor comes
--- next is the head of its cell. What a choice point stands for is said of the words in which its cell is open again: those are the words
--- to which a return leads.
--- Rests on machine's Layout and Cells, registers' Stepping, forks' Untried and reach's Moves and States.
+-- The search in the lent words: the path under way, and the choice points behind it. What a choice point stands for is said of the words in which its
+-- cell is open again: those are the words to which a return leads.
+-- Rests on points' Points, machine's Layout and Cells, registers' Stepping, forks' Untried and reach's Moves and States.
 use Prim.Native.Nat.{ℕ, suc, _+_, _*_, _-_, _≤_, _<_}
 use mathlib.Core.Path.{_≡_}
 use mathlib.Core.List.{List, [], _∷_}
-use lib.ListN.{length, getD, set}
+use lib.ListN.{length}
 use Rattle.reach.specs.Limits.{workWords}
 use Rattle.reach.specs.Syntax.{Program, sourceTypes}
 use Rattle.reach.specs.Parts.{Parts}
@@ -20,6 +18,7 @@ use Rattle.machine.specs.Layout.{recordsAt, choicesAt}
 use Rattle.machine.specs.Cells.{cellWord, cellOf, Cells}
 use Rattle.depths.specs.Table.{padded}
 use Rattle.forks.specs.Untried.{untried}
+use Rattle.points.specs.Points.{choiceWord, reopened}
 use Rattle.registers.specs.declared.Registers.{Registers}
 use Rattle.registers.specs.Stepping.{FileOf, StandsFor, partKind}
 
@@ -43,15 +42,6 @@ pub record Given (g : Setting) : Type 0 where
   pub limit-is : g .limit ≡ g .program .steps
   pub base-is : g .base ≡ recordsAt (g .limit)
   pub stack-is : g .stack ≡ choicesAt (g .limit)
-
--- word k of choice point h: 0 the cell, 1 its word 1 before it was bound, 2 the frame that waits, 3 the number of records, 4 that of cells,
--- 5 the steps done
-abbrev pub choiceWord : ℕ → List ℕ → ℕ → ℕ → ℕ
-choiceWord stack w h k = getD w (stack + 6 * h + k) 0
-
--- the words in which the cell of choice point h is open again
-unfoldable pub reopened : ℕ → List ℕ → ℕ → List ℕ
-reopened stack w h = set (set w (5 * choiceWord stack w h 0) 0) (5 * choiceWord stack w h 0 + 1) (choiceWord stack w h 1)
 
 -- the registers with which the case of choice point h waits
 abbrev pub waitingAt : ℕ → List ℕ → ℕ → Registers
@@ -94,14 +84,3 @@ pub data ChoicesAt (g : Setting) : List ℕ → ℕ → ℕ → ℕ → List Cho
   no-choice : {w : List ℕ} {cells records : ℕ} → AllOpen g w cells → ChoicesAt g w 0 cells records []
   one-choice : {w : List ℕ} {h cells records : ℕ} {c : Choice} {cs : List Choice} → ChoiceAt g w h c → choiceWord (g .stack) w h 4 ≤ cells → choiceWord (g .stack) w h 3 ≤ records
       → ChoicesAt g (reopened (g .stack) w h) h (choiceWord (g .stack) w h 4) (choiceWord (g .stack) w h 3) cs → ChoicesAt g w (suc h) cells records (c ∷ cs)
-
--- What is written to make choice point h: six words behind the others.
-pub record Pushes (stack : ℕ) (w w′ : List ℕ) (h x frame records cells done : ℕ) : Type 0 where
-  pub same-length : length w′ ≡ length w
-  pub word-0 : choiceWord stack w′ h 0 ≡ x
-  pub word-1 : choiceWord stack w′ h 1 ≡ cellWord w x 1
-  pub word-2 : choiceWord stack w′ h 2 ≡ frame
-  pub word-3 : choiceWord stack w′ h 3 ≡ records
-  pub word-4 : choiceWord stack w′ h 4 ≡ cells
-  pub word-5 : choiceWord stack w′ h 5 ≡ done
-  pub elsewhere : (i : ℕ) → (stack + 6 * h ≤ i → stack + 6 * (h + 1) ≤ i) → getD w′ i 0 ≡ getD w i 0

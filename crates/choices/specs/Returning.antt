@@ -11,22 +11,17 @@ use Rattle.reach.specs.Places.{bytesAt}
 use Rattle.reach.specs.Search.{Entry}
 use Rattle.reach.specs.Moves.{Choice, behind, takeFork, return}
 use Rattle.machine.specs.Cells.{cellWord}
-use Rattle.forks.specs.declared.Candidate.{Candidate}
-use Rattle.forks.specs.Untried.{untried, NextFork}
+use Rattle.forks.specs.Untried.{untried}
+use Rattle.points.specs.Points.{choiceWord, reopened}
 use Rattle.choices.specs.declared.Return.{Return}
 use Rattle.choices.specs.declared.Return.the-variants as Return
-use Rattle.choices.specs.Choices.{Setting, Given, choiceWord, reopened, ChoiceAt, ChoicesAt}
+use Rattle.choices.specs.Choices.{Setting, Given, ChoiceAt, ChoicesAt}
 use Rattle.choices.specs.Weights.{weight}
 
 -- the setting of a call
 abbrev pub setting : List ℕ → List ℕ → List ℕ → List ℕ → Program → ℕ → ℕ → ℕ → Setting
 setting file types functions least p limit base stack =
     record { file = file; types = types; functions = functions; least = least; program = p; limit = limit; base = base; stack = stack }
-
--- what the next constructor of the choice point at h is, by the type, the depth and the head that its cell has
-abbrev pub NextForkAt : (file types least : List ℕ) (stack : ℕ) (w : List ℕ) (h : ℕ) → Candidate → Type 0
-NextForkAt file types least stack w h a =
-    NextFork file types least (cellWord w (choiceWord stack w h 0) 2) (cellWord w (choiceWord stack w h 0) 3) (cellWord w (choiceWord stack w h 0) 0) a
 
 -- The choice point at h has constructor n next, whose k fields' types stand at place i of the file.
 pub record NextAt (g : Setting) (w : List ℕ) (c : Choice) (h n i k : ℕ) : Type 0 where

@@ -1,10 +1,10 @@
 -- A number that falls with every move of the search, read off the words alone: a path with n steps left weighs 258 to the power n, and a choice
 -- point one more than as many paths as constructors may be left to it (256 less the head of its cell), each with one step less.
--- Rests on Choices.
+-- Rests on points' Points.
 use Prim.Native.Nat.{ℕ, zero, suc, _+_, _*_, _-_}
 use mathlib.Core.List.{List}
 use Rattle.machine.specs.Cells.{cellWord}
-use Rattle.choices.specs.Choices.{choiceWord, reopened}
+use Rattle.points.specs.Points.{choiceWord, reopened}
 
 -- the weight of a path with n steps left
 unfoldable pub power : ℕ → ℕ

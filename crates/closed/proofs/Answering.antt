@@ -33,7 +33,7 @@ use Rattle.machine.proofs.Cells.{kept-cells}
 use Rattle.loaded.proofs.Files.{given-file}
 use Rattle.loaded.proofs.Loaded.{loaded-accepted}
 use Rattle.running.specs.Looked.{LookedAt}
-use Rattle.running.specs.Running.{GivenInput}
+use Rattle.binding.specs.Underway.{GivenInput}
 use Rattle.closed.specs.Answering.{Leaves, answerOf, Promised, HasRun}
 use Rattle.closed.specs.Evaluating.{Runnable, RunsAs}
 use Rattle.closed.specs.declared.Answer.{Answer}

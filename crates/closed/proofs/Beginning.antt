@@ -1,5 +1,5 @@
 -- The run begins: in the words that `open_input` and then `note_values` leave, the run of the program on the closed input is under way with no step
--- taken. Rests on running's Running, on loaded's Beginning, on values' Binding and on registers' Standing.
+-- taken. Rests on binding's Underway, on loaded's Beginning, on values' Binding and on registers' Standing.
 use Prim.Native.Nat.{ℕ}
 use mathlib.Core.Path.{_≡_, sym, _∙_, ap, subst}
 use mathlib.Core.List.{List, map}
@@ -30,7 +30,7 @@ use Rattle.registers.proofs.Standing.{stands-below}
 use Rattle.loaded.specs.Beginning.{Opened, startRegisters}
 use Rattle.loaded.proofs.Beginning as Begin
 use Rattle.running.specs.Looked.{LookedAt}
-use Rattle.running.specs.Running.{GivenInput, Underway}
+use Rattle.binding.specs.Underway.{GivenInput, Underway}
 
 module _
     {file types functions input : List ℕ} {goal : Goal} {p : Program} {j : Parts} (given : GivenInput file types functions input p j) (asks : Asks goal p)

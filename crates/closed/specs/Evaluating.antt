@@ -1,5 +1,5 @@
 -- What the run of a checked file's rule starts from, and what it comes to.
--- Rests on reach's Eval and Answers, on goal's Goals, and on running's Running and Looked.
+-- Rests on reach's Eval and Answers, on goal's Goals, on binding's Underway and running's Looked.
 use Prim.Native.Nat.{ℕ}
 use mathlib.Core.Path.{_≡_}
 use mathlib.Core.List.{List}
@@ -13,7 +13,7 @@ use Rattle.reach.specs.Answers.{outcomeOf}
 use Rattle.goal.specs.declared.Goal.{Goal}
 use Rattle.goal.specs.Goals.{Asks}
 use Rattle.running.specs.Looked.{LookedAt}
-use Rattle.running.specs.Running.{GivenInput}
+use Rattle.binding.specs.Underway.{GivenInput}
 
 -- the closed run of a program on an input, which ends in words w′
 abbrev pub RunsAs : List ℕ → List ℕ → List ℕ → List ℕ → Goal → List ℕ → Outcome → Type 0

@@ -18,11 +18,12 @@ use Rattle.reach.specs.Base.{pick, Each}
 use Rattle.reach.specs.Limits.{fileLimit, typeLimit, functionLimit, parameterLimit, bodyLimit, viewLimit, nestingLimit}
 use Rattle.reach.specs.Syntax.{Expr, variable, call, construct, case, letIn, target, Exprs, []ₑ, _∷ₑ_, Alternatives, no-more, absent, present, count, Function, Program, fieldTypes, functionAt}
 use Rattle.reach.specs.Reader.{Got, got, refused, onGot, Reader, refuse, demand, byte, word, times, passed, atEnd}
-use Rattle.reach.specs.RuleFile.{Mark, TY, FN, NA, GO, other, onMark, mark, counted, typeRecord, Head, functionRecord, goalRecord, moreTypes, moreFunctions, naming, Declarations, Outline, outline, Below, operandsOf, alternatives, variableExpr, callOf, callExpr, constructOf, constructExpr, caseOf, caseExpr, letExpr, targetExpr, expressionBy, expression, bodyOf, functionsOf, numbersExist, programOf, noEmptyType, deepEnough, wellSpelled, sizeInLimit, ruleFile}
+use Rattle.reach.specs.RuleFile.{Mark, TY, inTurn, mark, counted, typeRecord, Head, functionRecord, goalRecord, moreTypes, moreFunctions, naming, Declarations, Outline, outline, Below, operandsOf, alternatives, variableExpr, callOf, callExpr, constructOf, constructExpr, caseOf, caseExpr, letExpr, targetExpr, expressionBy, expression, bodyOf, functionsOf, numbersExist, programOf, noEmptyType, deepEnough, wellSpelled, sizeInLimit, ruleFile}
 use Rattle.reach.specs.Types.{leastDepths}
 use Rattle.reach.specs.Answers.{accepted, turnedBack, check}
 use Rattle.reach.specs.Encoding.{encode, encodeAll, encodeAlternatives, ByteAt, BytesAt, Stands, StandsAll, StandsAlternatives, countAlternatives, Arity, ArityAll, ArityAlternatives, nesting, nestingAll, nestingAlternatives, Skip, skippedAll, skippedAlternatives, skippedCall, skippedConstruct, skippedCase, skippedBy, skipped}
 use Rattle.reach.proofs.Base.{clash}
+use Rattle.reach.proofs.InTurn.{in-turn}
 use Rattle.reach.proofs.Limits.{IfFound, if-found-then}
 use Rattle.reach.proofs.Reading.{Reads, reads-none, reads-then, byte-finds}
 
@@ -322,13 +323,10 @@ any-then : {A B : Type 0} (Q : B → ℕ → Type 0) (f : A → ℕ → Got B) (
 any-then Q f (got a next) second = second a next
 any-then Q f (refused why) second = tt
 
--- what is found at each mark
-mark-finds : {A : Type 0} (P : A → ℕ → Type 0) (s : List ℕ) (i : ℕ) (ty fn na go : Reader A) (m : Mark) → IfFound P (ty s i) → IfFound P (fn s i) → IfFound P (na s i) → IfFound P (go s i) → IfFound P (onMark ty fn na go (refuse UnexpectedMark) m s i)
-mark-finds P s i ty fn na go TY a b c d = a
-mark-finds P s i ty fn na go FN a b c d = b
-mark-finds P s i ty fn na go NA a b c d = c
-mark-finds P s i ty fn na go GO a b c d = d
-mark-finds P s i ty fn na go other a b c d = tt
+-- what is found at each mark that may come
+turn-finds : {A : Type 0} (P : A → ℕ → Type 0) (s : List ℕ) (i : ℕ) (turns : List (Mark × Reader A)) (m : Mark)
+    → Each (λ turn. IfFound P ((turn .1) s i)) turns → IfFound P (inTurn turns m s i)
+turn-finds P s i turns m all = in-turn (λ r. IfFound P (r s i)) turns tt all m
 
 module _ (s : List ℕ) where
   -- the body that a head tells of is inside the file
@@ -355,19 +353,20 @@ module _ (s : List ℕ) where
 
   heads-inside : (n i : ℕ) → IfFound (λ hs next. Each BodyInside hs) (moreFunctions n s i)
   unfolding moreFunctions
-  heads-inside zero i = any-then _ _ (mark s i) (λ m k. mark-finds _ s k _ _ _ _ m tt tt tt tt)
+  heads-inside zero i = any-then _ _ (mark s i) (λ m k. turn-finds _ s k _ m (tt, (tt, (tt, tt))))
   heads-inside (suc n) i =
       any-then _ _ (mark s i)
-      (λ m k. mark-finds _ s k _ _ _ _ m tt
-      (if-found-then _ _ _ (functionRecord s k) (head-inside k)
-      (λ h l first. if-found-then _ _ _ (moreFunctions n s l) (heads-inside n l) (λ hs next others. (first, others))))
-      tt tt)
+      (λ m k. turn-finds _ s k _ m (
+        if-found-then _ _ _ (functionRecord s k) (head-inside k)
+            (λ h l first. if-found-then _ _ _ (moreFunctions n s l) (heads-inside n l) (λ hs next others. (first, others))),
+        (tt, (tt, tt)),
+      ))
 
   pub outline-inside : (i : ℕ) → IfFound (λ o next. Each BodyInside (o .declared .heads)) (outline s i)
   unfolding outline
   outline-inside i =
       any-then _ _ (mark s i)
-      (λ m j. any-then _ _ (onMark typeRecord (refuse UnexpectedMark) (refuse UnexpectedMark) (refuse UnexpectedMark) (refuse UnexpectedMark) m s j)
+      (λ m j. any-then _ _ (inTurn ((TY, typeRecord) ∷ []) m s j)
       (λ t k. any-then _ _ (moreTypes (pred typeLimit) s k)
       (λ ts l. if-found-then _ _ _ (functionRecord s l) (head-inside l)
       (λ h p first. if-found-then _ _ _ (moreFunctions (pred functionLimit) s p) (heads-inside (pred functionLimit) p)

@@ -1,5 +1,5 @@
 -- The walk from entry to entry, for the proof of `span_of`: what one size that was found, or not found, says of the whole.
--- Rests on ReadBack of crate reach, for the definition's own steps.
+-- Rests on sizes' Standing and on ReadBack of crate reach, for the definition's own steps.
 use Prim.Native.Nat.{ℕ, _+_, _-_, _≤_, _<_}
 use mathlib.Core.Path.{_≡_, sym, ap, _∙_}
 use mathlib.Core.List.{List}
@@ -7,12 +7,14 @@ use mathlib.Core.Option.{Option, none, some}
 use native.Mathlib.Omega.{arith}
 use lib.ListN.{length, take, drop, length-take}
 use Rattle.reach.specs.Lists.{entrySize, entrySpan, entryPart, roomOf}
-use Rattle.reach.proofs.ReadBack.{size-inside, span-no-entry, span-here, span-next, span-inside, span-counted, part-counted}
-use Rattle.entries.specs.declared.Size.{Size}
-use Rattle.entries.specs.declared.Size.the-variants.{Bytes, NoEntry}
+use Rattle.reach.proofs.ReadBack.{span-no-entry, span-here, span-next, span-inside, span-counted, part-counted}
+use Rattle.sizes.specs.declared.Size.{Size}
+use Rattle.sizes.specs.declared.Size.the-variants.{Bytes, NoEntry}
+use Rattle.sizes.specs.Sizes.{sizeOf}
+use Rattle.sizes.proofs.Standing.{stands, stands-inside}
 use Rattle.entries.specs.declared.Span.{Span}
 use Rattle.entries.specs.declared.Span.the-variants as span
-use Rattle.entries.specs.Spans.{sizeOf, spanOf, partPlace, bytesOn}
+use Rattle.entries.specs.Spans.{spanOf, partPlace, bytesOn}
 
 -- what is left of the walk, so many entries on from a place inside the list, gives what the whole walk gives
 pub record Walked (l : List ℕ) (number at more : ℕ) : Type 0 where
@@ -20,23 +22,16 @@ pub record Walked (l : List ℕ) (number at more : ℕ) : Type 0 where
   pub inside : at ≤ length l
 
 module _ (l : List ℕ) (at : ℕ) {r : Size} (sized : sizeOf r ≡ entrySize l at) where
-  -- the size that was found is the definition's, and the entry ends inside the list
-  pub stands : {n : ℕ} → r ≡ Bytes n → entrySize l at ≡ some n
-  stands e = sym sized ∙ ap sizeOf e
-
-  pub stands-inside : {n : ℕ} → r ≡ Bytes n → at + n ≤ length l
-  stands-inside {n} e = size-inside l at n (stands e)
-
   -- one entry is passed
   pub walked-on : {number more n : ℕ} → Walked l number at more → 0 < more → r ≡ Bytes n → Walked l number (at + n) (more - 1)
   walked-on {number} {more} {n} w left e =
-      record { same = sym (span-next l more at n left (stands e)) ∙ w .same; inside = stands-inside e }
+      record { same = sym (span-next l more at n left (stands l at sized e)) ∙ w .same; inside = stands-inside l at sized e }
 
   -- the last one is found
   pub walked-to : {number more n : ℕ} → Walked l number at more → more ≤ 0 → r ≡ Bytes n → some (at, n) ≡ entrySpan l number 0
   walked-to {number} {more} {n} w done e =
       let z : more ≡ 0 = omega arith in
-      sym (span-here l at n (stands e)) ∙ (rw z at (w .same))
+      sym (span-here l at n (stands l at sized e)) ∙ (rw z at (w .same))
 
   -- none stands there, so the whole walk finds none
   pub walked-out : {number more : ℕ} → Walked l number at more → r ≡ NoEntry → none ≡ entrySpan l number 0

@@ -1,26 +1,13 @@
--- The kind of an entry, its size and its span, as the enums of src/lib.rt show them, and the place of the part that is handed back.
+-- The span of an entry, as the enum of src/lib.rt shows it, and the place of the part that is handed back.
 -- Rests on reach's Lists.
 use Prim.Native.Nat.{ℕ, _+_}
 use mathlib.Core.List.{List}
 use mathlib.Core.Option.{Option, none, some}
 use lib.ListN.{length, take}
-use Rattle.reach.specs.declared.Kind.{Kind}
 use Rattle.reach.specs.Limits.{listLimit}
 use Rattle.reach.specs.Lists.{roomOf, onFound, entrySpan}
-use Rattle.entries.specs.declared.Found.{Found}
-use Rattle.entries.specs.declared.Found.the-variants as found
-use Rattle.entries.specs.declared.Size.{Size}
-use Rattle.entries.specs.declared.Size.the-variants.{Bytes, NoEntry}
 use Rattle.entries.specs.declared.Span.{Span}
 use Rattle.entries.specs.declared.Span.the-variants as span
-
-abbrev pub foundOf : Found → Option Kind
-foundOf (found.Known k) = some k
-foundOf found.Unknown = none
-
-abbrev pub sizeOf : Size → Option ℕ
-sizeOf (Bytes n) = some n
-sizeOf NoEntry = none
 
 abbrev pub spanOf : Span → Option (ℕ × ℕ)
 spanOf (span.At i n) = some (i, n)

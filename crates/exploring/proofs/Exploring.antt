@@ -36,7 +36,7 @@ use Rattle.arriving.specs.Moving.{positionOf, PositionAt, StandsAs, EntryIn, Li
 use Rattle.listing.specs.declared.Written.{Written}
 use Rattle.listing.specs.declared.Written.the-variants as Written
 use Rattle.listing.specs.Entry.{InputIn, Listable, entryFor, WroteFor, WroteEntry}
-use Rattle.listing.proofs.Bytes.{entry-length}
+use Rattle.headers.proofs.Bytes.{entry-length}
 use Rattle.exploring.specs.declared.Answer.the-variants as Answer
 use Rattle.verdicts.specs.Verdicts.{WithEntry, VerdictAfter}
 use Rattle.exploring.specs.Exploring.{firstWalk, GoesOn, ListableAs, WroteAs, FirstEntries, Begins, SomeBegins, Explores}

@@ -1,5 +1,5 @@
 -- What the functions of the loop promise: an entry listed at the end of a path, and the whole list of a program.
--- Rests on reach's Search and Lists, on choices' Choices, moves' Moving, listing's Entry and on the enum of src/lib.rt.
+-- Rests on reach's Search and Lists, on choices' Choices, arriving's Moving, listing's Entry and on the enum of src/lib.rt.
 use Prim.Native.Nat.{ℕ, _+_, _≤_, _<_}
 use mathlib.Core.Path.{_≡_}
 use mathlib.Core.Bool.{Bool, true, false}

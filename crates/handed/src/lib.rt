@@ -5,12 +5,12 @@ ghost use Prim.Native.Nat.{_+_};
 ghost use Rattle.reach.specs.Lists.{entrySize};
 ghost use Rattle.handed.specs.Fits.{entryAt, Told, FitsList};
 use depths::Depths;
-use entries::Size;
-use entries::size_at;
-use entries::word_at;
 use fitting::slots;
 use lookups::head_of;
 use rows::Measured;
+use sizes::Size;
+use sizes::size_at;
+use sizes::word_at;
 
 // The entry of n bytes at a place has at most so many steps, and a value for each parameter of the source, at most so deep.
 fn entry_fits<'a>(

@@ -1,5 +1,5 @@
 -- From the words that stand for the input to the row of its parameters, and what was written for it.
--- Rests on Bytes, on specs/Entry and specs/Rows, on machine's Cells, on reach's Slots and on the lookups' Tables.
+-- Rests on headers' Bytes, on specs/Entry and specs/Rows, on machine's Cells, on reach's Slots and on the lookups' Tables.
 use Prim.Native.Nat.{ℕ, suc, _+_, _-_, _≤_, _<_}
 use mathlib.Core.Path.{_≡_, refl, sym, _∙_}
 use mathlib.Core.List.{List, [], _∷_, map}
@@ -20,7 +20,7 @@ use Rattle.machine.specs.Cells.{cellWord, cellFrom}
 use Rattle.listing.specs.declared.Written.the-variants as Written
 use Rattle.listing.specs.Rows.{RowAt, RowFits, WroteRow}
 use Rattle.listing.specs.Entry.{InputIn, Listable, entryFor, WroteEntry}
-use Rattle.listing.proofs.Bytes.{header, entry-stored}
+use Rattle.headers.proofs.Bytes.{header, entry-stored}
 
 module _ (file types : List ℕ) (bytes : (i : ℕ) → getD file i 0 ≤ 255) where
   -- a constructor's number is a byte

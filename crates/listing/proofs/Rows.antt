@@ -1,5 +1,5 @@
 -- The walk over a row of cells: what an open part and a bound part leave to write, and that what was written of the parts is the whole row.
--- Rests on Bytes, specs/Rows and lookups' Fields.
+-- Rests on headers' Bytes, specs/Rows and lookups' Fields.
 use Prim.Native.Nat.{ℕ, _+_, _-_, _≤_, _<_}
 use mathlib.Core.Path.{_≡_, refl, sym, _∙_, ap}
 use mathlib.Core.List.{List, [], _∷_, _++_}
@@ -11,7 +11,7 @@ use Rattle.reach.specs.Parts.{Parts, end, opened, bound, prefix}
 use Rattle.machine.specs.Cells.{cellWord}
 use Rattle.lookups.specs.Fields.{FieldCount}
 use Rattle.listing.specs.Rows.{RowAt, RowFits, WroteRow}
-use Rattle.listing.proofs.Bytes.{stored-behind, stored-one}
+use Rattle.headers.proofs.Bytes.{stored-behind, stored-one}
 
 -- A row that begins with an open part, and what is behind it.
 record OpenRow (file types w : List ℕ) (b k : ℕ) (row : Parts) : Type 0 where

@@ -1,13 +1,10 @@
 // One entry of the search's list, written from the input's cells in the lent words, only where it fits whole. Rests on crates
-// reach, lookups and machine.
-ghost use mathlib.Core.Path.{_≡_};
-ghost use mathlib.Core.List.{[], _∷_, _++_};
-ghost use Prim.Native.Nat.{_+_, _≤_, _<_};
-ghost use lib.ListN.{length, getD};
-ghost use lib.Seq.{sets};
-ghost use Rattle.reach.specs.Lists.{wordBytes, kindBytes};
+// reach, lookups, machine and headers.
+ghost use Prim.Native.Nat.{_≤_};
+ghost use lib.ListN.{length};
 ghost use Rattle.listing.specs.Rows.{RowFits, WroteRow};
 ghost use Rattle.listing.specs.Entry.{Listable, WroteEntry};
+use headers::put_header;
 use lookups::field_count;
 use machine::cell_word;
 use reach::Kind;
@@ -19,46 +16,6 @@ const OPEN: u8 = 0xFF;
 pub enum Written {
     Behind(usize),
     Full,
-}
-
-// Two bytes, as a byte string has them.
-fn put_two(list: &mut [u8], at: usize, two: &[u8; 2])
-    requires { ⌜ at + 2 ≤ length (now list) ⌝ }
-    ensures { λ _. ⌜ now (list .exit) ≡ sets (now (list .entry)) at (getD (now (two .entry)) 0 0 ∷ getD (now (two .entry)) 1 0 ∷ []) ⌝ }
-{
-    list[at] = two[0];
-    list[at + 1] = two[1];
-}
-
-// The mark of an entry of this kind.
-fn put_mark(list: &mut [u8], at: usize, kind: Kind)
-    requires { ⌜ at + 2 ≤ length (now list) ⌝ }
-    ensures { λ _. ⌜ now (list .exit) ≡ sets (now (list .entry)) at (kindBytes kind) ⌝ }
-{
-    match kind {
-        Kind::RE => put_two(list, at, b"RE"),
-        Kind::UN => put_two(list, at, b"UN"),
-        Kind::MI => put_two(list, at, b"MI"),
-    }
-}
-
-// A two-byte number, the low byte first.
-fn put_word(list: &mut [u8], at: usize, n: usize)
-    requires { ⌜ at + 2 ≤ length (now list) ⌝ }
-    ensures { λ _. ⌜ now (list .exit) ≡ sets (now (list .entry)) at (wordBytes n) ⌝ }
-{
-    list[at] = (n % 256) as u8;
-    list[at + 1] = (n / 256 % 256) as u8;
-}
-
-// The mark, the steps, and how many bytes follow.
-fn put_header(list: &mut [u8], at: usize, kind: Kind, steps: usize, bytes: usize)
-    requires { ⌜ at + 6 ≤ length (now list) ⌝ }
-    ensures { λ _. ⌜ now (list .exit) ≡ sets (now (list .entry)) at (kindBytes kind ++ (wordBytes steps ++ wordBytes bytes)) ⌝ }
-{
-    put_mark(list, at, kind);
-    put_word(list, at + 2, steps);
-    put_word(list, at + 4, bytes);
 }
 
 // The k parts in the cells from `first` on, in prefix form; the place behind them. No more than `fuel` bytes are written.

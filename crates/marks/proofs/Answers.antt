@@ -13,7 +13,7 @@ use Rattle.reach.specs.Reader.{Got, got, refused, onGot, byte, word}
 use Rattle.reach.specs.RuleFile as RuleFile
 use Rattle.reach.specs.RuleFile.{TY, FN, NA, GO, other, markOf, mark}
 use Rattle.reach.proofs.Base.{clash}
-use Rattle.marks.specs.Found.{takenOf, wordOf, markNamed, markedOf}
+use Rattle.marks.specs.Found.{takenOf, wordOf, markNamed, markRead, markedOf}
 use Rattle.marks.specs.declared.Taken.{Taken}
 use Rattle.marks.specs.declared.TakenWord.{TakenWord}
 use Rattle.marks.specs.declared.Mark.{Mark}
@@ -61,14 +61,7 @@ mark-plain : (s : List ℕ) (at : ℕ) → Plain (mark s at)
 unfolding mark
 mark-plain s at = two-plain markOf s at
 
--- the mark that an answer names
-abbrev pub markRead : Mark → RuleFile.Mark
-markRead Mark.Type = TY
-markRead Mark.Function = FN
-markRead Mark.Name = NA
-markRead Mark.Goal = GO
-markRead Mark.Other = other
-
+-- the mark that was read, named and read off again
 read-named : (m : RuleFile.Mark) → markRead (markNamed m) ≡ m
 read-named TY = refl
 read-named FN = refl
@@ -115,8 +108,8 @@ module _ (s : List ℕ) (at : ℕ) where
   pub word-short : {r : TakenWord} → r ≡ wordOf (word s at) → r ≡ TakenWord.Short → word s at ≡ refused Truncated
   word-short told found = word-cases-short (word s at) (word-plain s at) (sym told ∙ found)
 
-  pub mark-got : {m n : Mark} {next : ℕ} {r : Marked} → r ≡ markedOf (mark s at) → r ≡ Marked.Mark m next → m ≡ n → mark s at ≡ got (markRead n) next
-  mark-got {n = n} {next = next} told found is = mark-cases (mark s at) {m = n} {next = next} (cc)
+  pub mark-got : {m : Mark} {next : ℕ} {r : Marked} → r ≡ markedOf (mark s at) → r ≡ Marked.Mark m next → mark s at ≡ got (markRead m) next
+  mark-got told found = mark-cases (mark s at) (sym told ∙ found)
 
   pub mark-short : {r : Marked} → r ≡ markedOf (mark s at) → r ≡ Marked.Short → mark s at ≡ refused Truncated
   mark-short told found = mark-cases-short (mark s at) (mark-plain s at) (sym told ∙ found)

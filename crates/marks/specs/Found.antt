@@ -25,6 +25,14 @@ markNamed NA = Mark.Name
 markNamed GO = Mark.Goal
 markNamed other = Mark.Other
 
+-- the mark that an answer names
+abbrev pub markRead : Mark → RuleFile.Mark
+markRead Mark.Type = TY
+markRead Mark.Function = FN
+markRead Mark.Name = NA
+markRead Mark.Goal = GO
+markRead Mark.Other = other
+
 abbrev pub markedOf : Got RuleFile.Mark → Marked
 markedOf (got m next) = Marked.Mark (markNamed m) next
 markedOf (refused why) = Marked.Short

@@ -5,8 +5,8 @@ ghost use mathlib.Core.Bool.{_&&_};
 ghost use lib.Dec.{eqb};
 ghost use lib.ListN.{getD};
 ghost use Rattle.reach.specs.Reader.{byte, word};
-ghost use Rattle.reach.specs.RuleFile.{mark};
-ghost use Rattle.marks.specs.Found.{takenOf, wordOf, markNamed, markedOf};
+ghost use Rattle.reach.specs.RuleFile.{mark, markNumber, sameMark};
+ghost use Rattle.marks.specs.Found.{takenOf, wordOf, markNamed, markRead, markedOf};
 
 // A byte and the place behind it, or none is left.
 pub enum Taken {
@@ -94,6 +94,26 @@ fn mark_of(a: u8, b: u8) -> Mark
         return Mark::Goal;
     }
     Mark::Other
+}
+
+// The number of a mark, by which marks are told apart.
+fn number_of(met: Mark) -> u8
+    ensures { λ r. ⌜ r ≡ markNumber (markRead met) ⌝ }
+{
+    match met {
+        Mark::Type => 0,
+        Mark::Function => 1,
+        Mark::Name => 2,
+        Mark::Goal => 3,
+        Mark::Other => 4,
+    }
+}
+
+// The mark that was met is this one.
+pub fn same_mark(met: Mark, this: Mark) -> bool
+    ensures { λ r. ⌜ r ≡ sameMark (markRead this) (markRead met) ⌝ }
+{
+    number_of(this) == number_of(met)
 }
 
 pub fn take_mark(s: &[u8], at: usize) -> Marked

@@ -29,7 +29,8 @@ use Rattle.registers.specs.declared.Next.the-variants as Next
 use Rattle.registers.specs.Stepping.{partKind, StepMeans, Stepped}
 use Rattle.choosing.specs.Entering.{AtBoundPart}
 use Rattle.registers.proofs.Waiting.{waits-control}
-use Rattle.choices.specs.Choices.{Setting, Given, choiceWord, reopened, waitingAt, Path, ChoicesAt}
+use Rattle.points.specs.Points.{choiceWord, reopened}
+use Rattle.choices.specs.Choices.{Setting, Given, waitingAt, Path, ChoicesAt}
 use Rattle.choices.specs.Weights.{power, weight}
 use Rattle.choices.specs.Returning.{setting}
 use Rattle.choices.proofs.Keeping.{reopened-other, there, cell-below, choices-kept, choices-more}

@@ -13,8 +13,6 @@ ghost use Rattle.naming.specs.Letters.{letters, Spelt};
 ghost use Rattle.rulefile.specs.Loading.{Loads};
 ghost use Rattle.namelines.specs.Rows.{rowNames, rowRead, typesAsked, Readable};
 ghost use Rattle.namelines.specs.Lists.{listNames, Listed, FitsFile, PutsNames, WritesNames};
-use entries::Size;
-use entries::size_at;
 use fitting::slots;
 use goal::Named;
 use lines::put_refusal;
@@ -25,6 +23,8 @@ use reach::Refusal;
 use rows::Measured;
 use rulefile::Loaded;
 use rulefile::load;
+use sizes::Size;
+use sizes::size_at;
 
 // What is asked of the parameters: where their types stand in the file, how many there are, how deep they may be, and the type whose values are names.
 pub struct Asked {

@@ -2,13 +2,15 @@
 -- Rests on Tables, on reach's RuleFile and Places, and on the laws of crate records about steps.
 use Prim.Native.Nat.{ℕ}
 use mathlib.Core.Path.{_≡_, refl, sym, _∙_}
-use mathlib.Core.List.{List}
+use mathlib.Core.Bool.{Bool, true, false}
+use mathlib.Core.List.{List, [], _∷_}
 use mathlib.Core.Option.{Option, some}
 use Rattle.reach.specs.declared.Refusal.{Refusal}
 use Rattle.reach.specs.declared.Refusal.the-variants.{UnexpectedMark, TrailingBytes}
+use Rattle.reach.specs.Base.{pick}
 use Rattle.reach.specs.Syntax.{Types}
 use Rattle.reach.specs.Reader.{Got, got, refused, onGot, Reader, _>>=_, _>>_, give, refuse, byte, atEnd}
-use Rattle.reach.specs.RuleFile.{Mark, TY, FN, NA, GO, other, onMark, mark, typeRecord, moreTypes, Head, functionRecord, moreFunctions, goalMark, nameRecord, naming, Goal, goalRecord, Outline, outline}
+use Rattle.reach.specs.RuleFile.{Mark, TY, sameMark, inTurn, mark, typeRecord, moreTypes, Head, functionRecord, moreFunctions, goalMark, nameRecord, naming, Goal, goalRecord, Outline, outline}
 use Rattle.reach.specs.Places.{goalAt}
 use Rattle.reach.proofs.Partial.{then-same}
 use Rattle.reach.proofs.Places.{goal-read}
@@ -28,13 +30,15 @@ regroup (refused why) f g h alike = refl
 -- the first record stands behind its mark
 first-marked : {A C : Type 0} (one : Reader A) (f : A → ℕ → Got C) (g : Unit {0} → ℕ → Got C) (s : List ℕ) (i : ℕ)
     → onGot {B = Got C} f (λ why. refused why) (one s i) ≡ g tt i
-    → (m : Mark) → onGot {B = Got C} f (λ why. refused why) (onMark one (refuse UnexpectedMark) (refuse UnexpectedMark) (refuse UnexpectedMark) (refuse UnexpectedMark) m s i)
-    ≡ onGot {B = Got C} g (λ why. refused why) (onMark (give tt) (refuse UnexpectedMark) (refuse UnexpectedMark) (refuse UnexpectedMark) (refuse UnexpectedMark) m s i)
-first-marked one f g s i e TY = e
-first-marked one f g s i e FN = refl
-first-marked one f g s i e NA = refl
-first-marked one f g s i e GO = refl
-first-marked one f g s i e other = refl
+    → (m : Mark) → onGot {B = Got C} f (λ why. refused why) (inTurn ((TY, one) ∷ []) m s i)
+    ≡ onGot {B = Got C} g (λ why. refused why) (inTurn ((TY, give tt) ∷ []) m s i)
+unfolding inTurn
+first-marked {A} {C} one f g s i e m = by (sameMark TY m)
+  where
+    by : (b : Bool) → onGot {B = Got C} f (λ why. refused why) (pick b one (refuse UnexpectedMark) s i)
+        ≡ onGot {B = Got C} g (λ why. refused why) (pick b (give tt) (refuse UnexpectedMark) s i)
+    by true = e
+    by false = refl
 
 -- the type that NA names, where the step behind it tells of the mark GO
 pub name-then : (s : List ℕ) (i : ℕ) {t next : ℕ} {r : Step} → byte s i ≡ got t next → r ≡ stepOf (goalMark s next) → nameRecord s i ≡ onStep (some t) r

@@ -15,15 +15,16 @@ use goal::Goal;
 use goal::Named;
 use goal::goal_of;
 use goal::no_goal;
+use goalrecord::skip_goal;
+use heads::skip_function;
 use marks::Mark;
 use marks::Marked;
 use marks::Taken;
+use marks::same_mark;
 use marks::take_byte;
 use marks::wide;
 use reach::Refusal;
 use records::Step;
-use records::skip_function;
-use records::skip_goal;
 use records::skip_type;
 use turns::Turn;
 use turns::first_mark;
@@ -193,13 +194,13 @@ fn read_naming(s: &[u8], at: usize) -> Naming
     let Marked::Mark(mark, next) = mark_at(s, at) else {
         return not_named(Step::Refused(Refusal::Truncated));
     };
-    match mark {
-        Mark::Type => not_named(Step::Refused(Refusal::UnexpectedMark)),
-        Mark::Function => not_named(Step::Refused(Refusal::UnexpectedMark)),
-        Mark::Name => name_record(s, next),
-        Mark::Goal => not_named(Step::Next(next)),
-        Mark::Other => not_named(Step::Refused(Refusal::UnexpectedMark)),
+    if same_mark(mark, Mark::Name) {
+        return name_record(s, next);
     }
+    if same_mark(mark, Mark::Goal) {
+        return not_named(Step::Next(next));
+    }
+    not_named(Step::Refused(Refusal::UnexpectedMark))
 }
 
 // The goal and the end of the file.

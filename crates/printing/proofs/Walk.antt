@@ -19,10 +19,10 @@ use Rattle.reach.specs.Lists.{knownMark, kindAt, entrySize, roomOf, Decoded, de
 use Rattle.reach.specs.Text.{lineSaying, lastLine, textOf, listText}
 use Rattle.reach.proofs.Base.{picked}
 use Rattle.reach.proofs.ReadBack.{counted}
-use Rattle.entries.specs.declared.Size.{Size}
-use Rattle.entries.specs.declared.Size.the-variants.{Bytes, NoEntry}
-use Rattle.entries.specs.Spans.{sizeOf}
-use Rattle.entries.proofs.Walk.{stands, stands-inside}
+use Rattle.sizes.specs.declared.Size.{Size}
+use Rattle.sizes.specs.declared.Size.the-variants.{Bytes, NoEntry}
+use Rattle.sizes.specs.Sizes.{sizeOf}
+use Rattle.sizes.proofs.Standing.{stands, stands-inside}
 use Rattle.lines.specs.Counting.{Few}
 use Rattle.writing.specs.Writing.{Puts, Fronts}
 use Rattle.writing.proofs.Writing.{Left, left-next, left-last, puts-front}

@@ -7,16 +7,16 @@ ghost use Rattle.reach.specs.Lists.{decodedFrom};
 ghost use Rattle.reach.specs.Text.{refusalLine, textOf, listText};
 ghost use Rattle.lines.specs.Counting.{Few};
 ghost use Rattle.writing.specs.Writing.{Fronts, Puts};
-use entries::Size;
-use entries::kind_at;
 use entries::room;
-use entries::size_at;
 use lines::put_last;
 use lines::put_line;
 use lines::put_refusal;
 use reach::Counts;
 use reach::Kind;
 use reach::Refusal;
+use sizes::Size;
+use sizes::kind_at;
+use sizes::size_at;
 
 // The counts with one more of a kind.
 fn one_more(counts: Counts, kind: Kind) -> Counts

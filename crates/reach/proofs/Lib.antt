@@ -11,6 +11,7 @@ pub mod Missing
 pub mod Entries
 pub mod Cover
 pub mod Moves
+pub mod InTurn
 pub mod Limits
 pub mod Reading
 pub mod Stages

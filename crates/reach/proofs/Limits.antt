@@ -17,10 +17,11 @@ use Rattle.reach.specs.Syntax.{Function, Program, fieldTypes, functionAt
 use Rattle.reach.specs.Types.{Slot, sourceSlots, leastDepths}
 use Rattle.reach.specs.Names.{spells}
 use Rattle.reach.specs.Reader.{Got, got, refused, onGot, Reader, _>>=_, _>>_, give, refuse, demand, byte, word, times, passed, atEnd}
-use Rattle.reach.specs.RuleFile.{Mark, TY, FN, NA, GO, other, onMark, mark, counted, constructorRecord, typeRecord, Head, functionRecord, Goal, goalRecord}
+use Rattle.reach.specs.RuleFile.{Mark, inTurn, mark, counted, constructorRecord, typeRecord, Head, functionRecord, Goal, goalRecord}
 use Rattle.reach.specs.RuleFile.{moreTypes, endsAt, moreFunctions, naming, Declarations, Outline, outline, numbersExist, bodyOf, functionsOf, programOf, noEmptyType, deepEnough, ifNamed, wellSpelled, sizeInLimit, ruleFile}
 use Rattle.reach.specs.Answers.{accepted, turnedBack, check}
 use Rattle.reach.specs.Base.{Each}
+use Rattle.reach.proofs.InTurn.{in-turn}
 use Rattle.reach.proofs.Base.{clash, picked, nth-member, each-member, each-getD}
 use Rattle.reach.proofs.Slots.{slots-each}
 
@@ -84,14 +85,9 @@ unfolding times
 timed zero each = giving (zero-le, tt)
 timed (suc n) each = then each (λ a h. then (timed n each) (λ xs hs. giving (suc-le-suc (hs .0), (h, hs .1))))
 
--- a promise for each mark that may be met
-marked : {A : Type 0} {P : A → Type 0} {ty fn na go wrong : Reader A} → Promises P ty → Promises P fn → Promises P na → Promises P go → Promises P wrong
-    → (m : Mark) → Promises P (onMark ty fn na go wrong m)
-marked a b c d e TY = a
-marked a b c d e FN = b
-marked a b c d e NA = c
-marked a b c d e GO = d
-marked a b c d e other = e
+-- a promise for each mark that may come
+turned : {A : Type 0} {P : A → Type 0} (turns : List (Mark × Reader A)) → Each (λ turn. Promises P (turn .1)) turns → (m : Mark) → Promises P (inTurn turns m)
+turned {P = P} turns all m = in-turn (λ r. Promises P r) turns refusing all m
 
 -- a reader that knows where it stands
 placed : {A : Type 0} {P : A → Type 0} {m : ℕ → Reader A} → ((here : ℕ) → Promises P (m here)) → Promises P (λ s here. m here s here)
@@ -161,19 +157,18 @@ goal-kept =
 -- the types and the functions that follow the first ones
 more-types : (n : ℕ) → Promises (λ ts. (length ts ≤ n) × Each TypeKept ts) (moreTypes n)
 unfolding moreTypes
-more-types zero = then (anything mark) (λ m u. marked refusing (giving (zero-le, tt)) refusing refusing refusing m)
+more-types zero = then (anything mark) (λ m u. turned _ (refusing, (giving (zero-le, tt), tt)) m)
 more-types (suc n) =
     then (anything mark)
-    (λ m u. marked (then type-kept (λ t h. then (more-types n) (λ ts hs. giving (suc-le-suc (hs .0), (h, hs .1)))))
-    (giving (zero-le, tt)) refusing refusing refusing m)
+    (λ m u. turned _ (then type-kept (λ t h. then (more-types n) (λ ts hs. giving (suc-le-suc (hs .0), (h, hs .1)))), (giving (zero-le, tt), tt)) m)
 
 more-functions : (n : ℕ) → Promises (λ fs. (length fs ≤ n) × Each HeadKept fs) (moreFunctions n)
 unfolding moreFunctions
-more-functions zero = placed (λ here. then (anything mark) (λ m u. marked refusing refusing (ending here (zero-le, tt)) (ending here (zero-le, tt)) refusing m))
+more-functions zero = placed (λ here. then (anything mark) (λ m u. turned _ (refusing, (ending here (zero-le, tt), (ending here (zero-le, tt), tt))) m))
 more-functions (suc n) =
     placed (λ here. then (anything mark)
-    (λ m u. marked refusing (then head-kept (λ f h. then (more-functions n) (λ fs hs. giving (suc-le-suc (hs .0), (h, hs .1)))))
-    (ending here (zero-le, tt)) (ending here (zero-le, tt)) refusing m))
+    (λ m u. turned _
+    (then head-kept (λ f h. then (more-functions n) (λ fs hs. giving (suc-le-suc (hs .0), (h, hs .1)))), (ending here (zero-le, tt), (ending here (zero-le, tt), tt))) m))
 
 -- an outline within the limits
 pub record OutlineKept (o : Outline) : Type 0 where
@@ -187,7 +182,7 @@ pub outline-kept : Promises OutlineKept outline
 unfolding outline
 outline-kept =
     then (anything mark)
-    (λ m u. then (marked type-kept refusing refusing refusing refusing m)
+    (λ m u. then (turned _ (type-kept, tt) m)
     (λ t h. then (more-types (pred typeLimit))
     (λ ts hs. then head-kept
     (λ f k. then (more-functions (pred functionLimit))

@@ -18,10 +18,11 @@ use Rattle.reach.specs.Limits.{fileLimit, typeLimit, constructorLimit, f
 use Rattle.reach.specs.Syntax.{Program, fieldTypes}
 use Rattle.reach.specs.Types.{leastDepths}
 use Rattle.reach.specs.Reader.{Got, got, refused, onGot, Reader, _>>=_, _>>_, give, refuse, demand, byte, word, times, passed, atEnd}
-use Rattle.reach.specs.RuleFile.{Mark, TY, FN, NA, GO, other, onMark, mark, counted, constructorRecord, typeRecord, Head, functionRecord, goalRecord, moreTypes, endsAt, moreFunctions, goalMark, nameRecord, naming, Declarations, outline}
+use Rattle.reach.specs.RuleFile.{Mark, inTurn, mark, counted, constructorRecord, typeRecord, Head, functionRecord, goalRecord, moreTypes, endsAt, moreFunctions, goalMark, nameRecord, naming, Declarations, outline}
 use Rattle.reach.specs.RuleFile.{Below, operandsOf, alternatives, inLimits, variableExpr, callOf, callExpr, constructOf, constructExpr, caseOf, caseExpr, letExpr, targetExpr, expressionBy, expression}
 use Rattle.reach.specs.RuleFile.{bodyOf, functionsOf, numbersExist, programOf, noEmptyType, deepEnough, wellSpelled, sizeInLimit, ruleFile}
 use Rattle.reach.specs.Answers.{accepted, turnedBack, check}
+use Rattle.reach.proofs.InTurn.{in-turn}
 use Rattle.reach.proofs.Base.{clash, picked, each-member}
 
 -- a refusal, if it is one, is one of these
@@ -141,13 +142,9 @@ goal-refuses =
     (λ d. then (word-refuses first-short)
     (λ s. then-on (demanding (leb s stepLimit) OutOfRange first-range) giving))))
 
-marked : {A : Type 0} {P : Refusal → Type 0} {ty fn na go wrong : Reader A} → Refuses P ty → Refuses P fn → Refuses P na → Refuses P go → Refuses P wrong
-    → (m : Mark) → Refuses P (onMark ty fn na go wrong m)
-marked a b c d e TY = a
-marked a b c d e FN = b
-marked a b c d e NA = c
-marked a b c d e GO = d
-marked a b c d e other = e
+-- a mark out of its turn is refused by 2
+turned : {A : Type 0} (turns : List (Mark × Reader A)) → Each (λ turn. Refuses OfFirstPass (turn .1)) turns → (m : Mark) → Refuses OfFirstPass (inTurn turns m)
+turned turns all m = in-turn (λ r. Refuses OfFirstPass r) turns (refusing first-mark) all m
 
 -- a reader that knows where it stands
 placed : {A : Type 0} {P : Refusal → Type 0} {m : ℕ → Reader A} → ((here : ℕ) → Refuses P (m here)) → Refuses P (λ s here. m here s here)
@@ -158,32 +155,31 @@ ending here = record { met = λ s i. tt }
 
 types-refuse : (n : ℕ) → Refuses OfFirstPass (moreTypes n)
 unfolding moreTypes
-types-refuse zero = then mark-refuses (λ m. marked (refusing first-range) giving (refusing first-mark) (refusing first-mark) (refusing first-mark) m)
+types-refuse zero = then mark-refuses (λ m. turned _ (refusing first-range, (giving, tt)) m)
 types-refuse (suc n) =
     then mark-refuses
-    (λ m. marked (then type-refuses (λ t. then (types-refuse n) (λ ts. giving))) giving (refusing first-mark) (refusing first-mark) (refusing first-mark) m)
+    (λ m. turned _ (then type-refuses (λ t. then (types-refuse n) (λ ts. giving)), (giving, tt)) m)
 
 functions-refuse : (n : ℕ) → Refuses OfFirstPass (moreFunctions n)
 unfolding moreFunctions
 functions-refuse zero =
-    placed (λ here. then mark-refuses (λ m. marked (refusing first-mark) (refusing first-range) (ending here) (ending here) (refusing first-mark) m))
+    placed (λ here. then mark-refuses (λ m. turned _ (refusing first-range, (ending here, (ending here, tt))) m))
 functions-refuse (suc n) =
     placed (λ here. then mark-refuses
-    (λ m. marked (refusing first-mark) (then head-refuses (λ f. then (functions-refuse n) (λ fs. giving))) (ending here) (ending here) (refusing first-mark) m))
+    (λ m. turned _ (then head-refuses (λ f. then (functions-refuse n) (λ fs. giving)), (ending here, (ending here, tt))) m))
 
 naming-refuses : Refuses OfFirstPass naming
 unfolding naming nameRecord goalMark
 naming-refuses =
-    then mark-refuses (λ m. marked (refusing first-mark) (refusing first-mark)
-    (then (byte-refuses first-short) (λ t. then-on
-    (then mark-refuses (λ n. marked (refusing first-mark) (refusing first-mark) (refusing first-mark) giving (refusing first-mark) n)) giving))
-    giving (refusing first-mark) m)
+    then mark-refuses
+    (λ m. turned _
+    (then (byte-refuses first-short) (λ t. then-on (then mark-refuses (λ n. turned _ (giving, tt) n)) giving), (giving, tt)) m)
 
 outline-refuses : Refuses OfFirstPass outline
 unfolding outline
 outline-refuses =
     then mark-refuses
-    (λ m. then (marked type-refuses (refusing first-mark) (refusing first-mark) (refusing first-mark) (refusing first-mark) m)
+    (λ m. then (turned _ (type-refuses, tt) m)
     (λ t. then (types-refuse (pred typeLimit))
     (λ ts. then head-refuses
     (λ f. then (functions-refuse (pred functionLimit))

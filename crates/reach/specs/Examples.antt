@@ -276,7 +276,7 @@ unfolding
     Search.counts Search.verdictBy Search.verdict
     Reader.byte Reader.word Reader.times Reader.passed Reader.atEnd
     RuleFile.markOf RuleFile.mark RuleFile.counted RuleFile.constructorRecord RuleFile.typeRecord RuleFile.functionRecord RuleFile.goalRecord
-    RuleFile.moreTypes RuleFile.moreFunctions RuleFile.outline RuleFile.allBelow RuleFile.constructorsExist RuleFile.typesExist
+    RuleFile.inTurn RuleFile.moreTypes RuleFile.moreFunctions RuleFile.outline RuleFile.allBelow RuleFile.constructorsExist RuleFile.typesExist
     RuleFile.headsExist RuleFile.numbersExist RuleFile.operandsOf RuleFile.alternatives RuleFile.variableExpr RuleFile.callOf
     RuleFile.callExpr RuleFile.constructOf RuleFile.constructExpr RuleFile.caseOf RuleFile.caseExpr RuleFile.letExpr RuleFile.targetExpr
     RuleFile.expressionBy RuleFile.expression RuleFile.bodyOf RuleFile.functionsOf RuleFile.programOf RuleFile.goalMark RuleFile.nameRecord RuleFile.naming RuleFile.wellSpelled RuleFile.noEmptyType

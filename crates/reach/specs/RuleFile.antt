@@ -28,6 +28,17 @@ markOf a b =
     (pick (eqb a 0x4e && eqb b 0x41) NA
     (pick (eqb a 0x47 && eqb b 0x4f) GO other)))
 
+-- the marks by number, by which they are told apart
+abbrev pub markNumber : Mark → ℕ
+markNumber TY = 0
+markNumber FN = 1
+markNumber NA = 2
+markNumber GO = 3
+markNumber other = 4
+
+abbrev pub sameMark : Mark → Mark → Bool
+sameMark k m = eqb (markNumber k) (markNumber m)
+
 unfoldable pub mark : Reader Mark
 mark = do
   a ← byte
@@ -88,21 +99,15 @@ goalRecord = do
   demand (leb s stepLimit) OutOfRange
   give (record { source = f; label = l; depth = d; steps = s })
 
-abbrev pub onMark : {A : Type 0} → A → A → A → A → A → Mark → A
-onMark ty fn na go wrong TY = ty
-onMark ty fn na go wrong FN = fn
-onMark ty fn na go wrong NA = na
-onMark ty fn na go wrong GO = go
-onMark ty fn na go wrong other = wrong
+-- The marks that may come, each with what follows it. Any other mark, known or not, is out of its turn.
+unfoldable pub inTurn : {A : Type 0} → List (Mark × Reader A) → Mark → Reader A
+inTurn [] m = refuse UnexpectedMark
+inTurn (turn ∷ turns) m = pick (sameMark (turn .0) m) (turn .1) (inTurn turns m)
 
 -- the types after the first, up to the mark of the first function; so many more may come
 unfoldable pub moreTypes : ℕ → Reader Types
-moreTypes zero = do
-  m ← mark
-  onMark (refuse OutOfRange) (give []) (refuse UnexpectedMark) (refuse UnexpectedMark) (refuse UnexpectedMark) m
-moreTypes (suc n) = do
-  m ← mark
-  onMark (typeRecord >>= λ t. moreTypes n >>= λ ts. give (t ∷ ts)) (give []) (refuse UnexpectedMark) (refuse UnexpectedMark) (refuse UnexpectedMark) m
+moreTypes zero = mark >>= inTurn ((TY, refuse OutOfRange) ∷ (FN, give []) ∷ [])
+moreTypes (suc n) = mark >>= inTurn ((TY, typeRecord >>= λ t. moreTypes n >>= λ ts. give (t ∷ ts)) ∷ (FN, give []) ∷ [])
 
 -- nothing more; the mark that was looked at begins at this place and is left for what follows
 abbrev pub endsAt : {A : Type 0} → ℕ → Reader (List A)
@@ -111,16 +116,13 @@ endsAt here s behind = got [] here
 -- the functions after the first, up to the mark NA or GO, which is left
 unfoldable pub moreFunctions : ℕ → Reader (List Head)
 moreFunctions zero s here =
-    (mark >>= onMark (refuse UnexpectedMark) (refuse OutOfRange) (endsAt here) (endsAt here) (refuse UnexpectedMark)) s here
+    (mark >>= inTurn ((FN, refuse OutOfRange) ∷ (NA, endsAt here) ∷ (GO, endsAt here) ∷ [])) s here
 moreFunctions (suc n) s here =
-    (mark >>= onMark (refuse UnexpectedMark) (functionRecord >>= λ f. moreFunctions n >>= λ fs. give (f ∷ fs)) (endsAt here) (endsAt here)
-    (refuse UnexpectedMark)) s here
+    (mark >>= inTurn ((FN, functionRecord >>= λ f. moreFunctions n >>= λ fs. give (f ∷ fs)) ∷ (NA, endsAt here) ∷ (GO, endsAt here) ∷ [])) s here
 
 -- the mark GO must come
 unfoldable pub goalMark : Reader (Unit {0})
-goalMark = do
-  m ← mark
-  onMark (refuse UnexpectedMark) (refuse UnexpectedMark) (refuse UnexpectedMark) (give tt) (refuse UnexpectedMark) m
+goalMark = mark >>= inTurn ((GO, give tt) ∷ [])
 
 -- what follows the mark NA: the number of the type whose values are names. After it only GO may come.
 unfoldable pub nameRecord : Reader (Option ℕ)
@@ -131,9 +133,7 @@ nameRecord = do
 
 -- the type that NA names, if there is an NA, up to behind the mark GO
 unfoldable pub naming : Reader (Option ℕ)
-naming = do
-  m ← mark
-  onMark (refuse UnexpectedMark) (refuse UnexpectedMark) nameRecord (give none) (refuse UnexpectedMark) m
+naming = mark >>= inTurn ((NA, nameRecord) ∷ (GO, give none) ∷ [])
 
 -- What expressions need of a file: its types and the heads of its functions.
 pub record Declarations : Type 0 where
@@ -149,7 +149,7 @@ pub record Outline : Type 0 where
 unfoldable pub outline : Reader Outline
 outline = do
   m ← mark
-  t ← onMark typeRecord (refuse UnexpectedMark) (refuse UnexpectedMark) (refuse UnexpectedMark) (refuse UnexpectedMark) m
+  t ← inTurn ((TY, typeRecord) ∷ []) m
   ts ← moreTypes (pred typeLimit)
   f ← functionRecord
   fs ← moreFunctions (pred functionLimit)

@@ -1,13 +1,11 @@
-// The records of a rule file at a place of the lent bytes: what follows each mark. Every function is a reader of crate reach
+// The records of a rule file at a place of the lent bytes: bytes passed over, and what follows the mark TY. Every function is a reader of crate reach
 // (specs/Reader.antt, specs/RuleFile.antt), its value forgotten where only the place behind it matters. Rests on crate marks.
 ghost use mathlib.Core.Path.{_≡_};
 ghost use Rattle.reach.specs.Reader.{byte, times, passed};
-ghost use Rattle.reach.specs.RuleFile.{constructorRecord, typeRecord, functionRecord, goalRecord};
+ghost use Rattle.reach.specs.RuleFile.{constructorRecord, typeRecord};
 ghost use Rattle.records.specs.Steps.{stepOf};
 use marks::Taken;
-use marks::TakenWord;
 use marks::take_byte;
-use marks::take_word;
 use marks::wide;
 use reach::Refusal;
 
@@ -16,14 +14,6 @@ const FIELD_LIMIT: usize = 6;
 
 const CONSTRUCTOR_LIMIT: usize = 16;
 
-const PARAMETER_LIMIT: usize = 8;
-
-const BODY_LIMIT: usize = 1024;
-
-const DEPTH_LIMIT: usize = 64;
-
-const STEP_LIMIT: usize = 4096;
-
 // The place behind what was read, or why it was not read.
 pub enum Step {
     Next(usize),
@@ -31,7 +21,7 @@ pub enum Step {
 }
 
 // So many bytes passed over.
-fn pass(s: &[u8], at: usize, n: usize) -> Step
+pub fn pass(s: &[u8], at: usize, n: usize) -> Step
     ensures { λ r. ⌜ r ≡ stepOf (passed n (now (s .entry)) at) ⌝ }
 {
     if s.len() < at {
@@ -44,7 +34,7 @@ fn pass(s: &[u8], at: usize, n: usize) -> Step
 }
 
 // So many single bytes read.
-fn skip_bytes(s: &[u8], at: usize, n: usize) -> Step
+pub fn skip_bytes(s: &[u8], at: usize, n: usize) -> Step
     ensures { λ r. ⌜ r ≡ stepOf (times n byte (now (s .entry)) at) ⌝ }
 {
     if n == 0 {
@@ -96,75 +86,4 @@ pub fn skip_type(s: &[u8], at: usize) -> Step
         return Step::Refused(Refusal::OutOfRange);
     }
     skip_constructors(s, next, wide(n))
-}
-
-// A body's length and the body, passed over.
-fn skip_body(s: &[u8], at: usize) -> Step
-    ensures { λ r. ⌜ r ≡ stepOf (Rattle.records.specs.Steps.bodyPart (now (s .entry)) at) ⌝ }
-{
-    let TakenWord::Word(n, next) = take_word(s, at) else {
-        return Step::Refused(Refusal::Truncated);
-    };
-    if n < 1 {
-        return Step::Refused(Refusal::OutOfRange);
-    }
-    if BODY_LIMIT < n {
-        return Step::Refused(Refusal::OutOfRange);
-    }
-    pass(s, next, n)
-}
-
-// What follows the mark FN.
-pub fn skip_function(s: &[u8], at: usize) -> Step
-    ensures { λ r. ⌜ r ≡ stepOf (functionRecord (now (s .entry)) at) ⌝ }
-{
-    let Taken::Byte(n, first) = take_byte(s, at) else {
-        return Step::Refused(Refusal::Truncated);
-    };
-    if PARAMETER_LIMIT < wide(n) {
-        return Step::Refused(Refusal::OutOfRange);
-    }
-    let step = skip_bytes(s, first, wide(n));
-    let Step::Next(result) = step else {
-        return step;
-    };
-    let Taken::Byte(_, length) = take_byte(s, result) else {
-        return Step::Refused(Refusal::Truncated);
-    };
-    skip_body(s, length)
-}
-
-// The depth D and the step limit S.
-fn skip_limits(s: &[u8], at: usize) -> Step
-    ensures { λ r. ⌜ r ≡ stepOf (Rattle.records.specs.Steps.limitsPart (now (s .entry)) at) ⌝ }
-{
-    let Taken::Byte(d, next) = take_byte(s, at) else {
-        return Step::Refused(Refusal::Truncated);
-    };
-    if wide(d) < 1 {
-        return Step::Refused(Refusal::OutOfRange);
-    }
-    if DEPTH_LIMIT < wide(d) {
-        return Step::Refused(Refusal::OutOfRange);
-    }
-    let TakenWord::Word(n, behind) = take_word(s, next) else {
-        return Step::Refused(Refusal::Truncated);
-    };
-    if STEP_LIMIT < n {
-        return Step::Refused(Refusal::OutOfRange);
-    }
-    Step::Next(behind)
-}
-
-// What follows the mark GO.
-pub fn skip_goal(s: &[u8], at: usize) -> Step
-    ensures { λ r. ⌜ r ≡ stepOf (goalRecord (now (s .entry)) at) ⌝ }
-{
-    let Taken::Byte(_, label) = take_byte(s, at) else {
-        return Step::Refused(Refusal::Truncated);
-    };
-    let Taken::Byte(_, limits) = take_byte(s, label) else {
-        return Step::Refused(Refusal::Truncated);
-    };
-    skip_limits(s, limits)
 }

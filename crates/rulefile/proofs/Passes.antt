@@ -19,7 +19,8 @@ use Rattle.records.specs.Steps.{stepOf}
 use Rattle.lookups.proofs.Tables.{found}
 use Rattle.bodies.specs.declared.Judged.{Judged}
 use Rattle.bodies.specs.declared.Judged.the-variants as Judged
-use Rattle.bodies.specs.Check.{Small, BodiesThere, functionsAt, bodiesOf}
+use Rattle.expressions.specs.Readers.{Small}
+use Rattle.bodies.specs.Check.{BodiesThere, functionsAt, bodiesOf}
 
 -- ---- the tables keep to the limits, and the bodies end inside the file
 

@@ -1,4 +1,1 @@
-pub mod Reached
-pub mod Bound
-pub mod Advancing
 pub mod Looping

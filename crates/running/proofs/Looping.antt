@@ -1,5 +1,5 @@
 -- The loop of `go_on`: from the beginning the run came to where it is, so it ends there as it does from the beginning.
--- Rests on specs/Running, on Reached and Advancing, and on what steps' Running says of steps one after the other.
+-- Rests on specs/Running, on binding's Underway, Reached and Advancing, and on what steps' Running says of steps one after the other.
 use Prim.Native.Nat.{ℕ, zero, suc, _+_, _-_, _≤_, _<_}
 use mathlib.Core.Path.{_≡_, sym, _∙_, ap, subst}
 use mathlib.Core.List.{List}
@@ -21,10 +21,11 @@ use Rattle.steps.specs.declared.Ran.{Ran}
 use Rattle.registers.specs.Stepping.{Standing, Stepped}
 use Rattle.steps.specs.Running.{StepsTo, no-step, one-more, Onward, ComesToHalt, RunsOn}
 use Rattle.skipping.specs.Ends.{Ends}
-use Rattle.running.proofs.Reached.{same-demands, same-lacks, same-stops, same-spent}
-use Rattle.running.proofs.Advancing.{within, went}
+use Rattle.binding.specs.Underway.{GivenInput, Underway, Advances, ComesTo, AdvancesAll, SomeWaiting, Enters}
+use Rattle.binding.proofs.Reached.{same-demands, same-lacks, same-stops, same-spent}
+use Rattle.binding.proofs.Advancing.{within, went}
 use Rattle.running.specs.Looked.{LookedAt}
-use Rattle.running.specs.Running.{GivenInput, Underway, Advances, ComesTo, AdvancesAll, SomeWaiting, Enters, EndsAs, RunBegins, CameTo}
+use Rattle.running.specs.Running.{EndsAs, RunBegins, CameTo}
 
 -- it is the end: nothing comes next, or no step is left
 abbrev Last : Next → Type 0 → Type 0

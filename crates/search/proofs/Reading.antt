@@ -25,7 +25,7 @@ use Rattle.reach.proofs.EntryLength.{entry-within}
 use Rattle.reach.proofs.WellTyped.{open-apart}
 use Rattle.reach.proofs.Partial.{entries-lawful, row-one}
 use Rattle.reach.proofs.ReadBack.{decoded-entry, entry-read-back, beyond-end}
-use Rattle.listing.proofs.Bytes.{entry-length}
+use Rattle.headers.proofs.Bytes.{entry-length}
 use Rattle.search.specs.Answering.{ReadsAs}
 
 -- a number that no entry has is beyond the last

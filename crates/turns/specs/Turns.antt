@@ -3,9 +3,8 @@
 use Prim.Native.Nat.{ℕ, pred, _<_}
 use mathlib.Core.List.{List, [], _∷_}
 use Rattle.reach.specs.Syntax.{Types}
-use Rattle.reach.specs.declared.Refusal.the-variants.{UnexpectedMark}
-use Rattle.reach.specs.Reader.{Got, got, refused, Reader, _>>=_, _>>_, give, refuse}
-use Rattle.reach.specs.RuleFile.{onMark, mark, typeRecord, moreTypes, Head, functionRecord, moreFunctions}
+use Rattle.reach.specs.Reader.{Got, got, refused, Reader, _>>=_, _>>_, give}
+use Rattle.reach.specs.RuleFile.{TY, inTurn, mark, typeRecord, moreTypes, Head, functionRecord, moreFunctions}
 use Rattle.turns.specs.declared.Turn.{Turn}
 use Rattle.turns.specs.declared.Turn.the-variants as Turn
 
@@ -43,6 +42,4 @@ Room more (Turn.Refused why) = Unit {0}
 
 -- the first mark must be that of a type
 unfoldable pub firstMark : Reader (Unit {0})
-firstMark = do
-  m ← mark
-  onMark (give tt) (refuse UnexpectedMark) (refuse UnexpectedMark) (refuse UnexpectedMark) (refuse UnexpectedMark) m
+firstMark = mark >>= inTurn ((TY, give tt) ∷ [])

@@ -7,6 +7,7 @@ use cursor::mark_at;
 use cursor::mark_behind;
 use marks::Mark;
 use marks::Marked;
+use marks::same_mark;
 use reach::Refusal;
 use records::Step;
 
@@ -17,6 +18,13 @@ pub enum Turn {
     Refused(Refusal),
 }
 
+// Any other mark is out of its turn.
+fn out_of_turn() -> Turn
+    ensures { λ r. ⌜ r ≡ Turn.Refused Refusal.UnexpectedMark ⌝ }
+{
+    Turn::Refused(Refusal::UnexpectedMark)
+}
+
 // The mark behind a type that begins at `from`, where so many more types may come.
 pub fn turn_after_type(s: &[u8], from: usize, behind: usize, more: usize) -> Turn
     ensures { λ r. ⌜ moreTypes more (now (s .entry)) behind ≡ typesTurn (now (s .entry)) more r ⌝ }
@@ -25,19 +33,16 @@ pub fn turn_after_type(s: &[u8], from: usize, behind: usize, more: usize) -> Tur
     let Marked::Mark(mark, next) = mark_behind(s, from, behind) else {
         return Turn::Refused(Refusal::Truncated);
     };
-    match mark {
-        Mark::Type => {
-            if more == 0 {
-                Turn::Refused(Refusal::OutOfRange)
-            } else {
-                Turn::Again(next)
-            }
+    if same_mark(mark, Mark::Type) {
+        if more == 0 {
+            return Turn::Refused(Refusal::OutOfRange);
         }
-        Mark::Function => Turn::Done(next),
-        Mark::Name => Turn::Refused(Refusal::UnexpectedMark),
-        Mark::Goal => Turn::Refused(Refusal::UnexpectedMark),
-        Mark::Other => Turn::Refused(Refusal::UnexpectedMark),
+        return Turn::Again(next);
     }
+    if same_mark(mark, Mark::Function) {
+        return Turn::Done(next);
+    }
+    out_of_turn()
 }
 
 // The mark behind a function that begins at `from`, where so many more functions may come. NA and GO are left to be read.
@@ -48,49 +53,44 @@ pub fn turn_after_function(s: &[u8], from: usize, behind: usize, more: usize) ->
     let Marked::Mark(mark, next) = mark_behind(s, from, behind) else {
         return Turn::Refused(Refusal::Truncated);
     };
-    match mark {
-        Mark::Type => Turn::Refused(Refusal::UnexpectedMark),
-        Mark::Function => {
-            if more == 0 {
-                Turn::Refused(Refusal::OutOfRange)
-            } else {
-                Turn::Again(next)
-            }
+    if same_mark(mark, Mark::Function) {
+        if more == 0 {
+            return Turn::Refused(Refusal::OutOfRange);
         }
-        Mark::Name => Turn::Done(behind),
-        Mark::Goal => Turn::Done(behind),
-        Mark::Other => Turn::Refused(Refusal::UnexpectedMark),
+        return Turn::Again(next);
     }
+    let ended = Turn::Done(behind);
+    if same_mark(mark, Mark::Name) {
+        return ended;
+    }
+    if same_mark(mark, Mark::Goal) {
+        return ended;
+    }
+    out_of_turn()
 }
 
 // The place behind the first mark, which must be that of a type.
 pub fn first_mark(s: &[u8]) -> Step
     ensures { λ r. ⌜ r ≡ stepOf (firstMark (now (s .entry)) 0) ⌝ }
 {
-    let Marked::Mark(mark, next) = mark_at(s, 0) else {
+    let Marked::Mark(first, next) = mark_at(s, 0) else {
         return Step::Refused(Refusal::Truncated);
     };
-    match mark {
-        Mark::Type => Step::Next(next),
-        Mark::Function => Step::Refused(Refusal::UnexpectedMark),
-        Mark::Name => Step::Refused(Refusal::UnexpectedMark),
-        Mark::Goal => Step::Refused(Refusal::UnexpectedMark),
-        Mark::Other => Step::Refused(Refusal::UnexpectedMark),
+    if same_mark(first, Mark::Type) {
+        return Step::Next(next);
     }
+    Step::Refused(Refusal::UnexpectedMark)
 }
 
 // The place behind the mark GO, which must come behind NA's type number; `from` is where that number stands.
 pub fn goal_mark(s: &[u8], from: usize, behind: usize) -> Step
     ensures { λ r. ⌜ r ≡ stepOf (goalMark (now (s .entry)) behind) ⌝ }
 {
-    let Marked::Mark(mark, next) = mark_behind(s, from, behind) else {
+    let Marked::Mark(last, next) = mark_behind(s, from, behind) else {
         return Step::Refused(Refusal::Truncated);
     };
-    match mark {
-        Mark::Type => Step::Refused(Refusal::UnexpectedMark),
-        Mark::Function => Step::Refused(Refusal::UnexpectedMark),
-        Mark::Name => Step::Refused(Refusal::UnexpectedMark),
-        Mark::Goal => Step::Next(next),
-        Mark::Other => Step::Refused(Refusal::UnexpectedMark),
+    if same_mark(last, Mark::Goal) {
+        return Step::Next(next);
     }
+    Step::Refused(Refusal::UnexpectedMark)
 }

@@ -2,7 +2,7 @@
 -- Rests on Functions.
 use native.Mathlib.Omega.{arith}
 use borrow.Author.Needs.{needs}
-use Rattle.bodies.specs.Check.{viewOf}
+use Rattle.expressions.specs.Readers.{viewOf}
 use Rattle.bodies.proofs.Functions.{few-parameters, body-length, body-refused, body-trailing, body-ends}
 use Rattle.bodies.proofs.body_of.Statement.{statement}
 use Rattle.bodies.proofs.body_of.Tie as tie

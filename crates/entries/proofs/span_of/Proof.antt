@@ -4,7 +4,8 @@
 use mathlib.Core.Path.{refl}
 use native.Mathlib.Omega.{arith}
 use borrow.Author.Needs.{needs}
-use Rattle.entries.proofs.Walk.{Walked, stands-inside, walked-on, walked-to, walked-out}
+use Rattle.sizes.proofs.Standing.{stands-inside}
+use Rattle.entries.proofs.Walk.{Walked, walked-on, walked-to, walked-out}
 use Rattle.entries.proofs.span_of.Statement.{statement}
 use Rattle.entries.proofs.span_of.Tie as tie
 

@@ -9,7 +9,7 @@ use borrow.Author.Tests.{not-true, not-false}
 use Rattle.reach.specs.Syntax.{Program}
 use Rattle.reach.specs.Handed.{entry, entriesBy}
 use Rattle.reach.proofs.ReadBack.{size-inside}
-use Rattle.entries.specs.Spans.{sizeOf}
+use Rattle.sizes.specs.Sizes.{sizeOf}
 use Rattle.handed.specs.Fits.{Given}
 use Rattle.handed.proofs.Lists.{found, all-read, too-long, at-last, over, none-there, unfit, fit}
 use Rattle.handed.proofs.list_fits.Statement.{statement}

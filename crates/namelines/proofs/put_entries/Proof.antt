@@ -10,9 +10,9 @@ use borrow.Author.Needs.{needs}
 use Rattle.reach.specs.Places.{typeAt}
 use Rattle.reach.specs.Lists.{entrySize}
 use Rattle.writing.proofs.Writing.{puts-length}
-use Rattle.entries.specs.declared.Size.{Size}
-use Rattle.entries.specs.declared.Size.the-variants as Size
-use Rattle.entries.specs.Spans.{sizeOf}
+use Rattle.sizes.specs.declared.Size.{Size}
+use Rattle.sizes.specs.declared.Size.the-variants as Size
+use Rattle.sizes.specs.Sizes.{sizeOf}
 use Rattle.namelines.specs.Rows.{typesAsked}
 use Rattle.namelines.specs.Lists.{listNames}
 use Rattle.namelines.proofs.Entries.{Going, going-whole, going-end, going-more, going-done}

@@ -7,7 +7,7 @@ use lib.ListN.{length}
 use borrow.Author.Needs.{needs}
 use Rattle.reach.specs.Lists.{decodedFrom}
 use Rattle.reach.specs.Text.{textOf}
-use Rattle.entries.proofs.Walk.{stands-inside}
+use Rattle.sizes.proofs.Standing.{stands-inside}
 use Rattle.lines.specs.Counting.{Few}
 use Rattle.writing.proofs.Writing.{Left, left-whole, puts-length}
 use Rattle.printing.proofs.Walk.{textFrom, text-whole, few-more, size-some, part-least, part-most, line-next, last-no-entry, last-over}
