@@ -12,21 +12,21 @@ use fitting::slots;
 use lookups::head_of;
 use rows::Measured;
 
-// The entry of n bytes at a place has at most so many steps, and a value for each parameter of the source, at most so deep.
+// The entry of n bytes at a place has at most so many steps, and a value for each parameter of the source, at most as deep as it may be.
 fn entry_fits<'a>(
     file: &'a [u8],
     types: &'a [u16],
     functions: &'a [u16],
     least: Depths,
     source: usize,
-    depth: usize,
+    depths: [u8; 8],
     steps: usize,
     list: &'a [u8],
     at: usize,
     n: usize,
 ) -> bool
     requires { ⌜ entrySize (now list) at ≡ some n ⌝ }
-    ensures { λ r. ⌜ Told (entryAt (now (file .entry)) (now (types .entry)) (now (functions .entry)) (least .of) source depth steps (now (list .entry)) at) (at + n) r ⌝ }
+    ensures { λ r. ⌜ Told (entryAt (now (file .entry)) (now (types .entry)) (now (functions .entry)) (least .of) source depths steps (now (list .entry)) at) (at + n) r ⌝ }
 {
     if steps < word_at(list, at + 2) {
         return false;
@@ -41,7 +41,7 @@ fn entry_fits<'a>(
         at + 6,
         head.parameters,
         head.count,
-        depth,
+        depths,
     ) else {
         return false;
     };
@@ -56,11 +56,11 @@ pub fn list_fits<'a>(
     functions: &'a [u16],
     least: Depths,
     source: usize,
-    depth: usize,
+    depths: [u8; 8],
     steps: usize,
     list: &'a [u8],
 ) -> bool
-    ensures { λ r. ⌜ FitsList (now (file .entry)) (now (types .entry)) (now (functions .entry)) (least .of) source depth steps (now (list .entry)) r ⌝ }
+    ensures { λ r. ⌜ FitsList (now (file .entry)) (now (types .entry)) (now (functions .entry)) (least .of) source depths steps (now (list .entry)) r ⌝ }
 {
     let end = list.len();
     if 16777216 < end {
@@ -81,7 +81,7 @@ pub fn list_fits<'a>(
             functions,
             least,
             source,
-            depth,
+            depths,
             steps,
             list,
             at,

@@ -12,17 +12,17 @@ pub enum Reading {
     Misfit,
 }
 
-// How deep the input is, if it is one closed value per parameter of the source, each at most so deep, and nothing more. The empty table says that nothing may
-// be open.
+// How deep the input is, if it is one closed value per parameter of the source, each at most as deep as it may be, and nothing more. The empty table
+// says that nothing may be open.
 pub fn input_depth<'a>(
     file: &'a [u8],
     types: &'a [u16],
     functions: &'a [u16],
     source: usize,
-    depth: usize,
+    depths: [u8; 8],
     input: &'a [u8],
 ) -> Reading
-    ensures { λ r. ⌜ r ≡ readingOf (inputAt (now (file .entry)) (now (types .entry)) (now (functions .entry)) source depth (now (input .entry))) ⌝ }
+    ensures { λ r. ⌜ r ≡ readingOf (inputAt (now (file .entry)) (now (types .entry)) (now (functions .entry)) source depths (now (input .entry))) ⌝ }
 {
     let head = head_of(file, functions, source);
     let row = slots(
@@ -33,7 +33,7 @@ pub fn input_depth<'a>(
         0,
         head.parameters,
         head.count,
-        depth,
+        depths,
     );
     let Measured::At(end, deep) = row else {
         return Reading::Misfit;

@@ -36,7 +36,7 @@ fn judge<'a>(file: &'a [u8], list: &'a [u8]) -> Checked
         &function_at[..functions],
         Depths { of: least },
         goal.source,
-        goal.depth,
+        goal.depths,
         goal.steps,
         list,
     ) {

@@ -22,8 +22,8 @@ use Rattle.namelines.proofs.put_entries.Tie as tie
 -- the rest of the list stands from the place reached on, and its names are still to be written
 abbrev Inv-loop : tie.InvT-loop
 Inv-loop file types least list asked text₀ at₀ to₀ text at to =
-    Going (map (typeAt file) types) (asked .depth) (asked .named) (typesAsked file asked) list text₀
-    (listNames (map (typeAt file) types) (asked .depth) (asked .named) (typesAsked file asked) list) text at to
+    Going (map (typeAt file) types) (asked .named) (typesAsked file asked) list text₀
+    (listNames (map (typeAt file) types) (asked .named) (typesAsked file asked) list) text at to
     × (at ≤ length list)
 
 abbrev μ-loop : tie.MeasureT-loop
