@@ -15,10 +15,11 @@ pub fn all_roomy(s: &[u8], at: usize, n: usize, depths: [u8; 8], table: Depths) 
 {
     let mut i: usize = 0;
     while i < n {
-        if !all_shallow(s, at + i, 1, depth_at(depths, i), table) {
+        if all_shallow(s, at + i, 1, depth_at(depths, i), table) {
+            i += 1;
+        } else {
             return false;
         }
-        i += 1;
     }
     true
 }

@@ -64,7 +64,8 @@ fn source_shallow<'a>(file: &'a [u8], functions: &'a [u16], goal: Goal, least: D
     ensures { λ r. ⌜ r ≡ sourceShallow (now (file .entry)) (now (functions .entry)) (goalOf goal) (least .of) ⌝ }
 {
     let head = head_of(file, functions, goal.source);
-    all_roomy(file, head.parameters, head.count, goal.depths, least)
+    let depths = goal.depths;
+    all_roomy(file, head.parameters, head.count, depths, least)
 }
 
 // The type that NA names, where there is one, has the form of names.

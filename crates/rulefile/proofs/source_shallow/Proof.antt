@@ -6,11 +6,11 @@ use Rattle.rulefile.proofs.source_shallow.Statement.{statement}
 use Rattle.rulefile.proofs.source_shallow.Tie as tie
 
 all-roomy-requires : tie.Need-all-roomy-requires
-all-roomy-requires c κs = let near = c .head-of .ensures .1 in omega arith
+all-roomy-requires c κs = let near = c .before .head-of .ensures .1 in omega arith
 
 returns : tie.Need-returns
 returns c =
-    let head = c .before in
+    let head = c .before .before in
     rw (c .all-roomy .ensures, parameters-are _ (head .head-of .result) (head .head-of .ensures .0))
 
 pub source-shallow-spec : {M : Type 1} → statement M
