@@ -17,7 +17,15 @@ use Rattle.rows.specs.declared.Measured.{Measured}
 use Rattle.rows.specs.declared.Measured.the-variants as Measured
 use Rattle.rows.specs.Values.{ofValue, ofRow, mannerOf, valueAt, slotsAt}
 use Rattle.rows.specs.Stack.{joined}
-use Rattle.rows.proofs.Rows.{value-got, value-bad}
+use Rattle.rows.proofs.Rows.{value-got, value-bad, joined-none}
+
+-- at the beginning all of it is left
+pub slots-whole : (file types table list depths : List ℕ) (fields n at : ℕ)
+    → joined 0 (ofRow (slotsAt file types table depths (bytesAt file (fields + 0) (n - 0)) list at)) ≡ ofRow (slotsAt file types table depths (bytesAt file fields n) list at)
+slots-whole file types table list depths fields n at =
+    let place : fields + 0 ≡ fields = omega arith in
+    let all : n - 0 ≡ n = omega arith in
+    rw (place, all) (joined-none _)
 
 -- the values of n types that stand from a place of the file on, with a depth for each, from number i on
 module _ (file types table list depths : List ℕ) (fields n i at : ℕ) where
