@@ -1,4 +1,4 @@
-// Whether a list that is handed in is whole entries that fit its rule file: refusal 14. Rests on crates lookups, depths, entries and partials.
+// Whether a list that is handed in is whole entries that fit its rule file: refusal 14. Rests on crates lookups, goal, depths, entries and fitting.
 ghost use mathlib.Core.Path.{_≡_};
 ghost use mathlib.Core.Option.{some};
 ghost use Prim.Native.Nat.{_+_};
@@ -9,6 +9,7 @@ use entries::Size;
 use entries::size_at;
 use entries::word_at;
 use fitting::slots;
+use goal::Goal;
 use lookups::head_of;
 use rows::Measured;
 
@@ -18,20 +19,19 @@ fn entry_fits<'a>(
     types: &'a [u16],
     functions: &'a [u16],
     least: Depths,
-    source: usize,
-    depths: [u8; 8],
-    steps: usize,
+    goal: Goal,
     list: &'a [u8],
     at: usize,
     n: usize,
 ) -> bool
     requires { ⌜ entrySize (now list) at ≡ some n ⌝ }
-    ensures { λ r. ⌜ Told (entryAt (now (file .entry)) (now (types .entry)) (now (functions .entry)) (least .of) source depths steps (now (list .entry)) at) (at + n) r ⌝ }
+    ensures { λ r. ⌜ Told (entryAt (now (file .entry)) (now (types .entry)) (now (functions .entry)) (least .of) (goal .source) (goal .depths) (goal .steps) (now (list .entry)) at) (at + n) r ⌝ }
 {
-    if steps < word_at(list, at + 2) {
+    if goal.steps < word_at(list, at + 2) {
         return false;
     }
-    let head = head_of(file, functions, source);
+    let head = head_of(file, functions, goal.source);
+    let depths = goal.depths;
     let table = least.of;
     let Measured::At(place, _) = slots(
         file,
@@ -55,12 +55,10 @@ pub fn list_fits<'a>(
     types: &'a [u16],
     functions: &'a [u16],
     least: Depths,
-    source: usize,
-    depths: [u8; 8],
-    steps: usize,
+    goal: Goal,
     list: &'a [u8],
 ) -> bool
-    ensures { λ r. ⌜ FitsList (now (file .entry)) (now (types .entry)) (now (functions .entry)) (least .of) source depths steps (now (list .entry)) r ⌝ }
+    ensures { λ r. ⌜ FitsList (now (file .entry)) (now (types .entry)) (now (functions .entry)) (least .of) (goal .source) (goal .depths) (goal .steps) (now (list .entry)) r ⌝ }
 {
     let end = list.len();
     if 16777216 < end {
@@ -80,9 +78,7 @@ pub fn list_fits<'a>(
             types,
             functions,
             least,
-            source,
-            depths,
-            steps,
+            goal,
             list,
             at,
             n,

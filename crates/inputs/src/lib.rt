@@ -1,8 +1,9 @@
-// The depth of a closed input: its values read one after another, one for each parameter of the source, and nothing behind them. Rests on crates lookups and
-// partials.
+// The depth of a closed input: its values read one after another, one for each parameter of the source, and nothing behind them. Rests on crates lookups, goal and
+// fitting.
 ghost use mathlib.Core.Path.{_≡_};
 ghost use Rattle.inputs.specs.Depth.{readingOf, inputAt};
 use fitting::slots;
+use goal::Goal;
 use lookups::head_of;
 use rows::Measured;
 
@@ -18,13 +19,13 @@ pub fn input_depth<'a>(
     file: &'a [u8],
     types: &'a [u16],
     functions: &'a [u16],
-    source: usize,
-    depths: [u8; 8],
+    goal: Goal,
     input: &'a [u8],
 ) -> Reading
-    ensures { λ r. ⌜ r ≡ readingOf (inputAt (now (file .entry)) (now (types .entry)) (now (functions .entry)) source depths (now (input .entry))) ⌝ }
+    ensures { λ r. ⌜ r ≡ readingOf (inputAt (now (file .entry)) (now (types .entry)) (now (functions .entry)) (goal .source) (goal .depths) (now (input .entry))) ⌝ }
 {
-    let head = head_of(file, functions, source);
+    let head = head_of(file, functions, goal.source);
+    let depths = goal.depths;
     let row = slots(
         file,
         types,
