@@ -19,7 +19,7 @@ use Rattle.reach.specs.Words.{OfFile, stepsOf}
 use Rattle.reach.specs.Limits.{workWords}
 use Rattle.reach.specs.Syntax.{Program, sourceTypes}
 use Rattle.reach.specs.Parts.{Parts, end, opened, bound, depth, prefix}
-use Rattle.reach.specs.Types.{Typed, ClosedInput}
+use Rattle.reach.specs.Types.{depthOf, Typed, ClosedInput}
 use Rattle.reach.specs.Eval.{Run, reached, ended, unfinished, missing, halted, run, Spent}
 use Rattle.reach.specs.States.{MissingAfter}
 use Rattle.reach.specs.Input.{readInput}

@@ -14,7 +14,7 @@ use Rattle.reach.specs.Base.{Each}
 use Rattle.reach.specs.Limits.{fileLimit}
 use Rattle.reach.specs.Syntax.{Program, sourceTypes}
 use Rattle.reach.specs.Parts.{Parts, Completes, depth}
-use Rattle.reach.specs.Types.{ClosedInput, ValueOf}
+use Rattle.reach.specs.Types.{depthOf, ClosedInput, ValueOf}
 use Rattle.reach.specs.Eval.{run}
 use Rattle.reach.specs.Search.{Entry, says}
 use Rattle.reach.specs.Lists.{listBytes}

@@ -42,7 +42,7 @@ returns-2 c =
     let head = c .before .before .before .before .before .before .head-of in
     let told = rw (parameters-are _ (head .result) (head .ensures .0)) at (c .before .before .slots .ensures) in
     let is = c .enum-told .given .1 in
-    entry-told (args .file .now) (args .types .now) (args .functions .now) (args .least .of) (args .list .now) (args .goal .source) (args .goal .depths) (args .goal .steps) (args .at) (args .n) (c .before .before .before .before .before .before .before .before .before .before .before .before .before .before .pre) (omega (arith, c .before .before .before .before .before .before .before .before .before .word-at .ensures, c .before .before .before .before .before .before .before .if1 .left)) (λ e. clash (omega (arith, e, long (c .before .before .before .before .before .before .before .before .before .before .before .before)))) told false (λ place deep e. absurd (clash (cc (is, e)))) (λ e. refl)
+    entry-told (args .file .now) (args .types .now) (args .functions .now) (args .least .of) (args .list .now) (args .goal .source) (args .goal .depths) (args .goal .steps) (args .at) (args .n) (c .before .before .before .before .before .before .before .before .before .before .before .before .before .before .pre) (omega (arith, c .before .before .before .before .before .before .before .before .before .word-at .ensures, c .before .before .before .before .before .before .before .if1 .left)) (λ e. clash (omega (arith, e, long (c .before .before .before .before .before .before .before .before .before .before .before .before .before .before)))) told false (λ place deep e. absurd (clash (cc (is, e)))) (λ e. refl)
 
 add-result : tie.Need-add-result
 add-result c =
@@ -55,7 +55,7 @@ returns-3 c =
     let head = c .before .before .before .before .before .before .before .head-of in
     let told = rw (parameters-are _ (head .result) (head .ensures .0)) at (c .before .before .before .slots .ensures) in
     let is = c .before .place .given .1 in
-    entry-told (args .file .now) (args .types .now) (args .functions .now) (args .least .of) (args .list .now) (args .goal .source) (args .goal .depths) (args .goal .steps) (args .at) (args .n) (c .before .before .before .before .before .before .before .before .before .before .before .before .before .before .before .pre) (omega (arith, c .before .before .before .before .before .before .before .before .before .before .word-at .ensures, c .before .before .before .before .before .before .before .before .if1 .left)) (λ e. clash (omega (arith, e, long (c .before .before .before .before .before .before .before .before .before .before .before .before .before)))) told _
+    entry-told (args .file .now) (args .types .now) (args .functions .now) (args .least .of) (args .list .now) (args .goal .source) (args .goal .depths) (args .goal .steps) (args .at) (args .n) (c .before .before .before .before .before .before .before .before .before .before .before .before .before .before .before .pre) (omega (arith, c .before .before .before .before .before .before .before .before .before .before .word-at .ensures, c .before .before .before .before .before .before .before .before .if1 .left)) (λ e. clash (omega (arith, e, long (c .before .before .before .before .before .before .before .before .before .before .before .before .before .before .before)))) told _
     (λ place deep e. let same : c .before .place .given .0 .0 ≡ place = cc (is, e) in ap (λ (x : ℕ). eqb x (args .at + c .before .before .before .before .before .before .before .before .before .before .before .before .before .before .before .args .n)) same)
     (λ e. absurd (clash (cc (is, e))))
 
