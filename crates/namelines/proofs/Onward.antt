@@ -64,7 +64,7 @@ module _ (types : Types) (table : List ℕ) (named : ℕ) (legible : Legible typ
       → (next deep : ℕ) × (r ≡ Measured.At next deep) × (drop next list ≡ prefix (othersOf row) ++ stands .behind)
   next-place t ts at row stands {r} told =
       let first = first-stands types named list at t ts row stands in
-      let (v, next, is, there) = one-read types (inEntries (leastDepths types)) (λ e. Unit {0}) (entries-lawful types) (legible .apart) depthLimit list t at (firstOfRow row)
+      let (v, (next, is, there)) = one-read types (inEntries (leastDepths types)) (λ e. Unit {0}) (entries-lawful types) (legible .apart) depthLimit list t at (firstOfRow row)
       (first .behind) (first .typed) tt (first-deep t row (first .typed) (first .keeps)) (first .bytes) in
       let same = value-same types table (leastDepths types) (legible .least) depthLimit list t at in
       (next, deepOf v, told ∙ rw (manner-is table (legible .some-table), same, is) refl, there ∙ one-behind types named list at t ts row stands)
