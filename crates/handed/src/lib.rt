@@ -73,16 +73,7 @@ pub fn list_fits<'a>(
         let Size::Bytes(n) = size_at(list, at) else {
             return false;
         };
-        if !entry_fits(
-            file,
-            types,
-            functions,
-            least,
-            goal,
-            list,
-            at,
-            n,
-        ) {
+        if !entry_fits(file, types, functions, least, goal, list, at, n) {
             return false;
         }
         at = at + n;
