@@ -10,7 +10,7 @@ use Rattle.reach.specs.Syntax.{Types, fieldTypes}
 use Rattle.reach.specs.Parts.{Parts, end, opened, bound, Place, here, after, inside, at, There}
 use Rattle.reach.specs.Types.{Slot, slotsOf, fieldSlots, slotAt}
 use Rattle.reach.proofs.Base.{clash}
-use Rattle.reach.proofs.Slots.{slots-each}
+use Rattle.reach.proofs.Slots.{even-each}
 use Rattle.machine.specs.Cells.{cellWord, cellOf, Cells}
 
 -- no slot of the row is deeper
@@ -29,7 +29,7 @@ module _ (types : Types) (d : ℕ) where
   -- the fields of a part are no deeper than the part
   types-rooms : (us : Option (List ℕ)) {b : ℕ} → b ≤ d → AtMost d (slotsOf us b)
   types-rooms none h = tt
-  types-rooms (some us) h = slots-each _ us _ (λ t. h)
+  types-rooms (some us) h = even-each _ us _ (λ t. h)
 
   field-rooms : (ss : List Slot) (c : ℕ) → AtMost d ss → AtMost d (fieldSlots types (head? ss) c)
   unfolding fieldSlots

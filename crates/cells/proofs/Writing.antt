@@ -10,10 +10,10 @@ use native.Mathlib.Omega.{arith}
 use lib.ListN.{length, getD, getElem?, set, length-set}
 use lib.Seq.{getD-set-same, getD-set-other}
 use borrow.Author.Count.{below-more}
-use Rattle.reach.specs.Types.{Slot, slots}
+use Rattle.reach.specs.Types.{Slot, slots, evenSlots}
 use Rattle.reach.specs.Places.{bytesAt}
 use Rattle.reach.proofs.Places.{bytes-length}
-use Rattle.reach.proofs.Slots.{slots-nth}
+use Rattle.reach.proofs.Slots.{slots-nth, even-nth}
 use Rattle.machine.specs.Cells.{cellWord, SlotIn, Binds}
 use Rattle.cells.specs.Writes.{openCell, Opens}
 
@@ -100,22 +100,34 @@ opens-more {w} {v} {ss} {b} {n} s made slot fits = record {
 
 -- the same for a row of one depth whose types are bytes of the file, of which `more` are left: the next cell has the byte at the next place
 pub opens-next :
-    {w v v′ : List ℕ} {first k more t : ℕ} (file : List ℕ) (fields cell place room : ℕ) → Opens w v first (k - more) (slots (bytesAt file fields k) room)
+    {w v v′ : List ℕ} {first k more t : ℕ} (file : List ℕ) (fields cell place room : ℕ) → Opens w v first (k - more) (evenSlots (bytesAt file fields k) room)
     → 5 * (first + k) ≤ length w → 0 < more → more ≤ k → cell + more ≡ first + k → place + more ≡ fields + k → t ≡ getD file place 0
-    → v′ ≡ openCell v cell t room → Opens w v′ first (k - (more - 1)) (slots (bytesAt file fields k) room)
+    → v′ ≡ openCell v cell t room → Opens w v′ first (k - (more - 1)) (evenSlots (bytesAt file fields k) room)
 opens-next {first = first} {k} {more} file fields cell place room made fits some-left few here there read written =
     let n = k - more in
     let count : k - (more - 1) ≡ n + 1 = omega arith in
     let number : cell ≡ first + n = omega arith in
     let spot : place ≡ fields + n = omega arith in
     let typed : getD (bytesAt file fields k) n 0 ≡ getD file (fields + n) 0 = bytes-nth file fields k n (omega arith) in
-    let slot = slots-nth (bytesAt file fields k) room n (omega (arith, bytes-length file fields k)) in
+    let slot = even-nth (bytesAt file fields k) room n (omega (arith, bytes-length file fields k)) in
     rw (written, count, number, read, spot, ← typed) (opens-more _ made slot (omega (arith, made .same-length)))
+
+-- the same for the parameters, of which n are made: each has a depth of its own
+pub starts-next :
+    {w v v′ : List ℕ} {n t room : ℕ} (file : List ℕ) (fields k : ℕ) (depths : List ℕ) → Opens w v 0 n (slots (bytesAt file fields k) depths)
+    → 5 * k ≤ length w → n < k → t ≡ getD file (fields + n) 0 → room ≡ getD depths n 0
+    → v′ ≡ openCell v n t room → Opens w v′ 0 (n + 1) (slots (bytesAt file fields k) depths)
+starts-next {n = n} file fields k depths made fits some-left read deep written =
+    let number : 0 + n ≡ n = omega arith in
+    let typed : getD (bytesAt file fields k) n 0 ≡ getD file (fields + n) 0 = bytes-nth file fields k n (omega arith) in
+    let slot = slots-nth (bytesAt file fields k) depths n (omega (arith, bytes-length file fields k)) in
+    let more = opens-more _ made slot (omega (arith, made .same-length)) in
+    rw (written, read, deep, ← typed) (rw number at more)
 
 -- A bind: the head and the first field's cell are set, then the fields' cells are opened.
 pub binds :
     {w w′ ts : List ℕ} {x c top k below room : ℕ} → x < top → 5 * (top + k) ≤ length w → below ≡ room
-    → Opens (set (set w (5 * x) (c + 1)) (5 * x + 1) top) w′ top k (slots ts below) → Binds w w′ x c top k ts room
+    → Opens (set (set w (5 * x) (c + 1)) (5 * x + 1) top) w′ top k (evenSlots ts below) → Binds w w′ x c top k ts room
 binds {w} {w′} {ts} {x} {c} {top} {k} used fits same made = record {
   same-length = made .same-length ∙ simp length-set;
   new-head =

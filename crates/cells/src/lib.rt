@@ -1,19 +1,20 @@
 // The input's cells in the lent words: a row of open cells, an open cell bound to a constructor with fresh open fields, a bound
-// cell opened again. Rests on crates marks and machine.
+// cell opened again. Rests on crates marks, goal and machine.
 ghost use mathlib.Core.Path.{_≡_};
 ghost use Prim.Native.Nat.{_+_, _*_, _-_, _≤_, _<_};
 ghost use lib.ListN.{length, getD, set};
 ghost use Rattle.reach.specs.Places.{bytesAt};
-ghost use Rattle.reach.specs.Types.{slots};
+ghost use Rattle.reach.specs.Types.{slots, evenSlots};
 ghost use Rattle.machine.specs.Cells.{Binds, cellWord};
 ghost use Rattle.cells.specs.Writes.{openCell, Opens, Starts};
+use goal::depth_at;
 use machine::cell_word;
 use marks::byte_or_zero;
 
 // Makes k open cells from cell `first` on: their types stand from a place of the file on, and each may be so deep.
 fn open_cells(file: &[u8], work: &mut [u32], first: usize, fields: usize, k: usize, room: usize)
     requires { ⌜ (5 * (first + k) ≤ length (now work)) × (k ≤ 255) × (fields ≤ 1000000) × (room ≤ 255) ⌝ }
-    ensures { λ _. ⌜ Opens (now (work .entry)) (now (work .exit)) first k (slots (bytesAt (now (file .entry)) fields k) room) ⌝ }
+    ensures { λ _. ⌜ Opens (now (work .entry)) (now (work .exit)) first k (evenSlots (bytesAt (now (file .entry)) fields k) room) ⌝ }
 {
     let mut cell = first;
     let mut place = fields;
@@ -27,12 +28,17 @@ fn open_cells(file: &[u8], work: &mut [u32], first: usize, fields: usize, k: usi
     }
 }
 
-// Makes the cells of the source's n parameters, from cell 0 on: the input with every part open.
-pub fn start_cells(file: &[u8], work: &mut [u32], parameters: usize, n: usize, depth: usize)
-    requires { ⌜ (5 * n ≤ length (now work)) × (n ≤ 255) × (parameters ≤ 1000000) × (depth ≤ 255) ⌝ }
-    ensures { λ _. ⌜ Starts (now (work .entry)) (now (work .exit)) n (slots (bytesAt (now (file .entry)) parameters n) depth) ⌝ }
+// Makes the cells of the source's n parameters, from cell 0 on, each as deep as it may be: the input with every part open.
+pub fn start_cells(file: &[u8], work: &mut [u32], parameters: usize, n: usize, depths: [u8; 8])
+    requires { ⌜ (5 * n ≤ length (now work)) × (n ≤ 255) × (parameters ≤ 1000000) ⌝ }
+    ensures { λ _. ⌜ Starts (now (work .entry)) (now (work .exit)) n (slots (bytesAt (now (file .entry)) parameters n) depths) ⌝ }
 {
-    open_cells(file, work, 0, parameters, n, depth);
+    let mut i: usize = 0;
+    while i < n {
+        let t = byte_or_zero(file, parameters + i);
+        open_cell(work, i, t, depth_at(depths, i));
+        i += 1;
+    }
 }
 
 // Makes one open cell.

@@ -19,8 +19,7 @@ use Rattle.reach.specs.Input.{readInput, inputOf}
 use Rattle.reach.specs.Answers.{check, accepted, turnedBack, outcomeOf, runInput, runChecked, runAnswer}
 use Rattle.reach.proofs.Base.{clash}
 use Rattle.reach.proofs.Demands as Reach
-use Rattle.reach.proofs.Depths.{within-depth}
-use Rattle.reach.proofs.Limits.{accepted-keeps}
+use Rattle.reach.proofs.Limits.{accepted-keeps, within-limit}
 use Rattle.inputs.specs.declared.Reading.{Reading}
 use Rattle.inputs.specs.declared.Reading.the-variants as Reading
 use Rattle.inputs.specs.Depth.{inputAt, readingOf}
@@ -50,14 +49,14 @@ answer-refused file input work h = rw h
 
 module _ {file : List ℕ} {r : Loaded} {p : Program} (checked : check file ≡ accepted p) (t : Tabled file r p) where
   abbrev input-there : List ℕ → Option (Parts × ℕ)
-  input-there input = inputAt file (typePlaces r) (functionPlaces r) (r .goal .source) (r .goal .depth) input
+  input-there input = inputAt file (typePlaces r) (functionPlaces r) (r .goal .source) (r .goal .depths) input
 
   -- the types, the source's parameters and the goal that are handed on are the program's
   input-is : (input : List ℕ) → input-there input ≡ readInput p input
   unfolding readInput sourceSlots
   input-is input =
       let given = given-file checked t in
-      rw (program-goal t .source-is, program-goal t .depth-is, ← (given .file-of .types-there), ← (given .parameters-there))
+      rw (program-goal t .source-is, program-goal t .depths-are, ← (given .file-of .types-there), ← (given .parameters-there))
 
   -- an input that does not fit
   pub answer-bad : (input : List ℕ) (work : ℕ) → input-there input ≡ none → Answer.Refused BadInput ≡ answerOf (runAnswer file input work)
@@ -76,7 +75,7 @@ module _ {file : List ℕ} {r : Loaded} {p : Program} (checked : check file ≡ 
     pub deep-small : deep ≤ 64
     deep-small =
         let (within, same, is) = Reach.depth-exactly file p checked input j deep .0 read in
-        omega (arith, is, within-depth p j (within .0) .0 (within .1), accepted-keeps file p checked .depth-limit .1)
+        omega (arith, is, within-limit file p checked j within)
 
     -- too few words
     pub answer-short : (work : ℕ) → work < workWords (r .goal .steps) → Answer.Refused WorkTooShort ≡ answerOf (runAnswer file input work)

@@ -38,7 +38,7 @@ module _
     module _ (head : Head) (head-read : headOf file head ≡ headAt file (getD functions (goal .source) 0)) where
       begins-there :
           {w v w′ : List ℕ} {base : ℕ} → base ≡ recordsAt (goal .steps) → length w ≡ workWords (p .steps)
-          → Opened file w v base (head .parameters) (head .count) (goal .depth)
+          → Opened file w v base (head .parameters) (head .count) (goal .depths)
           → Noted file types input v w′ 0 (bytesAt file (head .parameters) (head .count)) 0
           → Underway file types functions input (goal .label) (goal .steps) w′ base (head .count) 0 (startRegisters (head .body)) p j (start p)
       begins-there {w} {v} {w′} {base} base-is long opened noted =
@@ -74,7 +74,7 @@ module _
 
       pub begins :
           {w v w′ : List ℕ} {base : ℕ} {from : Registers} → base ≡ recordsAt (goal .steps) → length w ≡ workWords (p .steps)
-          → from ≡ startRegisters (head .body) → Opened file w v base (head .parameters) (head .count) (goal .depth)
+          → from ≡ startRegisters (head .body) → Opened file w v base (head .parameters) (head .count) (goal .depths)
           → Noted file types input v w′ 0 (bytesAt file (head .parameters) (head .count)) 0
           → Underway file types functions input (goal .label) (goal .steps) w′ base (head .count) 0 from p j (start p)
       begins {w′ = w′} {base} base-is long from-is opened noted =

@@ -19,14 +19,14 @@ use Rattle.reach.specs.Words.{OfFile, stepsOf}
 use Rattle.reach.specs.Limits.{workWords}
 use Rattle.reach.specs.Syntax.{Program, sourceTypes}
 use Rattle.reach.specs.Parts.{Parts, end, opened, bound, depth, prefix}
-use Rattle.reach.specs.Types.{Typed, ClosedInput}
+use Rattle.reach.specs.Types.{depthOf, Typed, ClosedInput}
 use Rattle.reach.specs.Eval.{Run, reached, ended, unfinished, missing, halted, run, Spent}
 use Rattle.reach.specs.States.{MissingAfter}
 use Rattle.reach.specs.Input.{readInput}
 use Rattle.reach.specs.Answers.{Checked, accepted, turnedBack, check, RunAnswer, noRun, ran, outcomeOf, runInput, runChecked, runAnswer}
 use Rattle.reach.proofs.Base.{clash, picked}
 use Rattle.reach.proofs.Evaluation.{run-spent}
-use Rattle.reach.proofs.Depths.{within-depth}
+use Rattle.reach.proofs.Limits.{within-depth}
 use Rattle.reach.proofs.Demands as Reach
 use Rattle.reach.proofs.Refusals.{turned-back-by}
 use Rattle.running.specs.Looked.{LookedAt}
@@ -142,7 +142,7 @@ module _ (file input work work′ : List ℕ) (r : Answer) (call : Promised file
 
     -- 02, Slip 3: "the check for refusal 10 [relies] on the new figure": bytes of closed values of the parameters' types are refused exactly if the deepest
     -- of them is deeper than D.
-    pub too-deep-exactly : (j : Parts) → ClosedInput p j → prefix j ≡ input → (r ≡ Answer.Refused BadInput) ↔ (p .depth < depth j)
+    pub too-deep-exactly : (j : Parts) → ClosedInput p j → prefix j ≡ input → (r ≡ Answer.Refused BadInput) ↔ (depthOf (p .depths) < depth j)
     too-deep-exactly j values same = (
       λ is. Reach.too-deep-exactly file p checked input j values same .0 (unread (runAnswer file input (length work)) means (sym (call .answer-is) ∙ is)),
       λ deep. bad-exactly .1 (λ k other. absurd (clash (cc (reads-as k other, Reach.too-deep-exactly file p checked input j values same .1 deep)))),
@@ -191,10 +191,10 @@ module _ (file input work work′ : List ℕ) (r : Answer) (call : Promised file
     )
 
     -- 02, Slip 3: no depth is answered above D, and of an input without parameters 0.
-    pub depth-within : (o : Outcome) (deep : ℕ) → r ≡ Answer.Ran o deep → deep ≤ p .depth
+    pub depth-within : (o : Outcome) (deep : ℕ) → r ≡ Answer.Ran o deep → deep ≤ depthOf (p .depths)
     depth-within o deep is =
         let (j, (within, same), enough, ends, as-deep) = ran-exactly o deep .0 is in
-        omega (arith, as-deep, within-depth p j (within .0) .0 (within .1))
+        omega (arith, as-deep, within-depth file p checked j (within .0) .0 (within .1))
 
     pub depth-none : (o : Outcome) (deep : ℕ) → sourceTypes p ≡ [] → r ≡ Answer.Ran o deep → deep ≡ 0
     unfolding depth

@@ -41,7 +41,7 @@ fn evaluate<'a>(
     let head = head_of(file, functions, goal.source);
     let first = head.parameters;
     let n = head.count;
-    let from = open_input(file, work, base, head, goal.depth);
+    let from = open_input(file, work, base, head, goal);
     note_values(file, types, input, work, 0, first, n, 0);
     go_on(
         file,
@@ -76,8 +76,7 @@ pub fn run<'a>(file: &'a [u8], input: &'a [u8], work: &mut [u32]) -> Answer
         file,
         &type_at[..types],
         &function_at[..functions],
-        goal.source,
-        goal.depth,
+        goal,
         input,
     ) else {
         return Answer::Refused(Refusal::BadInput);

@@ -7,7 +7,7 @@ use mathlib.Core.Path.{_≡_, refl, sym, ap, _∙_}
 use mathlib.Core.List.{List, [], _∷_, _++_}
 use lib.ListN.{length, getD, take, drop, replicate, length-append, length-replicate, length-take, drop-of-length-le}
 use lib.Seq.{take-append-seam, drop-append-seam, drop-cons, getD-take, length-take-le}
-use Rattle.reach.specs.Types.{known, inhabited, shallow}
+use Rattle.reach.specs.Types.{Slot, known, inhabited, shallow, roomy}
 use Rattle.depths.specs.Table.{padded}
 
 -- ---- the tests see a table only through its lookups
@@ -27,6 +27,11 @@ module _ (a b : List ℕ) (same : (t : ℕ) → getD a t 0 ≡ getD b t 0) where
   unfolding shallow
   shallow-same d [] = refl
   shallow-same d (t ∷ ts) = rw (same t, shallow-same d ts)
+
+  roomy-same : (ss : List Slot) → roomy a ss ≡ roomy b ss
+  unfolding roomy
+  roomy-same [] = refl
+  roomy-same (s ∷ ss) = rw (shallow-same (s .room) (s .type ∷ []), roomy-same ss)
 
 zeros-after : (table : List ℕ) (n t : ℕ) → getD (table ++ replicate n 0) t 0 ≡ getD table t 0
 zeros-after [] zero t = refl
@@ -48,6 +53,9 @@ module _ (table : List ℕ) where
 
   pub padded-shallow : (d : ℕ) (us : List ℕ) → shallow (padded table) d us ≡ shallow table d us
   padded-shallow = shallow-same (padded table) table padded-lookup
+
+  pub padded-roomy : (ss : List Slot) → roomy (padded table) ss ≡ roomy table ss
+  padded-roomy = roomy-same (padded table) table padded-lookup
 
   -- ---- the table and the zeros behind it
 

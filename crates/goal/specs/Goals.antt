@@ -10,7 +10,7 @@ use Rattle.goal.specs.declared.Named.{Named}
 use Rattle.goal.specs.declared.Named.the-variants as Named
 
 abbrev pub goalOf : Goal → RuleFile.Goal
-goalOf g = record { source = g .source; label = g .label; depth = g .depth; steps = g .steps }
+goalOf g = record { source = g .source; label = g .label; depths = g .depths; steps = g .steps }
 
 abbrev pub namedOf : Named → Option ℕ
 namedOf Named.Nothing = none
@@ -20,5 +20,5 @@ namedOf (Named.Type t) = some t
 pub record Asks (g : Goal) (p : Program) : Type 0 where
   pub source-is : g .source ≡ p .source
   pub label-is : g .label ≡ p .label
-  pub depth-is : g .depth ≡ p .depth
+  pub depths-are : g .depths ≡ p .depths
   pub steps-is : g .steps ≡ p .steps

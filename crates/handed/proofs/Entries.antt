@@ -31,7 +31,7 @@ use Rattle.rows.proofs.Rows.{manner-entries}
 use Rattle.handed.specs.Fits.{entryAt, Told}
 
 -- The entry of n bytes at a place.
-module _ (file types functions table list : List ℕ) (source depth limit at n : ℕ) (size : entrySize list at ≡ some n) where
+module _ (file types functions table list : List ℕ) (source : ℕ) (depths : List ℕ) (limit at n : ℕ) (size : entrySize list at ≡ some n) where
   abbrev parameters : List ℕ
   parameters = (headAt file (getD functions source 0)) .parameters
 
@@ -40,12 +40,12 @@ module _ (file types functions table list : List ℕ) (source depth limit at n :
       let (kind, long, known, is, inside) = size-told list at n size in
       (long, inside)
 
-  pub entry-late : limit < wordAt list (at + 2) → (why : Refusal) × (entryAt file types functions table source depth limit list at ≡ refused why)
+  pub entry-late : limit < wordAt list (at + 2) → (why : Refusal) × (entryAt file types functions table source depths limit list at ≡ refused why)
   entry-late late =
       let (kind, long, known, is, inside) = size-told list at n size in
-      (BadList, headed (map (typeAt file) types) table (slots parameters depth) limit list at kind long known ∙ rw (lt-leb (wordAt list (at + 2)) limit late) refl)
+      (BadList, headed (map (typeAt file) types) table (slots parameters depths) limit list at kind long known ∙ rw (lt-leb (wordAt list (at + 2)) limit late) refl)
 
-  module _ (early : wordAt list (at + 2) ≤ limit) (full : length table ≡ 0 → ⊥) {b : Measured} (told : b ≡ ofRow (slotsAt file types table depth parameters list (at + 6))) where
+  module _ (early : wordAt list (at + 2) ≤ limit) (full : length table ≡ 0 → ⊥) {b : Measured} (told : b ≡ ofRow (slotsAt file types table depths parameters list (at + 6))) where
     by-parameters : (g : Got (Parts × ℕ)) → ofRow g ≡ b → (kind : Kind) → n ≡ 6 + wordAt list (at + 4)
         → (answer : Bool) → ((place deep : ℕ) → b ≡ Measured.At place deep → answer ≡ eqb place (at + n)) → (b ≡ Measured.Bad → answer ≡ false)
         → Told (onGot {B = Got Entry} (λ row next. got (record { kind = kind; steps = wordAt list (at + 2); input = row .0 }) next) (λ why. refused why)
@@ -64,10 +64,10 @@ module _ (file types functions table list : List ℕ) (source depth limit at n :
         by-test false e = (BadList, refl)
 
     pub entry-told : (answer : Bool) → ((place deep : ℕ) → b ≡ Measured.At place deep → answer ≡ eqb place (at + n)) → (b ≡ Measured.Bad → answer ≡ false)
-        → Told (entryAt file types functions table source depth limit list at) (at + n) answer
+        → Told (entryAt file types functions table source depths limit list at) (at + n) answer
     unfolding spanning
     entry-told answer at-place bad =
         let (kind, long, known, is, inside) = size-told list at n size in
-        rw (headed (map (typeAt file) types) table (slots parameters depth) limit list at kind long known, le-leb (wordAt list (at + 2)) limit early)
-        (by-parameters (slotted (map (typeAt file) types) (inEntries table) depthLimit (slots parameters depth) list (at + 6))
+        rw (headed (map (typeAt file) types) table (slots parameters depths) limit list at kind long known, le-leb (wordAt list (at + 2)) limit early)
+        (by-parameters (slotted (map (typeAt file) types) (inEntries table) depthLimit (slots parameters depths) list (at + 6))
         (rw (← (manner-entries table full)) (sym told)) kind is answer at-place bad)

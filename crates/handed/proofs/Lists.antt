@@ -31,13 +31,13 @@ found-is : (g : Got (List Entry)) → onFound false (λ es. true) (onGot {B = Op
 found-is (got es next) = refl
 found-is (refused why) = refl
 
-module _ {file types functions table : List ℕ} {source depth steps : ℕ} {p : Program} (given : Given file types functions table source depth steps p) (list : List ℕ) where
+module _ {file types functions table : List ℕ} {source : ℕ} {depths : List ℕ} {steps : ℕ} {p : Program} (given : Given file types functions table source depths steps p) (list : List ℕ) where
   -- the file's entries are read as the places tell
-  pub entry-is : (i : ℕ) → entry p list i ≡ entryAt file types functions table source depth steps list i
+  pub entry-is : (i : ℕ) → entry p list i ≡ entryAt file types functions table source depths steps list i
   unfolding sourceSlots
   entry-is i =
       entry-same (p .types) (leastDepths (p .types)) table (given .table-is) (sourceSlots p) (p .steps) list i
-      ∙ rw (given .source-there, given .depth-is, given .steps-are, given .types-there) refl
+      ∙ rw (given .source-there, given .depths-are, given .steps-are, given .types-there) refl
 
   abbrev from : ℕ → ℕ → Bool
   from more at = found (entriesBy (entry p) more list at)
@@ -76,16 +76,16 @@ module _ {file types functions table : List ℕ} {source depth steps : ℕ} {p :
         let (why, e) = none-read p list bytes at (omega arith) size in
         unread why e
 
-    pub unfit : (n : ℕ) (answer : Bool) → Told (entryAt file types functions table source depth steps list at) n answer → answer ≡ false → from more at ≡ false
+    pub unfit : (n : ℕ) (answer : Bool) → Told (entryAt file types functions table source depths steps list at) n answer → answer ≡ false → from more at ≡ false
     unfit n answer told is =
-        let (why, e) = subst (Told (entryAt file types functions table source depth steps list at) n) is told in
+        let (why, e) = subst (Told (entryAt file types functions table source depths steps list at) n) is told in
         unread why (entry-is at ∙ e)
 
-    pub fit : (n : ℕ) (answer : Bool) → Told (entryAt file types functions table source depth steps list at) n answer → answer ≡ true
+    pub fit : (n : ℕ) (answer : Bool) → Told (entryAt file types functions table source depths steps list at) n answer → answer ≡ true
         → from more at ≡ from (more - 1) n
     unfolding entriesBy
     fit n answer told is =
-        let (e, read) = subst (Told (entryAt file types functions table source depth steps list at) n) is told in
+        let (e, read) = subst (Told (entryAt file types functions table source depths steps list at) n) is told in
         subst (λ (m : ℕ). from m at ≡ from (more - 1) n) less
         (rw (lt-leb (length list) at inside, entry-is at ∙ read) (by-rest e (entriesBy (entry p) (more - 1) list n)))
       where

@@ -16,9 +16,9 @@ use Rattle.reach.specs.Handed.{entryBy, handed}
 use Rattle.reach.specs.Places.{typeAt, headAt}
 
 -- an entry of a source's list
-abbrev pub entryAt : List ℕ → List ℕ → List ℕ → List ℕ → ℕ → ℕ → ℕ → Reader Entry
-entryAt file types functions table source depth steps =
-    entryBy (map (typeAt file) types) table (slots ((headAt file (getD functions source 0)) .parameters) depth) steps
+abbrev pub entryAt : List ℕ → List ℕ → List ℕ → List ℕ → ℕ → List ℕ → ℕ → Reader Entry
+entryAt file types functions table source depths steps =
+    entryBy (map (typeAt file) types) table (slots ((headAt file (getD functions source 0)) .parameters) depths) steps
 
 -- it was read up to this place, or not
 abbrev pub Told : Got Entry → ℕ → Bool → Type 0
@@ -26,15 +26,15 @@ Told g next true = (e : Entry) × (g ≡ got e next)
 Told g next false = (why : Refusal) × (g ≡ refused why)
 
 -- The tables and the goal are those of an accepted file.
-pub record Given (file types functions table : List ℕ) (source depth steps : ℕ) (p : Program) : Type 0 where
+pub record Given (file types functions table : List ℕ) (source : ℕ) (depths : List ℕ) (steps : ℕ) (p : Program) : Type 0 where
   pub checked : check file ≡ accepted p
   pub types-there : p .types ≡ map (typeAt file) types
   pub source-there : sourceTypes p ≡ (headAt file (getD functions source 0)) .parameters
-  pub depth-is : p .depth ≡ depth
+  pub depths-are : p .depths ≡ depths
   pub steps-are : p .steps ≡ steps
   pub table-is : (t : ℕ) → getD (leastDepths (p .types)) t 0 ≡ getD table t 0
 
 -- refusal 14 is not given: the list is read as entries
-abbrev pub FitsList : List ℕ → List ℕ → List ℕ → List ℕ → ℕ → ℕ → ℕ → List ℕ → Bool → Type 0
-FitsList file types functions table source depth steps list r =
-    (p : Program) → Given file types functions table source depth steps p → r ≡ onFound false (λ es. true) (handed p list)
+abbrev pub FitsList : List ℕ → List ℕ → List ℕ → List ℕ → ℕ → List ℕ → ℕ → List ℕ → Bool → Type 0
+FitsList file types functions table source depths steps list r =
+    (p : Program) → Given file types functions table source depths steps p → r ≡ onFound false (λ es. true) (handed p list)

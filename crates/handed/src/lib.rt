@@ -1,4 +1,4 @@
-// Whether a list that is handed in is whole entries that fit its rule file: refusal 14. Rests on crates lookups, depths, entries and partials.
+// Whether a list that is handed in is whole entries that fit its rule file: refusal 14. Rests on crates lookups, goal, depths, entries and fitting.
 ghost use mathlib.Core.Path.{_≡_};
 ghost use mathlib.Core.Option.{some};
 ghost use Prim.Native.Nat.{_+_};
@@ -6,32 +6,32 @@ ghost use Rattle.reach.specs.Lists.{entrySize};
 ghost use Rattle.handed.specs.Fits.{entryAt, Told, FitsList};
 use depths::Depths;
 use fitting::slots;
+use goal::Goal;
 use lookups::head_of;
 use rows::Measured;
 use sizes::Size;
 use sizes::size_at;
 use sizes::word_at;
 
-// The entry of n bytes at a place has at most so many steps, and a value for each parameter of the source, at most so deep.
+// The entry of n bytes at a place has at most so many steps, and a value for each parameter of the source, at most as deep as it may be.
 fn entry_fits<'a>(
     file: &'a [u8],
     types: &'a [u16],
     functions: &'a [u16],
     least: Depths,
-    source: usize,
-    depth: usize,
-    steps: usize,
+    goal: Goal,
     list: &'a [u8],
     at: usize,
     n: usize,
 ) -> bool
     requires { ⌜ entrySize (now list) at ≡ some n ⌝ }
-    ensures { λ r. ⌜ Told (entryAt (now (file .entry)) (now (types .entry)) (now (functions .entry)) (least .of) source depth steps (now (list .entry)) at) (at + n) r ⌝ }
+    ensures { λ r. ⌜ Told (entryAt (now (file .entry)) (now (types .entry)) (now (functions .entry)) (least .of) (goal .source) (goal .depths) (goal .steps) (now (list .entry)) at) (at + n) r ⌝ }
 {
-    if steps < word_at(list, at + 2) {
+    if goal.steps < word_at(list, at + 2) {
         return false;
     }
-    let head = head_of(file, functions, source);
+    let head = head_of(file, functions, goal.source);
+    let depths = goal.depths;
     let table = least.of;
     let Measured::At(place, _) = slots(
         file,
@@ -41,7 +41,7 @@ fn entry_fits<'a>(
         at + 6,
         head.parameters,
         head.count,
-        depth,
+        depths,
     ) else {
         return false;
     };
@@ -55,12 +55,10 @@ pub fn list_fits<'a>(
     types: &'a [u16],
     functions: &'a [u16],
     least: Depths,
-    source: usize,
-    depth: usize,
-    steps: usize,
+    goal: Goal,
     list: &'a [u8],
 ) -> bool
-    ensures { λ r. ⌜ FitsList (now (file .entry)) (now (types .entry)) (now (functions .entry)) (least .of) source depth steps (now (list .entry)) r ⌝ }
+    ensures { λ r. ⌜ FitsList (now (file .entry)) (now (types .entry)) (now (functions .entry)) (least .of) (goal .source) (goal .depths) (goal .steps) (now (list .entry)) r ⌝ }
 {
     let end = list.len();
     if 16777216 < end {
@@ -75,18 +73,7 @@ pub fn list_fits<'a>(
         let Size::Bytes(n) = size_at(list, at) else {
             return false;
         };
-        if !entry_fits(
-            file,
-            types,
-            functions,
-            least,
-            source,
-            depth,
-            steps,
-            list,
-            at,
-            n,
-        ) {
+        if !entry_fits(file, types, functions, least, goal, list, at, n) {
             return false;
         }
         at = at + n;

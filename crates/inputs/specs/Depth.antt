@@ -12,10 +12,10 @@ use Rattle.reach.specs.Places.{typeAt, headAt}
 use Rattle.inputs.specs.declared.Reading.{Reading}
 use Rattle.inputs.specs.declared.Reading.the-variants as Reading
 
--- the input and its depth, each parameter of the source at most so deep
-abbrev pub inputAt : List ℕ → List ℕ → List ℕ → ℕ → ℕ → List ℕ → Option (Parts × ℕ)
-inputAt file types functions source depth input =
-    inputBy depthLimit (map (typeAt file) types) (slots ((headAt file (getD functions source 0)) .parameters) depth) input
+-- the input and its depth, each parameter of the source at most as deep as these depths say
+abbrev pub inputAt : List ℕ → List ℕ → List ℕ → ℕ → List ℕ → List ℕ → Option (Parts × ℕ)
+inputAt file types functions source depths input =
+    inputBy depthLimit (map (typeAt file) types) (slots ((headAt file (getD functions source 0)) .parameters) depths) input
 
 -- an input that was read, with its values forgotten
 abbrev pub readingOf : Option (Parts × ℕ) → Reading

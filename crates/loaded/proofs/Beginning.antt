@@ -108,9 +108,6 @@ module _ {file types functions : List ℕ} {goal : Goal} {p : Program} (given : 
     pub parameters-few : head .count ≤ 8
     parameters-few = omega (arith, many, accepted-keeps file p (given .checked) .parameters-limit)
 
-    pub deep-small : goal .depth ≤ 255
-    deep-small = omega (arith, asks .depth-is, accepted-keeps file p (given .checked) .depth-limit .1)
-
     -- the source's body
     body : (g : Function) × (functionAt p (p .source) ≡ some g) × Code file (declarationsOf file types functions) (head .body) (g .body)
     body =
@@ -122,13 +119,13 @@ module _ {file types functions : List ℕ} {goal : Goal} {p : Program} (given : 
 
     module _ (w : List ℕ) {base : ℕ} (base-is : base ≡ recordsAt (goal .steps)) (long : length w ≡ workWords (p .steps)) where
       -- the parameters' cells and the first records have room in the words
-      pub opens : NearHead head → (5 * head .count ≤ base) × (base + 12 ≤ length w) × (head .count ≤ 255) × (head .parameters ≤ 1000000) × (goal .depth ≤ 255)
+      pub opens : NearHead head → (5 * head .count ≤ base) × (base + 12 ≤ length w) × (head .count ≤ 255) × (head .parameters ≤ 1000000)
       opens near =
           let few = parameters-few in
-          (omega arith, omega (arith, asks .steps-is), omega arith, omega arith, deep-small)
+          (omega arith, omega (arith, asks .steps-is), omega arith, omega arith)
 
       pub opened-stands :
-          {w′ : List ℕ} → Opened file w w′ base (head .parameters) (head .count) (goal .depth)
+          {w′ : List ℕ} → Opened file w w′ base (head .parameters) (head .count) (goal .depths)
           → StandsFor file types functions p w′ base (head .count) (startRegisters (head .body)) (allOpen (head .count)) (start p)
       unfolding sourceSlots
       opened-stands {w′} opened =
@@ -136,10 +133,10 @@ module _ {file types functions : List ℕ} {goal : Goal} {p : Program} (given : 
           let limited = limit-few in
           let same : length (opened .w₁) ≡ length w = opened .starts .same-length in
           let open-there : Cells (p .types) (sourceSlots p) (opened .w₁) (head .count) (allOpen (head .count)) =
-          rw (source-parameters, asks .depth-is) at (opened .starts .stands (p .types)) in
+          rw (source-parameters, asks .depths-are) at (opened .starts .stands (p .types)) in
           stands-start p base (head .body) (head .count) (body .0) (body .1) (body .2) many (omega arith) (omega arith)
           (omega (arith, asks .steps-is)) (omega (arith, asks .steps-is)) open-there (opened .zeros) (opened .group) (steps-in p (allOpen (head .count)) (open-width (head .count) ∙ many) no-step)
           (steps-sound file p (given .checked) (allOpen (head .count)) typed no-step)
 
-      pub opened-length : {w′ : List ℕ} → Opened file w w′ base (head .parameters) (head .count) (goal .depth) → length w′ ≡ length w
+      pub opened-length : {w′ : List ℕ} → Opened file w w′ base (head .parameters) (head .count) (goal .depths) → length w′ ≡ length w
       opened-length opened = opened .group .only-top .same-length ∙ opened .zeros .only-top .same-length ∙ opened .starts .same-length

@@ -11,8 +11,10 @@ use native.Mathlib.Numerals.{add-one}
 use native.Mathlib.Omega.{arith}
 use Rattle.reach.specs.RuleFile as RuleFile
 use Rattle.reach.specs.Syntax.{fieldTypes}
+use Rattle.reach.specs.Types.{slots}
 use Rattle.reach.specs.Places.{bytesAt, constructorsAt, typeAt}
 use Rattle.reach.proofs.Places.{bytes-length}
+use Rattle.reach.proofs.Slots.{slots-from}
 use Rattle.lookups.specs.declared.Fields.{Fields}
 use Rattle.lookups.specs.declared.Fields.the-variants as Fields
 use Rattle.lookups.specs.declared.Head.{Head}
@@ -54,6 +56,19 @@ module _ (s : List ℕ) where
   unfolding bytesAt
   bytes-none i zero h = refl
   bytes-none i (suc n) h = absurd (omega arith)
+
+  -- the slots of n types that stand from a place on, with a depth for each: the one of number i, and those behind it
+  pub slots-more : (at n i : ℕ) (ds : List ℕ) → i < n
+      → slots (bytesAt s (at + i) (n - i)) (drop i ds)
+      ≡ record { type = getD s (at + i) 0; room = getD ds i 0 } ∷ slots (bytesAt s (at + (i + 1)) (n - (i + 1))) (drop (i + 1) ds)
+  slots-more at n i ds h =
+      let place : at + i + 1 ≡ at + (i + 1) = omega arith in
+      let left : n - i - 1 ≡ n - (i + 1) = omega arith in
+      rw (bytes-more (at + i) (n - i) (omega arith), place, left) (slots-from _ _ ds i)
+
+  pub slots-none : (at n i : ℕ) (ds : List ℕ) → n ≤ i → slots (bytesAt s (at + i) (n - i)) (drop i ds) ≡ []
+  unfolding slots
+  slots-none at n i ds h = rw (bytes-none (at + i) (n - i) (omega arith)) refl
 
   -- the first of the constructors from a place on
   pub constructors-more : (i n : ℕ) → 0 < n

@@ -12,7 +12,7 @@ use native.Mathlib.Omega.{arith}
 use lib.ListN.{length, getD, getElem?, length-append}
 use Rattle.reach.specs.Syntax.{Types, fieldTypes}
 use Rattle.reach.specs.Parts.{Parts, end, opened, bound, allOpen, Place, here, after, inside, part, within, Seen, gone, free, has, at, bindAt, HasAt, prefix, There}
-use Rattle.reach.specs.Types.{Slot, slots, fieldSlots, slotAt}
+use Rattle.reach.specs.Types.{Slot, evenSlots, fieldSlots, slotAt}
 use Rattle.reach.proofs.Slots.{part-slot, field-slots}
 use Rattle.reach.proofs.Order.{constructorOf, free-unbound, ⊑-width, bind-refines, open-width, open-unbound, bind-has, bind-new}
 use Rattle.machine.specs.Cells.{cellWord, cellFrom, cellOf, SlotIn, Cells, OpenCells, Binds, KeptBut, Unmoved}
@@ -285,7 +285,7 @@ bind-cells {types} {ss} {w} {w′} {us} {top} {c} {k} {d} {e} {s} q cells unboun
         let number : c ≡ b = ap constructorOf (sym (bind-has q c k e unbound) ∙ ap (at (bindAt q c k e)) (sym same) ∙ h) in
         rw (same, old q (free-there unbound), ← number) (binds .new-head)
 
-    field-slot : (r : Place) (f : OneOf k (field q) r) → slotAt types (bindAt q c k e) r ss ≡ getElem? (slots us d) (f .0)
+    field-slot : (r : Place) (f : OneOf k (field q) r) → slotAt types (bindAt q c k e) r ss ≡ getElem? (evenSlots us d) (f .0)
     field-slot r f = rw (f .2, ← field-slots types s c d us (omega (arith, room)) typed, ← known) (bind-field-slot types q c k (f .0) e ss unbound (f .1))
 
     slot-of : (r : Place) (z : Slot) → slotAt types (bindAt q c k e) r ss ≡ some z → There (at e r) ⊎ OneOf k (field q) r → SlotIn w′ (cellOf w′ r) z

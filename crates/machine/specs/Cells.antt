@@ -8,7 +8,7 @@ use mathlib.Core.Option.{some}
 use lib.ListN.{length, getD, getElem?}
 use Rattle.reach.specs.Syntax.{Types}
 use Rattle.reach.specs.Parts.{Parts, Place, here, after, inside, free, has, at, prefix, There}
-use Rattle.reach.specs.Types.{Slot, slots, slotAt}
+use Rattle.reach.specs.Types.{Slot, evenSlots, slotAt}
 
 -- word k of cell x: 0 is 0 for an open part, or 1 more than the constructor's number; 1 the cell of the first field, where it is bound;
 -- 2 the type; 3 the depth that it may have; 4 the place of its value in the bytes of a closed input
@@ -49,7 +49,7 @@ pub record Binds (w w′ : List ℕ) (x c top k : ℕ) (us : List ℕ) (room : �
   pub same-length : length w′ ≡ length w
   pub new-head : cellWord w′ x 0 ≡ suc c
   pub first-field : cellWord w′ x 1 ≡ top
-  pub fields : OpenCells w′ top k (slots us room)
+  pub fields : OpenCells w′ top k (evenSlots us room)
   pub elsewhere : (i : ℕ) → i ≢ 5 * x → i ≢ 5 * x + 1 → (5 * top ≤ i → 5 * (top + k) ≤ i) → getD w′ i 0 ≡ getD w i 0
 
 -- The words of the first `top` cells are as before, but for words 0 and 1 of cell x.

@@ -48,89 +48,89 @@ entry-longer : (e : Entry) → length (prefix (e .input)) ≤ length (entryBytes
 entry-longer e = omega (arith, ap length (behind-header e []), ap length (append-nil (entryBytes e)), ap length (append-nil (prefix (e .input))), length-drop 6 (entryBytes e ++ []))
 
 -- the lines of entries are at most four times as long as the entries
-pub names-length : (types : Types) (depth named : ℕ) → Spells types named → (ts : List ℕ) (es : List Entry) → Each (Fitted types depth ts) es
-    → length (flatMap (λ e. rowNames types depth named ts (e .input)) es) ≤ 4 * length (listBytes es)
+pub names-length : (types : Types) (named : ℕ) → Spells types named → (ts : List ℕ) (es : List Entry) → Each (Fitted types ts) es
+    → length (flatMap (λ e. rowNames types named ts (e .input)) es) ≤ 4 * length (listBytes es)
 unfolding listBytes flatMap
-names-length types depth named spells ts [] all = omega arith
-names-length types depth named spells ts (e ∷ es) (first, all) =
+names-length types named spells ts [] all = omega arith
+names-length types named spells ts (e ∷ es) (first, all) =
     omega (
       arith,
-      names-short types depth named spells (e .input) ts (first .typed) (first .fillable) (first .keeps),
+      names-short types named spells (e .input) ts (first .typed) (first .fillable) (first .keeps),
       entry-longer e,
-      names-length types depth named spells ts es all,
-      length-append (rowNames types depth named ts (e .input)) (flatMap (λ e. rowNames types depth named ts (e .input)) es),
+      names-length types named spells ts es all,
+      length-append (rowNames types named ts (e .input)) (flatMap (λ e. rowNames types named ts (e .input)) es),
       length-append (entryBytes e) (flatMap entryBytes es),
     )
 
-module _ (types : Types) (table : List ℕ) (depth named : ℕ) (legible : Legible types table depth named) (ts : List ℕ) where
+module _ (types : Types) (table : List ℕ) (named : ℕ) (legible : Legible types table named) (ts : List ℕ) where
   -- the lines of these entries
   abbrev pub namesOf : List Entry → List ℕ
-  namesOf es = flatMap (λ e. rowNames types depth named ts (e .input)) es
+  namesOf es = flatMap (λ e. rowNames types named ts (e .input)) es
 
   -- an entry's parameters, alone
-  alone : (e : Entry) → Fitted types depth ts e → RowStands types depth ts (prefix (e .input)) 0 (e .input)
+  alone : (e : Entry) → Fitted types ts e → RowStands types ts (prefix (e .input)) 0 (e .input)
   alone e fitted = record { typed = fitted .typed; keeps = fitted .keeps; fillable = fitted .fillable; behind = []; bytes = sym (append-nil (prefix (e .input))) }
 
-  said-names : (es : List Entry) → Each (Fitted types depth ts) es → flatMap (decodedNames types depth named ts) (map sayingOf es) ≡ namesOf es
+  said-names : (es : List Entry) → Each (Fitted types ts) es → flatMap (decodedNames types named ts) (map sayingOf es) ≡ namesOf es
   unfolding flatMap
   said-names [] all = refl
-  said-names (e ∷ es) (first, all) = rw (row-read types table depth named legible ts (prefix (e .input)) 0 (e .input) (alone e first), said-names es all) refl
+  said-names (e ∷ es) (first, all) = rw (row-read types table named legible ts (prefix (e .input)) 0 (e .input) (alone e first), said-names es all) refl
 
   -- the names of a list's bytes are those of its entries
-  pub names-are : (list : List ℕ) (es : List Entry) → listBytes es ≡ list → Each (Fitted types depth ts) es → listNames types depth named ts list ≡ namesOf es
+  pub names-are : (list : List ℕ) (es : List Entry) → listBytes es ≡ list → Each (Fitted types ts) es → listNames types named ts list ≡ namesOf es
   names-are list es are all =
-      let decoded = decoded-from es [] (length list) (λ e m. each-member (Fitted types depth ts) all m .counted) (λ e m. each-member (Fitted types depth ts) all m .in-time)
+      let decoded = decoded-from es [] (length list) (λ e m. each-member (Fitted types ts) all m .counted) (λ e m. each-member (Fitted types ts) all m .in-time)
       (omega (arith, list-some es, ap length are)) in
-      ap (flatMap (decodedNames types depth named ts)) (rw are at decoded) ∙ said-names es all
+      ap (flatMap (decodedNames types named ts)) (rw are at decoded) ∙ said-names es all
 
 -- What is left of a list: its entries stand from this place on, and their names are still to be written.
-pub record Going (types : Types) (depth named : ℕ) (ts list text whole now-text : List ℕ) (at to : ℕ) : Type 0 where
+pub record Going (types : Types) (named : ℕ) (ts list text whole now-text : List ℕ) (at to : ℕ) : Type 0 where
   pub before : List ℕ
   pub rest : List Entry
   pub split : list ≡ before ++ listBytes rest
   pub place : at ≡ length before
-  pub fitted : Each (Fitted types depth ts) rest
-  pub left : Left text 0 whole now-text to (flatMap (λ e. rowNames types depth named ts (e .input)) rest)
+  pub fitted : Each (Fitted types ts) rest
+  pub left : Left text 0 whole now-text to (flatMap (λ e. rowNames types named ts (e .input)) rest)
 
-module _ (types : Types) (table : List ℕ) (depth named : ℕ) (legible : Legible types table depth named) (ts list text : List ℕ) where
+module _ (types : Types) (table : List ℕ) (named : ℕ) (legible : Legible types table named) (ts list text : List ℕ) where
   -- nothing is written yet
-  pub going-whole : (es : List Entry) → listBytes es ≡ list → Each (Fitted types depth ts) es
-      → Going types depth named ts list text (listNames types depth named ts list) text 0 0
+  pub going-whole : (es : List Entry) → listBytes es ≡ list → Each (Fitted types ts) es
+      → Going types named ts list text (listNames types named ts list) text 0 0
   going-whole es are all = record {
     before = [];
     rest = es;
     split = sym are;
     place = refl;
     fitted = all;
-    left = subst (λ (w : List ℕ). Left text 0 w text 0 (namesOf types table depth named legible ts es)) (sym (names-are types table depth named legible ts list es are all))
-        (left-whole text 0 (namesOf types table depth named legible ts es));
+    left = subst (λ (w : List ℕ). Left text 0 w text 0 (namesOf types table named legible ts es)) (sym (names-are types table named legible ts list es are all))
+        (left-whole text 0 (namesOf types table named legible ts es));
   }
 
   -- how far the text goes
-  pub going-end : {now-text : List ℕ} {at to : ℕ} (es : List Entry) → listBytes es ≡ list → Each (Fitted types depth ts) es
-      → Going types depth named ts list text (listNames types depth named ts list) now-text at to → to ≤ 4 * length list
+  pub going-end : {now-text : List ℕ} {at to : ℕ} (es : List Entry) → listBytes es ≡ list → Each (Fitted types ts) es
+      → Going types named ts list text (listNames types named ts list) now-text at to → to ≤ 4 * length list
   going-end es are all going =
-      omega (arith, going .left .place, ap length (names-are types table depth named legible ts list es are all), names-length types depth named (legible .spells) ts es all, ap length are)
+      omega (arith, going .left .place, ap length (names-are types table named legible ts list es are all), names-length types named (legible .spells) ts es all, ap length are)
 
   -- An entry that stands at the place reached.
   pub record Standing (whole now-text : List ℕ) (at to : ℕ) : Type 0 where
     pub entry : Entry
     pub size : entrySize list at ≡ some (length (entryBytes entry))
-    pub stands : RowStands types depth ts list (at + 6) (entry .input)
+    pub stands : RowStands types ts list (at + 6) (entry .input)
     pub room : at + length (entryBytes entry) ≤ length list
     pub some-bytes : 6 ≤ length (entryBytes entry)
-    pub later : {text′ : List ℕ} {to′ : ℕ} → Puts now-text to (rowNames types depth named ts (rowRead types depth ts list (at + 6))) text′ to′
-        → Going types depth named ts list text whole text′ (at + length (entryBytes entry)) to′
+    pub later : {text′ : List ℕ} {to′ : ℕ} → Puts now-text to (rowNames types named ts (rowRead types ts list (at + 6))) text′ to′
+        → Going types named ts list text whole text′ (at + length (entryBytes entry)) to′
 
   standing : {whole now-text : List ℕ} {at to : ℕ} (before : List ℕ) (e : Entry) (es : List Entry) → list ≡ before ++ (entryBytes e ++ listBytes es) → at ≡ length before
-      → Fitted types depth ts e → Each (Fitted types depth ts) es
-      → Left text 0 whole now-text to (rowNames types depth named ts (e .input) ++ flatMap (λ e. rowNames types depth named ts (e .input)) es) → Standing whole now-text at to
+      → Fitted types ts e → Each (Fitted types ts) es
+      → Left text 0 whole now-text to (rowNames types named ts (e .input) ++ flatMap (λ e. rowNames types named ts (e .input)) es) → Standing whole now-text at to
   standing {whole} {now-text} {at} {to} before e es split place first all left =
       let here = size-of-entry e before (listBytes es) (first .counted) in
       let seen : drop (at + 6) list ≡ prefix (e .input) ++ listBytes es =
       rw (place, split) (sym (drop-drop 6 (length before) (before ++ (entryBytes e ++ listBytes es)))
       ∙ ap (drop 6) (drop-append-seam before (entryBytes e ++ listBytes es)) ∙ behind-header e (listBytes es)) in
-      let row : RowStands types depth ts list (at + 6) (e .input) =
+      let row : RowStands types ts list (at + 6) (e .input) =
       record { typed = first .typed; keeps = first .keeps; fillable = first .fillable; behind = listBytes es; bytes = seen } in
       let long = ap length split in
       record {
@@ -145,7 +145,7 @@ module _ (types : Types) (table : List ℕ) (depth named : ℕ) (legible : Legib
           split = split ∙ sym (append-assoc before (entryBytes e) (listBytes es));
           place = omega (arith, place, length-append before (entryBytes e));
           fitted = all;
-          left = left-next left (rw (row-read types table depth named legible ts list (at + 6) (e .input) row) at wrote);
+          left = left-next left (rw (row-read types table named legible ts list (at + 6) (e .input) row) at wrote);
         };
       }
 
@@ -158,25 +158,25 @@ module _ (types : Types) (table : List ℕ) (depth named : ℕ) (legible : Legib
   list-first e es = refl
 
   names-first : {whole now-text : List ℕ} {to : ℕ} (e : Entry) (es : List Entry)
-      → Left text 0 whole now-text to (flatMap (λ e. rowNames types depth named ts (e .input)) (e ∷ es))
-      → Left text 0 whole now-text to (rowNames types depth named ts (e .input) ++ flatMap (λ e. rowNames types depth named ts (e .input)) es)
+      → Left text 0 whole now-text to (flatMap (λ e. rowNames types named ts (e .input)) (e ∷ es))
+      → Left text 0 whole now-text to (rowNames types named ts (e .input) ++ flatMap (λ e. rowNames types named ts (e .input)) es)
   unfolding flatMap
   names-first e es left = left
 
-  pub going-more : {whole now-text : List ℕ} {at to : ℕ} → Going types depth named ts list text whole now-text at to → at < length list → Standing whole now-text at to
+  pub going-more : {whole now-text : List ℕ} {at to : ℕ} → Going types named ts list text whole now-text at to → at < length list → Standing whole now-text at to
   going-more {whole} {now-text} {at} {to} going more = by-rest (going .rest) (going .split) (going .fitted) (going .left)
     where
-      by-rest : (es : List Entry) → list ≡ going .before ++ listBytes es → Each (Fitted types depth ts) es
-          → Left text 0 whole now-text to (flatMap (λ e. rowNames types depth named ts (e .input)) es) → Standing whole now-text at to
+      by-rest : (es : List Entry) → list ≡ going .before ++ listBytes es → Each (Fitted types ts) es
+          → Left text 0 whole now-text to (flatMap (λ e. rowNames types named ts (e .input)) es) → Standing whole now-text at to
       by-rest [] split all left = absurd (omega (arith, more, going .place, ap length split, length-append (going .before) (listBytes []), none-long))
       by-rest (e ∷ es) split (first, all) left = standing (going .before) e es (split ∙ ap (λ (x : List ℕ). going .before ++ x) (list-first e es)) (going .place) first all (names-first e es left)
 
   -- all of it is written
-  pub going-done : {whole now-text : List ℕ} {at to : ℕ} → Going types depth named ts list text whole now-text at to → length list ≤ at → Puts text 0 whole now-text to
+  pub going-done : {whole now-text : List ℕ} {at to : ℕ} → Going types named ts list text whole now-text at to → length list ≤ at → Puts text 0 whole now-text to
   unfolding flatMap
   going-done {whole} {now-text} {at} {to} going over = by-rest (going .rest) (going .split) (going .left)
     where
-      by-rest : (es : List Entry) → list ≡ going .before ++ listBytes es → Left text 0 whole now-text to (flatMap (λ e. rowNames types depth named ts (e .input)) es)
+      by-rest : (es : List Entry) → list ≡ going .before ++ listBytes es → Left text 0 whole now-text to (flatMap (λ e. rowNames types named ts (e .input)) es)
           → Puts text 0 whole now-text to
       by-rest [] split left = left-none left
       by-rest (e ∷ es) split left =

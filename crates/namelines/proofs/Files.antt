@@ -7,15 +7,19 @@ use mathlib.Core.Option.{Option, none, some}
 use native.Mathlib.Omega.{arith}
 use lib.ListN.{length, getD}
 use Rattle.reach.specs.Base.{Each}
-use Rattle.reach.specs.Syntax.{Program, sourceTypes}
-use Rattle.reach.specs.Types.{sourceSlots}
+use Rattle.reach.specs.Syntax.{Types, Program, sourceTypes}
+use Rattle.reach.specs.Limits.{depthLimit}
+use Rattle.reach.specs.Parts.{Parts, end, opened, bound}
+use Rattle.reach.specs.Types.{Slot, slots, evenSlots, slotTypes, sourceSlots}
+use Rattle.reach.specs.Partial.{Keeps}
 use Rattle.reach.specs.Search.{Entry}
 use Rattle.reach.specs.Names.{Spells, spells}
 use Rattle.reach.specs.Answers.{check, accepted}
 use Rattle.reach.specs.Handed.{Fitting, IsList}
 use Rattle.reach.specs.Places.{typeAt, headAt}
 use Rattle.reach.proofs.Base.{clash, member-each, each-member}
-use Rattle.reach.proofs.Limits.{Kept, accepted-keeps}
+use Rattle.reach.proofs.Limits.{Kept, accepted-keeps, accepted-rooms}
+use Rattle.reach.proofs.Slots.{source-types}
 use Rattle.reach.proofs.Places.{bytes-length}
 use Rattle.reach.proofs.WellTyped.{accepted-typed, open-apart}
 use Rattle.reach.proofs.Spelling.{spells-form}
@@ -52,6 +56,15 @@ unfolding leastDepths
 table-there file r {p} tabled =
     omega (arith, ap length (tabled .depths), padded-length (leastDepths (p .types)) (omega (arith, rounds-length (p .types) (length (p .types)), types-many tabled, tabled .types-limit)))
 
+-- what keeps to depths within the largest D keeps to that
+keeps-limit : (types : Types) (ss : List Slot) (e : Parts) → Each (λ (s : Slot). s .room ≤ depthLimit) ss → Keeps types ss e
+    → Keeps types (evenSlots (slotTypes ss) depthLimit) e
+unfolding evenSlots slots slotTypes
+keeps-limit types [] e all keeps = tt
+keeps-limit types (s ∷ ss) end all keeps = tt
+keeps-limit types (s ∷ ss) (opened r) all keeps = (omega (arith, all .0, keeps .0), keeps-limit types ss r (all .1) (keeps .1))
+keeps-limit types (s ∷ ss) (bound c fs r) all keeps = (omega (arith, all .0, keeps .0), keeps-limit types ss r (all .1) (keeps .1))
+
 -- lines that are alike for each entry
 alike : (f g : Entry → List ℕ) → ((e : Entry) → f e ≡ g e) → (es : List Entry) → flatMap f es ≡ flatMap g es
 unfolding flatMap
@@ -71,19 +84,18 @@ module _ (file : List ℕ) (p : Program) (checked : check file ≡ accepted p) (
   kept : Kept p
   kept = accepted-keeps file p checked
 
-  fitted-one : (e : Entry) → Fitting p e → Fitted (p .types) (p .depth) (sourceTypes p) e
-  unfolding sourceSlots
+  fitted-one : (e : Entry) → Fitting p e → Fitted (p .types) (sourceTypes p) e
   fitted-one e fits =
       let typed = accepted-typed file p checked in
       record {
         typed = fits .typed;
-        keeps = fits .deep;
+        keeps = rw (source-types p) at (keeps-limit (p .types) (sourceSlots p) (e .input) (accepted-rooms file p checked) (fits .deep));
         fillable = fillable p typed (kept .no-empty) (e .input) (sourceTypes p) (source-there p typed (kept .no-empty)) (fits .typed);
         counted = fits .counted;
         in-time = omega (arith, fits .in-time, kept .steps-limit);
       }
 
-  fitted : Each (Fitted (p .types) (p .depth) (sourceTypes p)) es
+  fitted : Each (Fitted (p .types) (sourceTypes p)) es
   fitted = member-each _ es (λ e m. fitted-one e (each-member (Fitting p) (is .each-fits) m))
 
   -- where NA names a type
@@ -91,9 +103,9 @@ module _ (file : List ℕ) (p : Program) (checked : check file ≡ accepted p) (
     spells-names : Spells (p .types) named
     spells-names = spells-form (p .types) named (rw names-it at (kept .well-spelled))
 
-    entry-lines : flatMap (λ e. rowNames (p .types) (p .depth) named (sourceTypes p) (e .input)) es ≡ flatMap (entryNames p) es
+    entry-lines : flatMap (λ e. rowNames (p .types) named (sourceTypes p) (e .input)) es ≡ flatMap (entryNames p) es
     unfolding entryNames filled
-    entry-lines = alike (λ e. rowNames (p .types) (p .depth) named (sourceTypes p) (e .input)) (entryNames p) (λ e. rw names-it refl) es
+    entry-lines = alike (λ e. rowNames (p .types) named (sourceTypes p) (e .input)) (entryNames p) (λ e. rw names-it refl) es
 
   -- without NA there are no lines
   pub no-lines : p .named ≡ none → flatMap (entryNames p) es ≡ []
@@ -107,23 +119,22 @@ module _ (file : List ℕ) (p : Program) (checked : check file ≡ accepted p) (
       by-name : (o : Option ℕ) → p .named ≡ o → length (flatMap (entryNames p) es) ≤ 4 * length list
       by-name none nothing = omega (arith, ap length (no-lines nothing))
       by-name (some named) names-it =
-          omega (arith, ap length (entry-lines named names-it), names-length (p .types) (p .depth) named (spells-names named names-it) (sourceTypes p) es fitted, ap length (is .bytes-are))
+          omega (arith, ap length (entry-lines named names-it), names-length (p .types) named (spells-names named names-it) (sourceTypes p) es fitted, ap length (is .bytes-are))
 
 -- The same by the tables of the loaded file.
 module _ (file : List ℕ) (r : Loaded) (p : Program) (checked : check file ≡ accepted p) (tabled : Tabled file r p) (list : List ℕ) (es : List Entry) (is : IsList p list es)
     (named : ℕ) (naming : r .named ≡ Named.Type named) (head : Head) (head-read : headOf file head ≡ headAt file (getD (functionPlaces r) (r .goal .source) 0))
     (near : NearHead head) (table : 0 < length (r .least)) where
   abbrev asked : Asked
-  asked = record { parameters = head .parameters; count = head .count; depth = r .goal .depth; named = named }
+  asked = record { parameters = head .parameters; count = head .count; named = named }
 
   names-it : p .named ≡ some named
   names-it = program-named tabled ∙ ap namedOf naming
 
-  legible : Legible (p .types) (r .least) (p .depth) named
+  legible : Legible (p .types) (r .least) named
   legible = record {
     spells = spells-names file p checked list es is named names-it;
     apart = open-apart file p checked;
-    shallow = kept file p checked list es is .depth-limit .1;
     least = program-least tabled;
     some-table = table;
   }
@@ -131,9 +142,6 @@ module _ (file : List ℕ) (r : Loaded) (p : Program) (checked : check file ≡ 
   -- the tables say what the program does
   types-are : p .types ≡ map (typeAt file) (typePlaces r)
   types-are = program-types tabled
-
-  depth-is : p .depth ≡ r .goal .depth
-  depth-is = sym (program-goal tabled .depth-is)
 
   source-is : sourceTypes p ≡ typesAsked file asked
   source-is =
@@ -144,15 +152,15 @@ module _ (file : List ℕ) (r : Loaded) (p : Program) (checked : check file ≡ 
   listed = record {
     entries = es;
     bytes = is .bytes-are;
-    fitted = rw (← types-are, ← depth-is, ← source-is) (fitted file p checked list es is);
-    legible = rw (← types-are, ← depth-is) legible;
+    fitted = rw (← types-are, ← source-is) (fitted file p checked list es is);
+    legible = rw (← types-are) legible;
     near = (near .0, omega (arith, kept file p checked list es is .parameters-limit, ap length source-is, bytes-length file (head .parameters) (head .count)));
     in-limit = is .in-limit;
   }
 
   -- and the lines by the tables are those of the entries
-  pub names-same : listNames (map (typeAt file) (typePlaces r)) (r .goal .depth) named (typesAsked file asked) list ≡ flatMap (entryNames p) es
+  pub names-same : listNames (map (typeAt file) (typePlaces r)) named (typesAsked file asked) list ≡ flatMap (entryNames p) es
   names-same =
-      rw (← types-are, ← depth-is, ← source-is)
-      (names-are (p .types) (r .least) (p .depth) named legible (sourceTypes p) list es (is .bytes-are) (fitted file p checked list es is)
+      rw (← types-are, ← source-is)
+      (names-are (p .types) (r .least) named legible (sourceTypes p) list es (is .bytes-are) (fitted file p checked list es is)
       ∙ entry-lines file p checked list es is named names-it)

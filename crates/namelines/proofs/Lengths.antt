@@ -9,9 +9,10 @@ use lib.ListN.{length, length-append}
 use lib.Dec.{eqb}
 use borrow.Author.Tests.{eqb-true}
 use Rattle.reach.specs.Base.{pick}
+use Rattle.reach.specs.Limits.{depthLimit}
 use Rattle.reach.specs.Syntax.{Types}
 use Rattle.reach.specs.Parts.{Parts, end, opened, bound, prefix}
-use Rattle.reach.specs.Types.{slots, Typed, leastDepths}
+use Rattle.reach.specs.Types.{slots, evenSlots, Typed, leastDepths}
 use Rattle.reach.specs.Names.{Spells}
 use Rattle.reach.specs.Partial.{Keeps}
 use Rattle.reach.specs.Text.{decimal}
@@ -58,7 +59,7 @@ unfolding nameLine
 line-short [] n all few some-byte = omega arith
 line-short (b ∷ bs) n all few some-byte = omega (arith, line-twelve b bs all, few)
 
-module _ (types : Types) (depth named : ℕ) (spells : Spells types named) where
+module _ (types : Types) (named : ℕ) (spells : Spells types named) where
   -- a value has a byte at least
   some-prefix : (t : ℕ) (e : Parts) → Typed types (t ∷ []) e → 1 ≤ length (prefix e)
   unfolding prefix
@@ -66,46 +67,46 @@ module _ (types : Types) (depth named : ℕ) (spells : Spells types named) where
   some-prefix t (opened r) h = omega arith
   some-prefix t (bound c fs r) h = omega arith
 
-  name-short : (v : Parts) → Typed types (named ∷ []) v → Fillable types (named ∷ []) v → Keeps types (slots (named ∷ []) depth) v
-      → length (nameLine (spelled (fill types (leastDepths types) depth (named ∷ []) v))) ≤ 4 * length (prefix v)
+  name-short : (v : Parts) → Typed types (named ∷ []) v → Fillable types (named ∷ []) v → Keeps types (evenSlots (named ∷ []) depthLimit) v
+      → length (nameLine (spelled (fill types (leastDepths types) depthLimit (named ∷ []) v))) ≤ 4 * length (prefix v)
   name-short v h k keeps =
-      let same : letters (prefix v) ≡ spelled (fill types (leastDepths types) depth (named ∷ []) v) =
-      ap letters (sym (append-nil (prefix v))) ∙ name-letters types (leastDepths types) depth named spells v h [] in
-      line-short (spelled (fill types (leastDepths types) depth (named ∷ []) v)) (length (prefix v)) (filled-bytes types depth named spells v h k keeps)
+      let same : letters (prefix v) ≡ spelled (fill types (leastDepths types) depthLimit (named ∷ []) v) =
+      ap letters (sym (append-nil (prefix v))) ∙ name-letters types (leastDepths types) depthLimit named spells v h [] in
+      line-short (spelled (fill types (leastDepths types) depthLimit (named ∷ []) v)) (length (prefix v)) (filled-bytes types named spells v h k keeps)
       (omega (arith, letters-third (prefix v), ap length same)) (some-prefix named v h)
 
   -- the line of the first value of a row, if it has the named type
-  first-short : (t : ℕ) (v : Parts) → Typed types (t ∷ []) v → Fillable types (t ∷ []) v → Keeps types (slots (t ∷ []) depth) v
-      → length (pick (eqb t named) (nameLine (spelled (fill types (leastDepths types) depth (named ∷ []) v))) []) ≤ 4 * length (prefix v)
+  first-short : (t : ℕ) (v : Parts) → Typed types (t ∷ []) v → Fillable types (t ∷ []) v → Keeps types (evenSlots (t ∷ []) depthLimit) v
+      → length (pick (eqb t named) (nameLine (spelled (fill types (leastDepths types) depthLimit (named ∷ []) v))) []) ≤ 4 * length (prefix v)
   first-short t v h k keeps = by-name (eqb t named) refl
     where
       by-name : (b : Bool) → eqb t named ≡ b
-          → length (pick b (nameLine (spelled (fill types (leastDepths types) depth (named ∷ []) v))) []) ≤ 4 * length (prefix v)
+          → length (pick b (nameLine (spelled (fill types (leastDepths types) depthLimit (named ∷ []) v))) []) ≤ 4 * length (prefix v)
       by-name true is =
           let same = eqb-true t named is in
           name-short v (subst (λ (u : ℕ). Typed types (u ∷ []) v) same h) (subst (λ (u : ℕ). Fillable types (u ∷ []) v) same k)
-          (subst (λ (u : ℕ). Keeps types (slots (u ∷ []) depth) v) same keeps)
+          (subst (λ (u : ℕ). Keeps types (evenSlots (u ∷ []) depthLimit) v) same keeps)
       by-name false is = omega arith
 
   -- a row is at most four times as long in names as it is
   row-short : (t : ℕ) (ts : List ℕ) (row : Parts) → Typed types (t ∷ ts) row → Fillable types (t ∷ ts) row
       → length (prefix row) ≡ length (prefix (firstOfRow row)) + length (prefix (othersOf row))
-      → length (pick (eqb t named) (nameLine (spelled (fill types (leastDepths types) depth (named ∷ []) (firstOfRow row)))) []) ≤ 4 * length (prefix (firstOfRow row))
-      → length (rowNames types depth named ts (othersOf row)) ≤ 4 * length (prefix (othersOf row))
-      → length (rowNames types depth named (t ∷ ts) row) ≤ 4 * length (prefix row)
+      → length (pick (eqb t named) (nameLine (spelled (fill types (leastDepths types) depthLimit (named ∷ []) (firstOfRow row)))) []) ≤ 4 * length (prefix (firstOfRow row))
+      → length (rowNames types named ts (othersOf row)) ≤ 4 * length (prefix (othersOf row))
+      → length (rowNames types named (t ∷ ts) row) ≤ 4 * length (prefix row)
   row-short t ts row h k split first rest =
       omega (
         arith,
-        ap length (names-split types depth named t ts row h k),
-        length-append (pick (eqb t named) (nameLine (spelled (fill types (leastDepths types) depth (named ∷ []) (firstOfRow row)))) []) (rowNames types depth named ts (othersOf row)),
+        ap length (names-split types named t ts row h k),
+        length-append (pick (eqb t named) (nameLine (spelled (fill types (leastDepths types) depthLimit (named ∷ []) (firstOfRow row)))) []) (rowNames types named ts (othersOf row)),
         split,
         first,
         rest,
       )
 
-  pub names-short : (row : Parts) (ts : List ℕ) → Typed types ts row → Fillable types ts row → Keeps types (slots ts depth) row
-      → length (rowNames types depth named ts row) ≤ 4 * length (prefix row)
-  unfolding nameLines namesIn fillNamed flatMap prefix slots
+  pub names-short : (row : Parts) (ts : List ℕ) → Typed types ts row → Fillable types ts row → Keeps types (evenSlots ts depthLimit) row
+      → length (rowNames types named ts row) ≤ 4 * length (prefix row)
+  unfolding nameLines namesIn fillNamed flatMap prefix evenSlots slots
   names-short end ts h k keeps = omega arith
   names-short (opened r) [] h k keeps = absurd h
   names-short (opened r) (t ∷ ts) h k keeps =

@@ -6,6 +6,7 @@ use mathlib.Core.Path.{_≡_, refl, sym, ap, subst, _∙_}
 use mathlib.Core.Bool.{Bool, true, false}
 use mathlib.Core.List.{List, [], _∷_, _++_, flatMap, append-assoc, append-nil}
 use mathlib.Core.Option.{Option·some-injective}
+use native.Mathlib.Nat.{le-refl}
 use lib.ListN.{getD, drop}
 use lib.Dec.{eqb}
 use borrow.Author.Tests.{eqb-true, eq-eqb}
@@ -13,11 +14,11 @@ use Rattle.reach.specs.Base.{pick, Each}
 use Rattle.reach.specs.Limits.{depthLimit}
 use Rattle.reach.specs.Syntax.{Types}
 use Rattle.reach.specs.Parts.{Parts, end, opened, bound, prefix}
-use Rattle.reach.specs.Types.{slots, Typed, leastDepths}
+use Rattle.reach.specs.Types.{slots, evenSlots, Typed, leastDepths}
 use Rattle.reach.specs.Names.{Spells}
 use Rattle.reach.specs.Partial.{deepest, Keeps, inEntries}
 use Rattle.reach.proofs.Partial.{entries-lawful, slotted-meets}
-use Rattle.reach.proofs.Slots.{slots-each, slots-types}
+use Rattle.reach.proofs.Slots.{even-each, even-types}
 use Rattle.names.specs.Filling.{Fillable, builtBy, fill, isNamed, fillNamed}
 use Rattle.names.specs.Spelling.{spelled}
 use Rattle.names.specs.NameList.{nameLine, namesIn, nameLines}
@@ -38,20 +39,20 @@ othersOf end = end
 othersOf (opened r) = r
 othersOf (bound c fs r) = r
 
-module _ (types : Types) (depth named : ℕ) where
+module _ (types : Types) (named : ℕ) where
   abbrev table : List ℕ
   table = leastDepths types
 
   -- the line of a value of the named type
   abbrev lineOf : Parts → List ℕ
-  lineOf v = nameLine (spelled (fill types table depth (named ∷ []) v))
+  lineOf v = nameLine (spelled (fill types table depthLimit (named ∷ []) v))
 
   -- the lines of a row, by its first value
   abbrev pub splitNames : ℕ → List ℕ → Parts → List ℕ
-  splitNames t ts row = pick (eqb t named) (lineOf (firstOfRow row)) [] ++ rowNames types depth named ts (othersOf row)
+  splitNames t ts row = pick (eqb t named) (lineOf (firstOfRow row)) [] ++ rowNames types named ts (othersOf row)
 
   split-named : (ts : List ℕ) (row : Parts) → Typed types (named ∷ ts) row → Fillable types (named ∷ ts) row
-      → rowNames types depth named (named ∷ ts) row ≡ lineOf (firstOfRow row) ++ rowNames types depth named ts (othersOf row)
+      → rowNames types named (named ∷ ts) row ≡ lineOf (firstOfRow row) ++ rowNames types named ts (othersOf row)
   unfolding nameLines namesIn fillNamed fill builtBy isNamed flatMap
   split-named ts end h k = absurd h
   split-named ts (opened r) h ((u, e, same, least), k) =
@@ -61,26 +62,26 @@ module _ (types : Types) (depth named : ℕ) where
   split-named ts (bound c fs r) h k = rw (eq-eqb named named refl) refl
 
   split-other : (t : ℕ) (ts : List ℕ) (row : Parts) → Typed types (t ∷ ts) row → eqb t named ≡ false
-      → rowNames types depth named (t ∷ ts) row ≡ rowNames types depth named ts (othersOf row)
+      → rowNames types named (t ∷ ts) row ≡ rowNames types named ts (othersOf row)
   unfolding nameLines namesIn fillNamed isNamed
   split-other t ts end h differs = absurd h
   split-other t ts (opened r) h differs = rw (differs, differs) refl
   split-other t ts (bound c fs r) h differs = rw differs refl
 
   pub names-split : (t : ℕ) (ts : List ℕ) (row : Parts) → Typed types (t ∷ ts) row → Fillable types (t ∷ ts) row
-      → rowNames types depth named (t ∷ ts) row ≡ splitNames t ts row
+      → rowNames types named (t ∷ ts) row ≡ splitNames t ts row
   names-split t ts row h k = by-name (eqb t named) refl
     where
       by-name : (b : Bool) → eqb t named ≡ b
-          → rowNames types depth named (t ∷ ts) row ≡ pick b (lineOf (firstOfRow row)) [] ++ rowNames types depth named ts (othersOf row)
+          → rowNames types named (t ∷ ts) row ≡ pick b (lineOf (firstOfRow row)) [] ++ rowNames types named ts (othersOf row)
       by-name true is =
           let same = eqb-true t named is in
-          subst (λ (u : ℕ). rowNames types depth named (u ∷ ts) row ≡ lineOf (firstOfRow row) ++ rowNames types depth named ts (othersOf row)) (sym same)
+          subst (λ (u : ℕ). rowNames types named (u ∷ ts) row ≡ lineOf (firstOfRow row) ++ rowNames types named ts (othersOf row)) (sym same)
           (split-named ts row (subst (λ (u : ℕ). Typed types (u ∷ ts) row) same h) (subst (λ (u : ℕ). Fillable types (u ∷ ts) row) same k))
       by-name false is = split-other t ts row h is
 
-  pub one : (list : List ℕ) (at t : ℕ) (ts : List ℕ) (row : Parts) → RowStands types depth (t ∷ ts) list at row → RowStands types depth (t ∷ []) list at (firstOfRow row)
-  unfolding slots prefix
+  pub one : (list : List ℕ) (at t : ℕ) (ts : List ℕ) (row : Parts) → RowStands types (t ∷ ts) list at row → RowStands types (t ∷ []) list at (firstOfRow row)
+  unfolding evenSlots slots prefix
   one list at t ts end stands = absurd (stands .typed)
   one list at t ts (opened r) stands = record {
     typed = tt;
@@ -99,9 +100,9 @@ module _ (types : Types) (depth named : ℕ) where
         bytes = stands .bytes ∙ ap (λ (x : List ℕ). c ∷ x) (append-assoc (prefix fs) (prefix r) (stands .behind) ∙ ap (λ (x : List ℕ). x ++ (prefix r ++ stands .behind)) (sym (append-nil (prefix fs))));
       }
 
-  rest-of : (list : List ℕ) (at t : ℕ) (ts : List ℕ) (row : Parts) (stands : RowStands types depth (t ∷ ts) list at row) (next : ℕ)
-      → drop next list ≡ prefix (othersOf row) ++ stands .behind → RowStands types depth ts list next (othersOf row)
-  unfolding slots
+  rest-of : (list : List ℕ) (at t : ℕ) (ts : List ℕ) (row : Parts) (stands : RowStands types (t ∷ ts) list at row) (next : ℕ)
+      → drop next list ≡ prefix (othersOf row) ++ stands .behind → RowStands types ts list next (othersOf row)
+  unfolding evenSlots slots
   rest-of list at t ts end stands next there = absurd (stands .typed)
   rest-of list at t ts (opened r) stands next there = record {
     typed = stands .typed;
@@ -121,52 +122,52 @@ module _ (types : Types) (depth named : ℕ) where
       }
 
   -- what one value may be deep
-  one-deep : Spells types named → (v : Parts) → Typed types (named ∷ []) v → Keeps types (slots (named ∷ []) depth) v → deepest types (named ∷ []) v ≤ depth
-  unfolding slots
+  one-deep : Spells types named → (v : Parts) → Typed types (named ∷ []) v → Keeps types (evenSlots (named ∷ []) depthLimit) v → deepest types (named ∷ []) v ≤ depthLimit
+  unfolding evenSlots slots
   one-deep spells end h keeps = absurd h
   one-deep spells (opened r) h keeps = rw (no-parts types named spells r h) (keeps .0)
   one-deep spells (bound c fs r) (us, has, inner, others) keeps = rw (no-parts types named spells r others) (keeps .0)
 
   -- a filled name spells bytes
-  pub filled-bytes : Spells types named → (v : Parts) → Typed types (named ∷ []) v → Fillable types (named ∷ []) v → Keeps types (slots (named ∷ []) depth) v
-      → Each (λ (b : ℕ). b < 256) (spelled (fill types table depth (named ∷ []) v))
+  pub filled-bytes : Spells types named → (v : Parts) → Typed types (named ∷ []) v → Fillable types (named ∷ []) v → Keeps types (evenSlots (named ∷ []) depthLimit) v
+      → Each (λ (b : ℕ). b < 256) (spelled (fill types table depthLimit (named ∷ []) v))
   filled-bytes spells v h k keeps =
-      let is = fill-filled types depth v (named ∷ []) h k (one-deep spells v h keeps) in
-      name-only types named spells (fill types table depth (named ∷ []) v) (is .closed, is .typed) .1
+      let is = fill-filled types depthLimit v (named ∷ []) h k (one-deep spells v h keeps) in
+      name-only types named spells (fill types table depthLimit (named ∷ []) v) (is .closed, is .typed) .1
 
   -- the letters of a name are those that it spells once it is filled, and they are bytes
-  named-letters : (list : List ℕ) (at : ℕ) (v : Parts) → RowStands types depth (named ∷ []) list at v → Spells types named
-      → (letters (drop at list) ≡ spelled (fill types table depth (named ∷ []) v)) × Spelt list at
+  named-letters : (list : List ℕ) (at : ℕ) (v : Parts) → RowStands types (named ∷ []) list at v → Spells types named
+      → (letters (drop at list) ≡ spelled (fill types table depthLimit (named ∷ []) v)) × Spelt list at
   named-letters list at v stands spells =
-      let told : letters (drop at list) ≡ spelled (fill types table depth (named ∷ []) v) =
-      ap letters (stands .bytes) ∙ name-letters types table depth named spells v (stands .typed) (stands .behind) in
+      let told : letters (drop at list) ≡ spelled (fill types table depthLimit (named ∷ []) v) =
+      ap letters (stands .bytes) ∙ name-letters types table depthLimit named spells v (stands .typed) (stands .behind) in
       (told, subst (λ (bs : List ℕ). Each (λ (b : ℕ). b < 256) bs) (sym told) (filled-bytes spells v (stands .typed) (stands .fillable) (stands .keeps)))
 
   -- behind the first value stand the others
-  pub one-behind : (list : List ℕ) (at t : ℕ) (ts : List ℕ) (row : Parts) (stands : RowStands types depth (t ∷ ts) list at row)
+  pub one-behind : (list : List ℕ) (at t : ℕ) (ts : List ℕ) (row : Parts) (stands : RowStands types (t ∷ ts) list at row)
       → (one list at t ts row stands) .behind ≡ prefix (othersOf row) ++ stands .behind
   unfolding one prefix
   one-behind list at t ts end stands = absurd (stands .typed)
   one-behind list at t ts (opened r) stands = refl
   one-behind list at t ts (bound c fs r) stands = refl
 
-  module _ (list : List ℕ) (at t : ℕ) (ts : List ℕ) (row : Parts) (stands : RowStands types depth (t ∷ ts) list at row) where
+  module _ (list : List ℕ) (at t : ℕ) (ts : List ℕ) (row : Parts) (stands : RowStands types (t ∷ ts) list at row) where
     -- the first value stands alone at the same place, and the others stand behind it
-    abbrev pub first-stands : RowStands types depth (t ∷ []) list at (firstOfRow row)
+    abbrev pub first-stands : RowStands types (t ∷ []) list at (firstOfRow row)
     first-stands = one list at t ts row stands
 
-    pub others-stand : (next : ℕ) → drop next list ≡ prefix (othersOf row) ++ stands .behind → RowStands types depth ts list next (othersOf row)
+    pub others-stand : (next : ℕ) → drop next list ≡ prefix (othersOf row) ++ stands .behind → RowStands types ts list next (othersOf row)
     others-stand next there = rest-of list at t ts row stands next there
 
     -- a name is written as its letters stand
-    pub first-letters : Spells types named → t ≡ named → (letters (drop at list) ≡ spelled (fill types table depth (named ∷ []) (firstOfRow row))) × Spelt list at
-    first-letters spells same = named-letters list at (firstOfRow row) (subst (λ (u : ℕ). RowStands types depth (u ∷ []) list at (firstOfRow row)) same first-stands) spells
+    pub first-letters : Spells types named → t ≡ named → (letters (drop at list) ≡ spelled (fill types table depthLimit (named ∷ []) (firstOfRow row))) × Spelt list at
+    first-letters spells same = named-letters list at (firstOfRow row) (subst (λ (u : ℕ). RowStands types (u ∷ []) list at (firstOfRow row)) same first-stands) spells
 
 -- the row that is read is the one that stands there
-pub row-read : (types : Types) (least : List ℕ) (depth named : ℕ) → Legible types least depth named → (ts list : List ℕ) (at : ℕ) (row : Parts)
-    → RowStands types depth ts list at row → rowRead types depth ts list at ≡ row
-row-read types least depth named legible ts list at row stands =
-    let (next, is, there) = slotted-meets types (inEntries (leastDepths types)) (λ e. Unit {0}) (entries-lawful types) (legible .apart) depthLimit list (slots ts depth)
-    (slots-each _ ts depth (λ t. legible .shallow)) at row (stands .behind) (subst (λ (us : List ℕ). Typed types us row) (sym (slots-types ts depth)) (stands .typed), stands .keeps) tt
+pub row-read : (types : Types) (least : List ℕ) (named : ℕ) → Legible types least named → (ts list : List ℕ) (at : ℕ) (row : Parts)
+    → RowStands types ts list at row → rowRead types ts list at ≡ row
+row-read types least named legible ts list at row stands =
+    let (next, is, there) = slotted-meets types (inEntries (leastDepths types)) (λ e. Unit {0}) (entries-lawful types) (legible .apart) depthLimit list (evenSlots ts depthLimit)
+    (even-each _ ts depthLimit (λ t. le-refl depthLimit)) at row (stands .behind) (subst (λ (us : List ℕ). Typed types us row) (sym (even-types ts depthLimit)) (stands .typed), stands .keeps) tt
     (stands .bytes) in
     rw is refl

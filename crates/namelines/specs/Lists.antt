@@ -7,10 +7,10 @@ use mathlib.Core.List.{List, [], _++_, map, flatMap}
 use lib.ListN.{length}
 use Rattle.reach.specs.declared.Refusal.the-variants.{ListFull}
 use Rattle.reach.specs.Base.{pick, Each}
-use Rattle.reach.specs.Limits.{listLimit}
+use Rattle.reach.specs.Limits.{listLimit, depthLimit}
 use Rattle.reach.specs.Syntax.{Types, Program}
 use Rattle.reach.specs.Parts.{prefix}
-use Rattle.reach.specs.Types.{slots, Typed}
+use Rattle.reach.specs.Types.{evenSlots, Typed}
 use Rattle.reach.specs.Partial.{Keeps}
 use Rattle.reach.specs.Search.{Entry}
 use Rattle.reach.specs.Lists.{listBytes, Decoded, decodedFrom}
@@ -25,16 +25,16 @@ use Rattle.namelines.specs.declared.Asked.{Asked}
 use Rattle.namelines.specs.Rows.{rowNames, rowRead, typesAsked, Legible}
 
 -- the lines of what an entry says, and of the entries whose bytes these are
-abbrev pub decodedNames : Types → ℕ → ℕ → List ℕ → Decoded → List ℕ
-decodedNames types depth named ts d = rowNames types depth named ts (rowRead types depth ts (d .parameters) 0)
+abbrev pub decodedNames : Types → ℕ → List ℕ → Decoded → List ℕ
+decodedNames types named ts d = rowNames types named ts (rowRead types ts (d .parameters) 0)
 
-abbrev pub listNames : Types → ℕ → ℕ → List ℕ → List ℕ → List ℕ
-listNames types depth named ts list = flatMap (decodedNames types depth named ts) (decodedFrom (length list) list 0)
+abbrev pub listNames : Types → ℕ → List ℕ → List ℕ → List ℕ
+listNames types named ts list = flatMap (decodedNames types named ts) (decodedFrom (length list) list 0)
 
 -- an entry whose parameters can be read and filled
-pub record Fitted (types : Types) (depth : ℕ) (ts : List ℕ) (e : Entry) : Type 0 where
+pub record Fitted (types : Types) (ts : List ℕ) (e : Entry) : Type 0 where
   pub typed : Typed types ts (e .input)
-  pub keeps : Keeps types (slots ts depth) (e .input)
+  pub keeps : Keeps types (evenSlots ts depthLimit) (e .input)
   pub fillable : Fillable types ts (e .input)
   pub counted : length (prefix (e .input)) < 65536
   pub in-time : e .steps < 65536
@@ -43,8 +43,8 @@ pub record Fitted (types : Types) (depth : ℕ) (ts : List ℕ) (e : Entry) : Ty
 pub record Listed (file types table list : List ℕ) (asked : Asked) : Type 0 where
   pub entries : List Entry
   pub bytes : listBytes entries ≡ list
-  pub fitted : Each (Fitted (map (typeAt file) types) (asked .depth) (typesAsked file asked)) entries
-  pub legible : Legible (map (typeAt file) types) table (asked .depth) (asked .named)
+  pub fitted : Each (Fitted (map (typeAt file) types) (typesAsked file asked)) entries
+  pub legible : Legible (map (typeAt file) types) table (asked .named)
   pub near : (asked .parameters ≤ 65536) × (asked .count ≤ 8)
   pub in-limit : length list ≤ listLimit
 

@@ -13,12 +13,12 @@ ghost use Rattle.naming.specs.Letters.{letters, Spelt};
 ghost use Rattle.rulefile.specs.Loading.{Loads};
 ghost use Rattle.namelines.specs.Rows.{rowNames, rowRead, typesAsked, Readable};
 ghost use Rattle.namelines.specs.Lists.{listNames, Listed, FitsFile, PutsNames, WritesNames};
-use fitting::slots;
 use goal::Named;
 use lines::put_refusal;
 use lookups::head_of;
 use marks::byte_or_zero;
 use naming::put_name;
+use partials::value;
 use reach::Refusal;
 use rows::Measured;
 use rulefile::Loaded;
@@ -26,11 +26,10 @@ use rulefile::load;
 use sizes::Size;
 use sizes::size_at;
 
-// What is asked of the parameters: where their types stand in the file, how many there are, how deep they may be, and the type whose values are names.
+// What is asked of the parameters: where their types stand in the file, how many there are, and the type whose values are names.
 pub struct Asked {
     pub parameters: usize,
     pub count: usize,
-    pub depth: usize,
     pub named: usize,
 }
 
@@ -64,23 +63,16 @@ fn put_entry<'a>(
     to: usize,
 ) -> usize
     requires { ⌜ Readable (now file) (now types) (now least) (now list) at asked × (to < 288230376151711744) ⌝ }
-    ensures { λ r. ⌜ Puts (now (text .entry)) to (rowNames (map (typeAt (now (file .entry))) (now (types .entry))) (asked .depth) (asked .named) (typesAsked (now (file .entry)) asked) (rowRead (map (typeAt (now (file .entry))) (now (types .entry))) (asked .depth) (typesAsked (now (file .entry)) asked) (now (list .entry)) at)) (now (text .exit)) r ⌝ }
+    ensures { λ r. ⌜ Puts (now (text .entry)) to (rowNames (map (typeAt (now (file .entry))) (now (types .entry))) (asked .named) (typesAsked (now (file .entry)) asked) (rowRead (map (typeAt (now (file .entry))) (now (types .entry))) (typesAsked (now (file .entry)) asked) (now (list .entry)) at)) (now (text .exit)) r ⌝ }
 {
     let mut place = at;
     let mut end = to;
     let mut field = asked.parameters;
     let mut more = asked.count;
     while 0 < more {
-        end = put_parameter(
-            byte_or_zero(file, field),
-            asked.named,
-            list,
-            place,
-            text,
-            end,
-        );
-        let Measured::At(next, _) = slots(file, types, least, list, place, field, 1, asked.depth)
-        else {
+        let t = byte_or_zero(file, field);
+        end = put_parameter(t, asked.named, list, place, text, end);
+        let Measured::At(next, _) = value(file, types, least, list, place, t, 64) else {
             return end;
         };
         place = next;
@@ -100,7 +92,7 @@ fn put_entries<'a>(
     text: &mut [u8],
 ) -> usize
     requires { ⌜ Listed (now file) (now types) (now least) (now list) asked ⌝ }
-    ensures { λ r. ⌜ Puts (now (text .entry)) 0 (listNames (map (typeAt (now (file .entry))) (now (types .entry))) (asked .depth) (asked .named) (typesAsked (now (file .entry)) asked) (now (list .entry))) (now (text .exit)) r ⌝ }
+    ensures { λ r. ⌜ Puts (now (text .entry)) 0 (listNames (map (typeAt (now (file .entry))) (now (types .entry))) (asked .named) (typesAsked (now (file .entry)) asked) (now (list .entry))) (now (text .exit)) r ⌝ }
 {
     let mut at: usize = 0;
     let mut to: usize = 0;
@@ -135,7 +127,6 @@ fn put_list<'a>(
     let asked = Asked {
         parameters: head.parameters,
         count: head.count,
-        depth: goal.depth,
         named,
     };
     put_entries(file, &type_at[..types], &least, list, asked, text)

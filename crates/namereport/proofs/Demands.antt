@@ -14,7 +14,7 @@ use Rattle.reach.specs.Base.{Each}
 use Rattle.reach.specs.Limits.{fileLimit}
 use Rattle.reach.specs.Syntax.{Program, sourceTypes}
 use Rattle.reach.specs.Parts.{Parts, Completes, depth}
-use Rattle.reach.specs.Types.{ClosedInput, ValueOf}
+use Rattle.reach.specs.Types.{depthOf, ClosedInput, ValueOf}
 use Rattle.reach.specs.Eval.{run}
 use Rattle.reach.specs.Search.{Entry, says}
 use Rattle.reach.specs.Lists.{listBytes}
@@ -51,7 +51,7 @@ module _ (file work work′ list list′ page page′ : List ℕ) (r : ℕ) (cal
   -- "A filled entry, its other parameters completed in any fitting way, behaves as its entry says": each entry that is read back from the bytes of that
   -- list, for each kind; and its names are closed values of the named type that fit the depth.
   pub names-true : (p : Program) → check file ≡ accepted p → (named : ℕ) → p .named ≡ some named → (k : ℕ) (e : Entry) → ReadsAs p wrote k e
-      → Each (λ (v : Parts). ValueOf (p .types) named v × (depth v ≤ p .depth)) (namesIn named (sourceTypes p) (filled p named (e .input)))
+      → Each (λ (v : Parts). ValueOf (p .types) named v × (depth v ≤ depthOf (p .depths))) (namesIn named (sourceTypes p) (filled p named (e .input)))
       × ((j : Parts) → ClosedInput p j → Completes j (filled p named (e .input)) → run p j ≡ says (e .kind) (e .steps))
   names-true p checked named is k e reads =
       let there = (Search.entry-reads file work work′ list list′ (answerOf (searchAnswer file (length work) (length list))) (call .leaves) p checked k e) .0 reads in

@@ -12,11 +12,12 @@ use lib.ListN.{length, getD, replicate}
 use Rattle.reach.specs.declared.Refusal.{Refusal}
 use Rattle.reach.specs.declared.Refusal.the-variants.{ListFull}
 use Rattle.reach.specs.Base.{_∈_, Each}
+use Rattle.reach.specs.Limits.{depthLimit}
 use Rattle.reach.specs.declared.Kind.the-variants.{RE}
 use Rattle.reach.specs.Syntax.{variable, Types, Program, fieldTypes, functionAt, sourceTypes}
 use Rattle.reach.specs.Parts.{Parts, end, opened, bound, Closed, Completes, depth, _⊑_}
 use Rattle.reach.specs.Partial.{deepest}
-use Rattle.reach.specs.Types.{Typed, ClosedInput, ValueOf, LeastDepth, sourceSlots, known, inhabited, round, rounds, leastDepths, shallow}
+use Rattle.reach.specs.Types.{depthOf, Typed, ClosedInput, ValueOf, LeastDepth, known, inhabited, round, rounds, leastDepths, shallow}
 use Rattle.reach.specs.Eval.{run}
 use Rattle.reach.specs.Search.{Entry, says}
 use Rattle.reach.specs.Names.{Spells}
@@ -24,7 +25,7 @@ use Rattle.reach.specs.Answers.{Checked, check, accepted, turnedBack, noSearch,
 use Rattle.reach.specs.Text.{lineFeed, spaced, lineFrom, digitsBy, decimal, refusalLine}
 use Rattle.reach.proofs.Base.{each-member}
 use Rattle.reach.proofs.Answers.{search-turned-back, listed-in}
-use Rattle.reach.proofs.Limits.{accepted-keeps}
+use Rattle.reach.proofs.Limits.{accepted-keeps, accepted-even}
 use Rattle.reach.proofs.WellTyped.{accepted-typed}
 use Rattle.reach.proofs.Spelling.{spells-form}
 use Rattle.reach.proofs.Handed.{listed-handed}
@@ -62,44 +63,45 @@ filled-values types most e ts typed fillable fits =
 module _ (file : List ℕ) (p : Program) (checked : check file ≡ accepted p) (work list named : ℕ) (is : p .named ≡ some named) where
   -- "fills every open part of the source parameters of the named type": each of them is then a closed value of that type, and fits the depth
   pub names-filled : (e : Entry) → e ∈ listed (searchAnswer file work list)
-      → Each (λ (v : Parts). ValueOf (p .types) named v × (depth v ≤ p .depth)) (namesIn named (sourceTypes p) (filled p named (e .input)))
-  unfolding filled sourceSlots
+      → Each (λ (v : Parts). ValueOf (p .types) named v × (depth v ≤ depthOf (p .depths))) (namesIn named (sourceTypes p) (filled p named (e .input)))
+  unfolding filled
   names-filled e m =
       let fits = each-member _ (listed-handed file p checked work list .each-fits) m in
       let typed = accepted-typed file p checked in
-      let no-empty = accepted-keeps file p checked .no-empty in
-      Entries.names-filled (p .types) (p .depth) named (e .input) (sourceTypes p) (fits .typed)
-      (Entries.fillable p typed no-empty (e .input) (sourceTypes p) (Entries.source-there p typed no-empty) (fits .typed)) (fits .deep)
+      let kept = accepted-keeps file p checked in
+      Entries.names-filled (p .types) depthLimit (depthOf (p .depths)) named (kept .depth-limit .1) (e .input) (sourceTypes p) (fits .typed)
+      (Entries.fillable p typed (kept .no-empty) (e .input) (sourceTypes p) (Entries.source-there p typed (kept .no-empty)) (fits .typed))
+      (rw (accepted-even file p checked) at (fits .deep))
 
   -- what is filled binds at least what the entry binds
   pub filled-binds : (e : Entry) → e .input ⊑ filled p named (e .input)
   unfolding filled
-  filled-binds e = Filling.named-below (p .types) (leastDepths (p .types)) (p .depth) named (e .input) (sourceTypes p)
+  filled-binds e = Filling.named-below (p .types) (leastDepths (p .types)) depthLimit named (e .input) (sourceTypes p)
 
   -- and the parameters of other types stay as they are
   pub others-kept : (e : Entry) (other : ℕ) → ¬ (other ≡ named) → namesIn other (sourceTypes p) (filled p named (e .input)) ≡ namesIn other (sourceTypes p) (e .input)
   unfolding filled
-  others-kept e other apart = Entries.others-kept (p .types) (leastDepths (p .types)) (p .depth) named other apart (e .input) (sourceTypes p)
+  others-kept e other apart = Entries.others-kept (p .types) (leastDepths (p .types)) depthLimit named other apart (e .input) (sourceTypes p)
 
   -- "A filled entry, its other parameters completed in any fitting way, behaves as its entry says." Completed in any way, fitting or not, and for each kind.
   pub filled-true : (e : Entry) → e ∈ listed (searchAnswer file work list)
       → (j : Parts) → ClosedInput p j → Completes j (filled p named (e .input)) → run p j ≡ says (e .kind) (e .steps)
   unfolding filled
-  filled-true e m j closed completes = Filling.filled-true file p checked e (listed-in file work list p checked e m) named (p .depth) j closed completes
+  filled-true e m j closed completes = Filling.filled-true file p checked e (listed-in file work list p checked e m) named depthLimit j closed completes
 
   -- "A value then spells a Latin-1 name": each of the names printed is one of bytes, and the value is the one that spells them
   pub names-spelled : (e : Entry) → e ∈ listed (searchAnswer file work list)
       → Each (λ (v : Parts). (v ≡ nameOf (spelled v)) × Each (λ (b : ℕ). b < 256) (spelled v)) (namesIn named (sourceTypes p) (filled p named (e .input)))
   names-spelled e m = each-so (namesIn named (sourceTypes p) (filled p named (e .input))) (names-filled e m)
     where
-      each-so : (vs : List Parts) → Each (λ (v : Parts). ValueOf (p .types) named v × (depth v ≤ p .depth)) vs
+      each-so : (vs : List Parts) → Each (λ (v : Parts). ValueOf (p .types) named v × (depth v ≤ depthOf (p .depths))) vs
           → Each (λ (v : Parts). (v ≡ nameOf (spelled v)) × Each (λ (b : ℕ). b < 256) (spelled v)) vs
       each-so [] all = tt
       each-so (v ∷ vs) ((value, deep), all) = (Names.name-only (p .types) named (named-spells file p checked named is) v value, each-so vs all)
 
   -- "high half first": every list of bytes that is short enough for the depth is spelt by one closed value that fits, and by no other
-  pub spelt-once : (bytes : List ℕ) → Each (λ (b : ℕ). b < 256) bytes → length bytes < p .depth
-      → (v : Parts) × ValueOf (p .types) named v × (depth v ≤ p .depth) × (spelled v ≡ bytes)
+  pub spelt-once : (bytes : List ℕ) → Each (λ (b : ℕ). b < 256) bytes → length bytes < depthOf (p .depths)
+      → (v : Parts) × ValueOf (p .types) named v × (depth v ≤ depthOf (p .depths)) × (spelled v ≡ bytes)
       × ((w : Parts) → ValueOf (p .types) named w → spelled w ≡ bytes → w ≡ v)
   spelt-once bytes all short =
       let form = named-spells file p checked named is in (
@@ -126,7 +128,7 @@ twoNames =
       named = some 1;
       source = 0;
       label = 7;
-      depth = 3;
+      depths = replicate 8 3;
       steps = 20;
     }
 

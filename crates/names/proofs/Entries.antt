@@ -12,7 +12,7 @@ use borrow.Author.Tests.{eqb-true}
 use Rattle.reach.specs.Base.{Each, pick}
 use Rattle.reach.specs.Syntax.{Types, Function, Program, fieldTypes, functionAt, parametersOf, sourceTypes}
 use Rattle.reach.specs.Parts.{Parts, end, opened, bound, depth}
-use Rattle.reach.specs.Types.{slots, Typed, ValueOf, leastDepths}
+use Rattle.reach.specs.Types.{slots, evenSlots, Typed, ValueOf, leastDepths}
 use Rattle.reach.specs.Typing.{Exists, WellTyped}
 use Rattle.reach.specs.RuleFile.{noEmptyType}
 use Rattle.reach.specs.Partial.{fieldsIn, deepest, Keeps}
@@ -62,20 +62,20 @@ module _ (p : Program) (typed : WellTyped p) (no-empty : noEmptyType (leastDepth
 
 -- ---- the names of a filled row
 
-module _ (types : Types) (levels named : ℕ) where
+module _ (types : Types) (levels most named : ℕ) (enough : most ≤ levels) where
   abbrev table : List ℕ
   table = leastDepths types
 
   -- a closed value of the named type that fits
   abbrev pub IsFilledName : Parts → Type 0
-  IsFilledName v = ValueOf types named v × (depth v ≤ levels)
+  IsFilledName v = ValueOf types named v × (depth v ≤ most)
 
   -- one that was filled is
-  one-filled : (t : ℕ) (e v : Parts) → t ≡ named → IsFilled types (t ∷ []) e v → deepest types (t ∷ []) e ≤ levels → IsFilledName v
+  one-filled : (t : ℕ) (e v : Parts) → t ≡ named → IsFilled types (t ∷ []) e v → deepest types (t ∷ []) e ≤ most → IsFilledName v
   one-filled t e v same filled fits = ((filled .closed, subst (λ (u : ℕ). Typed types (u ∷ []) v) same (filled .typed)), omega (arith, filled .deep, fits))
 
   -- an open part at the front of a row, the rest of which is filled
-  open-filled : (t : ℕ) (ts : List ℕ) (r : Parts) → Fillable types (t ∷ []) (opened end) → deepest types (t ∷ []) (opened end) ≤ levels
+  open-filled : (t : ℕ) (ts : List ℕ) (r : Parts) → Fillable types (t ∷ []) (opened end) → deepest types (t ∷ []) (opened end) ≤ most
       → Each IsFilledName (namesIn named ts r)
       → Each IsFilledName (namesIn named (t ∷ ts) (pick (isNamed named (some t)) (builtBy (leastRow types table levels) (firstLeast types table (some t)) r) (opened r)))
   unfolding namesIn fill builtBy isNamed
@@ -87,13 +87,13 @@ module _ (types : Types) (levels named : ℕ) where
           let (u, e, same, least) = k .0 in
           let here : t ≡ u = Option·some-injective t u same in
           let (c, us, first, has, will) = has-first types t e (ap (λ (x : ℕ). getD table x 0) here ∙ least) in
-          let whole = fill-filled types levels (opened end) (t ∷ []) tt k fits in
+          let whole = fill-filled types levels (opened end) (t ∷ []) tt k (omega (arith, fits, enough)) in
           rw (first, is) (one-filled t (opened end) (bound c (leastRow types table levels us) end) (eqb-true t named is) (rw first at whole) fits, rest)
       by-name false is = rw is rest
 
   -- a bound part
   bound-filled : (t c : ℕ) (ts : List ℕ) (fs r : Parts) → Typed types (t ∷ []) (bound c fs end) → Fillable types (t ∷ []) (bound c fs end)
-      → deepest types (t ∷ []) (bound c fs end) ≤ levels → Each IsFilledName (namesIn named ts r)
+      → deepest types (t ∷ []) (bound c fs end) ≤ most → Each IsFilledName (namesIn named ts r)
       → Each IsFilledName (namesIn named (t ∷ ts) (bound c (pick (isNamed named (some t)) (fill types table levels (fieldsIn types (some t) c) fs) fs) r))
   unfolding namesIn fill isNamed
   bound-filled t c ts fs r h k fits rest = by-name (eqb t named) refl
@@ -101,13 +101,13 @@ module _ (types : Types) (levels named : ℕ) where
       by-name : (b : Bool) → eqb t named ≡ b
           → Each IsFilledName (namesIn named (t ∷ ts) (bound c (pick b (fill types table levels (fieldsIn types (some t) c) fs) fs) r))
       by-name true is =
-          rw is (one-filled t (bound c fs end) _ (eqb-true t named is) (fill-filled types levels (bound c fs end) (t ∷ []) h k fits) fits, rest)
+          rw is (one-filled t (bound c fs end) _ (eqb-true t named is) (fill-filled types levels (bound c fs end) (t ∷ []) h k (omega (arith, fits, enough))) fits, rest)
       by-name false is = rw is rest
 
   -- every name of a row is filled
-  pub names-filled : (e : Parts) (ts : List ℕ) → Typed types ts e → Fillable types ts e → Keeps types (slots ts levels) e
+  pub names-filled : (e : Parts) (ts : List ℕ) → Typed types ts e → Fillable types ts e → Keeps types (evenSlots ts most) e
       → Each IsFilledName (namesIn named ts (fillNamed types table levels named ts e))
-  unfolding namesIn fillNamed slots
+  unfolding namesIn fillNamed evenSlots slots
   names-filled end ts h k keeps = tt
   names-filled (opened r) [] h k keeps = absurd h
   names-filled (opened r) (t ∷ ts) h (here, k) (fits, keeps) = open-filled t ts (fillNamed types table levels named ts r) (here, tt) fits (names-filled r ts h k keeps)

@@ -1,6 +1,6 @@
 -- Filling what is open in a partial value: 02, Slip 4, "choosing at each place the first constructor of least depth". A constructor has its type's least
 -- depth if all its fields have values that are less deep. The table is that of least depths. Below an open part so many levels of constructors are made
--- at most, as many as D says: what fits D needs no more.
+-- at most: what is no deeper than that needs no more.
 -- Rests on reach's Syntax, Parts, Types and Partial.
 use Prim.Native.Nat.{ℕ, zero, suc, _-_}
 use mathlib.Core.Path.{_≡_}

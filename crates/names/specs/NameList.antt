@@ -7,6 +7,7 @@ use mathlib.Core.Option.{Option}
 use lib.Dec.{ltb}
 use Rattle.reach.specs.declared.Refusal.{Refusal}
 use Rattle.reach.specs.Base.{pick}
+use Rattle.reach.specs.Limits.{depthLimit}
 use Rattle.reach.specs.Syntax.{Program, sourceTypes}
 use Rattle.reach.specs.Parts.{Parts, end, opened, bound}
 use Rattle.reach.specs.Types.{leastDepths}
@@ -26,9 +27,9 @@ unfoldable pub nameLine : List ℕ → List ℕ
 nameLine [] = lineFeed ∷ []
 nameLine (b ∷ bs) = lineFrom (decimal b) (map decimal (bs ++ flatMap utf8 (b ∷ bs)))
 
--- the partial input with every open part of its names filled
+-- the partial input with every open part of its names filled, below at most as many constructors as the largest D: what fits its depth needs no more
 unfoldable pub filled : Program → ℕ → Parts → Parts
-filled p named e = fillNamed (p .types) (leastDepths (p .types)) (p .depth) named (sourceTypes p) e
+filled p named e = fillNamed (p .types) (leastDepths (p .types)) depthLimit named (sourceTypes p) e
 
 -- of a row, whose values have these types, those of the named type, each as a row of its own
 unfoldable pub namesIn : ℕ → List ℕ → Parts → List Parts

@@ -36,12 +36,12 @@ use Rattle.printout.specs.Answering.{judgedOf, Judges, answerOf, Measure
 
 -- the tables of a loaded file are what the reading of a list asks for
 given : {file : List ℕ} {r : Loaded} {p : Program} → Answers.check file ≡ Answers.accepted p → Tabled file r p
-    → Given file (typePlaces r) (functionPlaces r) (r .least) (r .goal .source) (r .goal .depth) (r .goal .steps) p
+    → Given file (typePlaces r) (functionPlaces r) (r .least) (r .goal .source) (r .goal .depths) (r .goal .steps) p
 given checked t = record {
   checked = checked;
   types-there = program-types t;
   source-there = rw (program-goal t .source-is) (program-source-types t);
-  depth-is = sym (program-goal t .depth-is);
+  depths-are = sym (program-goal t .depths-are);
   steps-are = sym (program-goal t .steps-is);
   table-is = λ n. sym (program-least t n);
 }
@@ -53,7 +53,7 @@ judge-refused file list r loads is = record { answer-is = sym (ap (judgedOf list
 -- the file is accepted, and the list was read
 module _ (file list : List ℕ) (r : Loaded) (loads : Loads file r) (is : r .answer ≡ Checked.Accepted) where
   abbrev Told : Bool → Type 0
-  Told = FitsList file (typePlaces r) (functionPlaces r) (r .least) (r .goal .source) (r .goal .depth) (r .goal .steps) list
+  Told = FitsList file (typePlaces r) (functionPlaces r) (r .least) (r .goal .source) (r .goal .depths) (r .goal .steps) list
 
   judge-by : (b : Bool) (o : Option (List Entry)) → b ≡ onFound false (λ es. true) o
       → pick b Checked.Accepted (Checked.Refused BadList) ≡ onFound (Checked.Refused BadList) (λ es. Checked.Accepted) o

@@ -35,9 +35,7 @@ fn judge<'a>(file: &'a [u8], list: &'a [u8]) -> Checked
         &type_at[..types],
         &function_at[..functions],
         Depths { of: least },
-        goal.source,
-        goal.depth,
-        goal.steps,
+        goal,
         list,
     ) {
         return Checked::Accepted;

@@ -25,7 +25,7 @@ use Rattle.reach.proofs.Base.{clash, nth-member}
 use Rattle.reach.proofs.Order.{open-width, open-unbound, open-least}
 use Rattle.reach.proofs.Completing.{below-completes, completes-below}
 use Rattle.reach.proofs.Slots.{source-types, source-length}
-use Rattle.reach.proofs.Depths.{Fit, Roomy, shallow-roomy, open-fit, bind-fit, fit-typed, typed-fit, typed-width, completion}
+use Rattle.reach.proofs.Depths.{Fit, Roomy, roomy-each, open-fit, bind-fit, fit-typed, typed-fit, typed-width, completion}
 use Rattle.reach.specs.States.{StateIn}
 use Rattle.reach.proofs.Evaluation.{start-in, waits-free}
 use Rattle.reach.proofs.Entries.{Finds, at-target, at-missing, at-limit, at-limit-waiting, by-step, by-fork, entry-found, entry-holds, entry-reopens}
@@ -44,8 +44,8 @@ module _ (file : List ℕ) (p : Program) (h : check file ≡ accepted p) where
   start-there = start-in p (openInput p) start-width
 
   source-roomy : Roomy (p .types) (sourceSlots p)
-  unfolding sourceSlots deepEnough
-  source-roomy = shallow-roomy (p .types) (sourceTypes p) (p .depth) ((accepted-keeps file p h) .deep-enough)
+  unfolding deepEnough
+  source-roomy = roomy-each (p .types) (sourceSlots p) ((accepted-keeps file p h) .deep-enough)
 
   start-fit : Fit (p .types) (sourceSlots p) (openInput p)
   unfolding openInput

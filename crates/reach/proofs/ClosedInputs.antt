@@ -1,6 +1,6 @@
 -- Refusal 10 under exactly its condition: bytes are read as a closed input if and only if they are the prefix form of one that is within the depth. And with it
 -- stands its depth: 02, Slip 3. That the reading goes below 64 constructors only changes no answer, since D is at most 64.
--- Rests on Partial, Reading and Depths, and on Limits and WellTyped for accepted files.
+-- Rests on Partial and Reading, and on Limits and WellTyped for accepted files.
 use Prim.Native.Nat.{ℕ, suc, max, _+_, _≤_, _<_}
 use mathlib.Core.Path.{_≡_, refl, sym, ap, subst, _∙_}
 use mathlib.Core.Bool.{Bool, true, false}
@@ -15,14 +15,13 @@ use Rattle.reach.specs.declared.Refusal.the-variants.{BadInput}
 use Rattle.reach.specs.Limits.{depthLimit}
 use Rattle.reach.specs.Syntax.{Types, Program, sourceTypes}
 use Rattle.reach.specs.Parts.{Parts, end, opened, bound, Closed, depth, prefix}
-use Rattle.reach.specs.Types.{Typed, Slot, slotTypes, sourceSlots, ClosedInput, Fits, WithinDepth, ValueOf}
+use Rattle.reach.specs.Types.{Typed, Slot, slotTypes, sourceSlots, depthOf, ClosedInput, Fits, WithinDepth, ValueOf}
 use Rattle.reach.specs.Reader.{Got, got, refused, onGot, Reader, _>>=_, _>>_, give, atEnd}
 use Rattle.reach.specs.Partial.{deepest, Keeps, built, inInputs, value, slotted}
 use Rattle.reach.specs.Input.{inputBy, readInput, inputOf}
 use Rattle.reach.specs.Answers.{accepted, check}
 use Rattle.reach.proofs.Base.{picked}
-use Rattle.reach.proofs.Depths.{within-depth}
-use Rattle.reach.proofs.Limits.{IfFound, if-found-then, accepted-rooms}
+use Rattle.reach.proofs.Limits.{IfFound, if-found-then, accepted-rooms, within-depth}
 use Rattle.reach.proofs.Slots.{source-types}
 use Rattle.reach.proofs.WellTyped.{open-apart}
 use Rattle.reach.proofs.Partial.{AllBelow, inputs-lawful, closed-deepest, row-one, value-read, slotted-finds, slotted-meets}
@@ -117,22 +116,32 @@ module _ (file : List ℕ) (p : Program) (h : check file ≡ accepted p) where
   unfolding readInput
   read-exactly bytes row = below-exactly depthLimit (omega arith) bytes row
 
-  -- bytes of closed values of the right types are not read as an input exactly if the deepest of them is deeper than D
-  pub too-deep-exactly : (bytes : List ℕ) (j : Parts) → ClosedInput p j → prefix j ≡ bytes → (readInput p bytes ≡ none) ↔ (p .depth < depth j)
-  too-deep-exactly bytes j values same = (λ unread. by-depth (leb (depth j) (p .depth)) refl unread, λ deep. by-read (readInput p bytes) refl deep)
+  -- bytes of closed values of the right types are not read as an input exactly if they do not fit the parameters' depths
+  pub unfit-exactly : (bytes : List ℕ) (j : Parts) → ClosedInput p j → prefix j ≡ bytes → (readInput p bytes ≡ none) ↔ ¬ Fits (sourceSlots p) j
+  unfit-exactly bytes j values same = (
+    λ unread fits. Option·none-ne-some (j, depth j) (sym unread ∙ (read-exactly bytes (j, depth j)) .1 ((values, fits), same, refl)),
+    λ unfit. by-read (readInput p bytes) refl unfit,
+  )
     where
-      by-depth : (b : Bool) → leb (depth j) (p .depth) ≡ b → readInput p bytes ≡ none → p .depth < depth j
-      by-depth true shallow unread =
-          let fits = within-depth p j values .1 (leb-true (depth j) (p .depth) shallow) in
-          absurd (Option·none-ne-some (j, depth j) (sym unread ∙ (read-exactly bytes (j, depth j)) .1 ((values, fits), same, refl)))
-      by-depth false deep unread = leb-false (depth j) (p .depth) deep
-
-      by-read : (o : Option (Parts × ℕ)) → readInput p bytes ≡ o → p .depth < depth j → o ≡ none
-      by-read none e deep = refl
-      by-read (some row) e deep =
+      by-read : (o : Option (Parts × ℕ)) → readInput p bytes ≡ o → ¬ Fits (sourceSlots p) j → o ≡ none
+      by-read none e unfit = refl
+      by-read (some row) e unfit =
           let (within, bytes-are, d) = (read-exactly bytes row) .0 e in
           let one = row-one (p .types) inInputs Closed (inputs-lawful (p .types)) (open-apart file p h) (sourceTypes p) (row .0) j (within .0 .1) (values .1) (within .0 .0) (values .0) (bytes-are ∙ sym same) in
-          absurd (omega (arith, deep, ap depth one, within-depth p (row .0) (within .0) .0 (within .1)))
+          absurd (unfit (subst (Fits (sourceSlots p)) one (within .1)))
+
+  -- which is so exactly if the deepest of them is deeper than D
+  pub too-deep-exactly : (bytes : List ℕ) (j : Parts) → ClosedInput p j → prefix j ≡ bytes → (readInput p bytes ≡ none) ↔ (depthOf (p .depths) < depth j)
+  too-deep-exactly bytes j values same =
+      let (unfit, unread) = unfit-exactly bytes j values same in
+      (λ none-read. by-depth (leb (depth j) (depthOf (p .depths))) refl (unfit none-read), λ deep. unread (λ fits. omega (arith, deep, within .0 fits)))
+    where
+      within : Fits (sourceSlots p) j ↔ (depth j ≤ depthOf (p .depths))
+      within = within-depth file p h j values
+
+      by-depth : (b : Bool) → leb (depth j) (depthOf (p .depths)) ≡ b → ¬ Fits (sourceSlots p) j → depthOf (p .depths) < depth j
+      by-depth true shallow unfit = absurd (unfit (within .1 (leb-true (depth j) (depthOf (p .depths)) shallow)))
+      by-depth false deep unfit = leb-false (depth j) (depthOf (p .depths)) deep
 
   -- to read below more constructors than the largest D changes nothing
   pub bound-changes-nothing : (levels : ℕ) → depthLimit ≤ levels → (bytes : List ℕ) → inputBy levels (p .types) (sourceSlots p) bytes ≡ readInput p bytes

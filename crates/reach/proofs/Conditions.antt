@@ -1,12 +1,12 @@
 -- The check answers under exactly the conditions of specs/Conditions: a file is accepted where it passes every test, and turned back by the test that it
 -- fails first. So each refusal has its own condition, and which passes can give it.
 -- Rests on Stages for the order of the tests, on Numbers for the second pass, on LeastDepths for the table, on Encoding for the functions of the heads, and
--- on Refusals.
+-- on Refusals; for the one depth that GO gives on Limits and Slots.
 use Prim.Native.Nat.{ℕ, zero, suc, _≤_, _<_}
 use native.Mathlib.Omega.{arith}
 use mathlib.Core.Path.{_≡_, refl, sym, _∙_, ap, subst}
 use mathlib.Core.Logic.{_⊎_, inl, inr, ⊎-elim, _↔_}
-use mathlib.Core.Bool.{Bool, true, false, _||_, false≢true}
+use mathlib.Core.Bool.{Bool, true, false, _||_, false≢true, and-true}
 use mathlib.Core.List.{List, [], _∷_, _++_, List·Memᴰ·not-nil, List·Memᴰ·cases-cons, List·Memᴰ·head, List·Memᴰ·tail, Memᴰ·append-right}
 use mathlib.Core.Option.{Option, none, some}
 use lib.ListN.{length, getD, getElem?}
@@ -16,19 +16,21 @@ use Rattle.reach.specs.declared.Refusal.{Refusal}
 use Rattle.reach.specs.declared.Refusal.the-variants.{Truncated, UnexpectedMark, OutOfRange, UnknownNumber, UnknownCode, TypeMismatch, TrailingBytes, EmptyType, DepthTooSmall, BadSpelling}
 use Rattle.reach.specs.Base.{_∈_}
 use Rattle.reach.specs.Words.{numberOf}
-use Rattle.reach.specs.Limits.{fileLimit}
+use Rattle.reach.specs.Limits.{fileLimit, parameterLimit}
 use Rattle.reach.specs.Syntax.{Expr, Types, Function, Program, functionAt, parametersOf, sourceTypes}
 use Rattle.reach.specs.Parts.{Parts, depth}
-use Rattle.reach.specs.Types.{ValueOf, LeastDepth, leastDepths, shallow}
+use Rattle.reach.specs.Types.{Slot, slots, evenSlots, sourceSlots, depthOf, ValueOf, LeastDepth, leastDepths, shallow, roomy}
 use Rattle.reach.specs.Names.{Spells, spells}
 use Rattle.reach.specs.Reader.{Got, got, refused, onGot}
 use Rattle.reach.specs.RuleFile.{Head, Declarations, Outline, outline, numbersExist, bodyOf, functionsOf, programOf, noEmptyType, deepEnough, wellSpelled}
 use Rattle.reach.specs.Answers.{Checked, accepted, turnedBack, check}
-use Rattle.reach.specs.Conditions.{FileTooLong, FirstPassRefuses, of-parameter, AllNumbersExist, SomeNumberMissing, SecondPassRefuses, BodyReads, AllBodiesRead, SomeBodyRefused, ThirdPassRefuses, Passes}
-use Rattle.reach.specs.Conditions.{AllTypesInhabited, SomeTypeEmpty, Hollow, SourceParameter, AllParametersFit, SomeParameterTooDeep, Shallow, NamesSpelled, NamesOtherwise, Misspelled, Acceptable, RefusedBy, by-size, by-first-pass, by-second-pass, by-third-pass, by-empty-type, by-depth, by-spelling}
-use Rattle.reach.proofs.Base.{clash, nth-member}
+use Rattle.reach.specs.Conditions.{FileTooLong, FirstPassFinds, FirstPassRefuses, of-parameter, AllNumbersExist, SomeNumberMissing, SecondPassRefuses, BodyReads, AllBodiesRead, SomeBodyRefused, ThirdPassRefuses, Passes}
+use Rattle.reach.specs.Conditions.{AllTypesInhabited, SomeTypeEmpty, Hollow, SourceParameter, SourceSlot, AllParametersFit, SomeParameterTooDeep, Shallow, NamesSpelled, NamesOtherwise, Misspelled, Acceptable, RefusedBy, by-size, by-first-pass, by-second-pass, by-third-pass, by-empty-type, by-depth, by-spelling}
+use Rattle.reach.proofs.Base.{clash, nth-member, each-member}
 use Rattle.reach.proofs.Tests.{Tells, passes, fails, tells-as, passes-exactly, fails-exactly, tells-both, All, Some, all-more, tells-none, tells-more, ltb-tells, leb-tells}
 use Rattle.reach.proofs.Numbers.{named-tells, numbers-tell, numbers-exist-exactly, number-missing-exactly}
+use Rattle.reach.proofs.Slots.{slots-member, even-slots, even-each, member-even}
+use Rattle.reach.proofs.Limits.{IfFound, HeadKept, OutlineKept, outline-kept}
 use Rattle.reach.proofs.Spelling.{spells-tells}
 use Rattle.reach.proofs.WellTyped.{at-below, at-getD}
 use Rattle.reach.proofs.LeastDepths.{rounds-length, least-depth-values, no-value}
@@ -110,19 +112,22 @@ unfolding noEmptyType
 filled-tells [] = tells-none (λ d. 0 < d) (λ d. d ≤ 0)
 filled-tells (d ∷ ds) = tells-more (λ d. 0 < d) (λ d. d ≤ 0) d ds (ltb-tells 0 d) (filled-tells ds)
 
--- by the table a type has a value that is at most so deep, or not
-module _ (table : List ℕ) (most : ℕ) where
-  abbrev ShallowBy : ℕ → Type 0
-  ShallowBy t = (0 < getD table t 0) × (getD table t 0 ≤ most)
+-- by the table the type of a slot has a value that fits there, or not
+module _ (table : List ℕ) where
+  abbrev ShallowBy : Slot → Type 0
+  ShallowBy s = (0 < getD table (s .type) 0) × (getD table (s .type) 0 ≤ s .room)
 
-  abbrev DeepBy : ℕ → Type 0
-  DeepBy t = (getD table t 0 ≤ 0) ⊎ (most < getD table t 0)
+  abbrev DeepBy : Slot → Type 0
+  DeepBy s = (getD table (s .type) 0 ≤ 0) ⊎ (s .room < getD table (s .type) 0)
 
-  shallow-tells : (ts : List ℕ) → Tells (shallow table most ts) (All ShallowBy ts) (Some DeepBy ts)
+  shallow-tells : (s : Slot) → Tells (shallow table (s .room) (s .type ∷ [])) (ShallowBy s) (DeepBy s)
   unfolding shallow
-  shallow-tells [] = tells-none ShallowBy DeepBy
-  shallow-tells (t ∷ ts) =
-      tells-more ShallowBy DeepBy t ts (tells-both (ltb-tells 0 (getD table t 0)) (leb-tells (getD table t 0) most)) (shallow-tells ts)
+  shallow-tells s = rw and-true (tells-both (ltb-tells 0 (getD table (s .type) 0)) (leb-tells (getD table (s .type) 0) (s .room)))
+
+  roomy-tells : (ss : List Slot) → Tells (roomy table ss) (All ShallowBy ss) (Some DeepBy ss)
+  unfolding roomy
+  roomy-tells [] = tells-none ShallowBy DeepBy
+  roomy-tells (s ∷ ss) = tells-more ShallowBy DeepBy s ss (shallow-tells s) (roomy-tells ss)
 
 -- a type whose number in the table is above 0 has that least depth
 above : (types : Types) (t : ℕ) → 0 < getD (leastDepths types) t 0 → LeastDepth types t (getD (leastDepths types) t 0)
@@ -154,43 +159,82 @@ module _ (d : Declarations) where
 
 module _ (o : Outline) where
   parameters-apart : AllParametersFit o → SomeParameterTooDeep o → ⊥
-  parameters-apart all (t, parameter, (d, (there, least), over)) =
-      let (e, ((v, value, deep), least-too), fits) = all t parameter in
+  parameters-apart all (s, parameter, (d, (there, least), over)) =
+      let (e, ((v, value, deep), least-too), fits) = all s parameter in
       omega (arith, least v value, deep, fits, over)
 
   -- the parameters of the source function are those of its head
   module _ (file : List ℕ) (fs : List Function) (bodies : Heads (o .declared .heads) fs) where
-    parameter-in : (t : ℕ) → SourceParameter o t → t ∈ sourceTypes (programOf o fs)
-    unfolding sourceTypes functionAt programOf
-    parameter-in t (h, is, m) =
+    parameter-in : (s : Slot) → SourceSlot o s → s ∈ sourceSlots (programOf o fs)
+    unfolding sourceSlots sourceTypes functionAt programOf
+    parameter-in s (h, is, m) =
         let (g, g-is, body) = function-of (o .declared .heads) fs bodies (o .goal .source) h is in
         rw (g-is, body .parameters) m
 
-    in-parameter : (t : ℕ) → t ∈ sourceTypes (programOf o fs) → SourceParameter o t
-    unfolding sourceTypes functionAt programOf
-    in-parameter t m = go (getElem? fs (o .goal .source)) refl m
+    in-parameter : (s : Slot) → s ∈ sourceSlots (programOf o fs) → SourceSlot o s
+    unfolding sourceSlots slots sourceTypes functionAt programOf
+    in-parameter s m = go (getElem? fs (o .goal .source)) refl m
       where
-        go : (g : Option Function) → getElem? fs (o .goal .source) ≡ g → t ∈ parametersOf g → SourceParameter o t
+        go : (g : Option Function) → getElem? fs (o .goal .source) ≡ g → s ∈ slots (parametersOf g) (o .goal .depths) → SourceSlot o s
         go none is m = absurd (List·Memᴰ·not-nil m)
         go (some g) is m =
             let (h, h-is, body) = head-of (o .declared .heads) fs bodies (o .goal .source) g is in
-            (h, h-is, subst (λ (ts : List ℕ). t ∈ ts) (body .parameters) m)
+            (h, h-is, subst (λ (ts : List ℕ). s ∈ slots ts (o .goal .depths)) (body .parameters) m)
 
     parameters-tell : AllNumbersExist o → AllTypesInhabited (o .declared) → Tells (deepEnough (programOf o fs)) (AllParametersFit o) (SomeParameterTooDeep o)
     unfolding deepEnough programOf
     parameters-tell exist inhabited =
         tells-as
-        (λ all t parameter. let (some-value, few) = all t (parameter-in t parameter) in
-        (getD (leastDepths (o .declared .types)) t 0, above (o .declared .types) t some-value, few))
-        (λ (t, m, deep). let parameter = in-parameter t m in (t, parameter, too-deep t parameter deep))
-        (shallow-tells (leastDepths (o .declared .types)) (o .goal .depth) (sourceTypes (programOf o fs)))
+        (λ all s parameter. let (some-value, few) = all s (parameter-in s parameter) in
+        (getD (leastDepths (o .declared .types)) (s .type) 0, above (o .declared .types) (s .type) some-value, few))
+        (λ (s, m, deep). let parameter = in-parameter s m in (s, parameter, too-deep s parameter deep))
+        (roomy-tells (leastDepths (o .declared .types)) (sourceSlots (programOf o fs)))
       where
-        too-deep : (t : ℕ) → SourceParameter o t → DeepBy (leastDepths (o .declared .types)) (o .goal .depth) t
-            → (d : ℕ) × LeastDepth (o .declared .types) t d × (o .goal .depth < d)
-        too-deep t (h, is, m) (inl empty) =
-            let (v, value) = inhabited t (exist .0 t (of-parameter h (nth-member (o .declared .heads) (o .goal .source) h is) m)) in
-            absurd (nothing (o .declared .types) t empty v value)
-        too-deep t parameter (inr over) = (getD (leastDepths (o .declared .types)) t 0, above (o .declared .types) t (omega (arith, over)), over)
+        too-deep : (s : Slot) → SourceSlot o s → DeepBy (leastDepths (o .declared .types)) s
+            → (d : ℕ) × LeastDepth (o .declared .types) (s .type) d × (s .room < d)
+        too-deep s (h, is, m) (inl empty) =
+            let there = slots-member (h .parameters) (o .goal .depths) s m in
+            let (v, value) = inhabited (s .type) (exist .0 (s .type) (of-parameter h (nth-member (o .declared .heads) (o .goal .source) h is) there)) in
+            absurd (nothing (o .declared .types) (s .type) empty v value)
+        too-deep s parameter (inr over) =
+            (getD (leastDepths (o .declared .types)) (s .type) 0, above (o .declared .types) (s .type) (omega (arith, over)), over)
+
+-- the same with one depth for all parameters, which GO gives
+module _ (file : List ℕ) (o : Outline) (found : FirstPassFinds file o) where
+  outlined : OutlineKept o
+  outlined = by-found found
+    where
+      by-found : FirstPassFinds file o → OutlineKept o
+      by-found (size, (behind, read)) = subst (IfFound (λ x next. OutlineKept x)) read (outline-kept .found file 0)
+
+  abbrev goalDepth : ℕ
+  goalDepth = depthOf (o .goal .depths)
+
+  slots-alike : (h : Head) → getElem? (o .declared .heads) (o .goal .source) ≡ some h → slots (h .parameters) (o .goal .depths) ≡ evenSlots (h .parameters) goalDepth
+  slots-alike h is =
+      ap (slots (h .parameters)) (outlined .goal .2)
+      ∙ even-slots (h .parameters) parameterLimit goalDepth (each-member HeadKept (outlined .heads-kept) (nth-member (o .declared .heads) (o .goal .source) h is))
+
+  of-type : (t : ℕ) → SourceParameter o t → SourceSlot o (record { type = t; room = goalDepth })
+  of-type t (h, is, m) = (h, is, rw (slots-alike h is) (member-even (h .parameters) goalDepth t m))
+
+  of-slot : (s : Slot) → SourceSlot o s → SourceParameter o (s .type) × (s .room ≡ goalDepth)
+  of-slot s (h, is, m) =
+      let alike = each-member (λ (x : Slot). x .room ≡ goalDepth) (rw (slots-alike h is) (even-each (λ x. x .room ≡ goalDepth) (h .parameters) goalDepth (λ t. refl))) m in
+      ((h, is, slots-member (h .parameters) (o .goal .depths) s m), alike)
+
+  pub all-within : AllParametersFit o ↔ ((t : ℕ) → SourceParameter o t → (d : ℕ) × LeastDepth (o .declared .types) t d × (d ≤ goalDepth))
+  all-within = (
+    λ all t parameter. all (record { type = t; room = goalDepth }) (of-type t parameter),
+    λ all s parameter. let (of, deep) = of-slot s parameter in
+        let (d, least, fits) = all (s .type) of in (d, least, omega (arith, fits, deep)),
+  )
+
+  pub some-beyond : SomeParameterTooDeep o ↔ ((t : ℕ) × SourceParameter o t × ((d : ℕ) × LeastDepth (o .declared .types) t d × (goalDepth < d)))
+  some-beyond = (
+    λ (s, parameter, (d, least, over)). let (of, deep) = of-slot s parameter in (s .type, of, (d, least, omega (arith, over, deep))),
+    λ (t, parameter, over). (record { type = t; room = goalDepth }, of-type t parameter, over),
+  )
 
 -- ---- the test of names
 

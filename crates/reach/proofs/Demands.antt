@@ -16,7 +16,7 @@ use Rattle.reach.specs.Base.{_∈_}
 use Rattle.reach.specs.Limits.{typeLimit, depthLimit, workWords}
 use Rattle.reach.specs.Syntax.{Types, Program}
 use Rattle.reach.specs.Parts.{Parts, end, bound, Place, openAt, BoundPart, Completes, depth, prefix}
-use Rattle.reach.specs.Types.{sourceSlots, ClosedInput, WithinDepth, ValueOf, LeastDepth, rounds, leastDepths}
+use Rattle.reach.specs.Types.{sourceSlots, depthOf, ClosedInput, WithinDepth, ValueOf, LeastDepth, rounds, leastDepths}
 use Rattle.reach.specs.Eval.{missing, halted, run, Spent, NotHalted}
 use Rattle.reach.specs.Search.{Entry, says, Shown, StopsInside, entries}
 use Rattle.reach.specs.States.{MissingAfter}
@@ -143,7 +143,7 @@ depth-exactly file p h bytes j d = ClosedInputs.read-exactly file p h bytes (j, 
 -- The same: "the closed run and the check for refusal 10 rely on the new figure". Bytes of closed values of the parameters' types are an input exactly if
 -- the depth of the deepest is at most D.
 pub too-deep-exactly : (file : List ℕ) (p : Program) → check file ≡ accepted p
-    → (bytes : List ℕ) (j : Parts) → ClosedInput p j → prefix j ≡ bytes → (readInput p bytes ≡ none) ↔ (p .depth < depth j)
+    → (bytes : List ℕ) (j : Parts) → ClosedInput p j → prefix j ≡ bytes → (readInput p bytes ≡ none) ↔ (depthOf (p .depths) < depth j)
 too-deep-exactly file p h bytes j values same = ClosedInputs.too-deep-exactly file p h bytes j values same
 
 -- That values are read below 64 constructors only, the largest D, changes no answer.

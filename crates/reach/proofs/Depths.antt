@@ -3,7 +3,7 @@
 -- Rests on Order for places, on Slots for the slots of a row and on LeastDepths for what the table of least depths says.
 use Prim.Native.Nat.{ℕ, zero, suc, _+_, _-_, _≤_}
 use mathlib.Core.Path.{_≡_, refl, sym, _∙_, ap, subst}
-use mathlib.Core.Bool.{true}
+use mathlib.Core.Bool.{true, and-eq-true-iff}
 use mathlib.Core.List.{List, [], _∷_, List·Memᴰ·not-nil, List·Memᴰ·cases-cons, List·Memᴰ·head, List·Memᴰ·tail}
 use mathlib.Core.Option.{some, Option·some-injective, Option·none-ne-some}
 use mathlib.Core.Logic.{_↔_, ⊎-elim}
@@ -13,11 +13,11 @@ use Rattle.reach.specs.Base.{_∈_, Each}
 use Rattle.reach.specs.Syntax.{Types, Program, fieldTypes, sourceTypes}
 use Rattle.reach.specs.Parts.{Parts, end, opened, bound, width, allOpen, Place, here, after, inside, There}
 use Rattle.reach.specs.Parts.{free, has, at, bindAt, Closed, depth, _⊑_, ⊑-end, ⊑-open, ⊑-bind, ⊑-same}
-use Rattle.reach.specs.Types.{Typed, Slot, slots, slotTypes, slotAt, sourceSlots, ClosedInput, Fits, leastDepths, shallow, Fork, forksFrom, forks, forksAt}
+use Rattle.reach.specs.Types.{Typed, Slot, slots, evenSlots, slotTypes, slotAt, Fits, leastDepths, shallow, roomy, Fork, forksFrom, forks, forksAt}
 use Rattle.reach.proofs.Base.{picked}
 use Rattle.reach.proofs.Order.{free-unbound}
 use Rattle.reach.proofs.LeastDepths.{shallow-head, shallow-cons, shallow-covers, shallow-filled}
-use Rattle.reach.proofs.Slots.{slots-types, slots-length, field-slots}
+use Rattle.reach.proofs.Slots.{even-types, even-length, field-slots}
 
 -- A fork takes a constructor of the type, counted from c, whose fields all have a value that fits below.
 abbrev pub Taken : List ℕ → ℕ → ℕ → List (List ℕ) → Fork → Type 0
@@ -64,16 +64,23 @@ Fit types [] (bound c fs r) = ⊥
 Fit types (s ∷ ss) end = ⊥
 Fit types (s ∷ ss) (opened r) = (shallow (leastDepths types) (s .room) (s .type ∷ []) ≡ true) × Fit types ss r
 Fit types (s ∷ ss) (bound c fs r) =
-    (d : ℕ) × (us : List ℕ) × (s .room ≡ suc d) × (fieldTypes types (s .type) c ≡ some us) × Fit types (slots us d) fs × Fit types ss r
+    (d : ℕ) × (us : List ℕ) × (s .room ≡ suc d) × (fieldTypes types (s .type) c ≡ some us) × Fit types (evenSlots us d) fs × Fit types ss r
 
 module _ (types : Types) where
   -- every slot has a closed value that fits there
   abbrev pub Roomy : List Slot → Type 0
   Roomy ss = Each (λ (s : Slot). shallow (leastDepths types) (s .room) (s .type ∷ []) ≡ true) ss
 
-  -- slots of one depth do where the table says so of their types
-  pub shallow-roomy : (ts : List ℕ) (d : ℕ) → shallow (leastDepths types) d ts ≡ true → Roomy (slots ts d)
-  unfolding slots
+  -- slots are so where the table says so
+  pub roomy-each : (ss : List Slot) → roomy (leastDepths types) ss ≡ true → Roomy ss
+  unfolding roomy
+  roomy-each [] h = tt
+  roomy-each (s ∷ ss) h =
+      let both = and-eq-true-iff (shallow (leastDepths types) (s .room) (s .type ∷ [])) (roomy (leastDepths types) ss) .0 h in (both .0, roomy-each ss (both .1))
+
+  -- and slots of one depth where it says so of their types
+  pub shallow-roomy : (ts : List ℕ) (d : ℕ) → shallow (leastDepths types) d ts ≡ true → Roomy (evenSlots ts d)
+  unfolding evenSlots slots
   shallow-roomy [] d h = tt
   shallow-roomy (t ∷ ts) d h =
       let first = shallow-head (leastDepths types) d t ts h in
@@ -96,8 +103,8 @@ module _ (types : Types) where
   typed-width (t ∷ ts) (bound c fs r) h = ap suc (typed-width ts r (h .3))
 
   -- every part is at most d deep exactly where the whole row is
-  pub fits-depth : (ts : List ℕ) (d : ℕ) (e : Parts) → Typed types ts e → Fits (slots ts d) e ↔ (depth e ≤ d)
-  unfolding slots depth
+  pub fits-depth : (ts : List ℕ) (d : ℕ) (e : Parts) → Typed types ts e → Fits (evenSlots ts d) e ↔ (depth e ≤ d)
+  unfolding evenSlots slots depth
   fits-depth [] d end h = (λ f. omega arith, λ l. tt)
   fits-depth [] d (opened r) h = absurd h
   fits-depth [] d (bound c fs r) h = absurd h
@@ -107,9 +114,19 @@ module _ (types : Types) where
       let rest = fits-depth ts d r (h .3) in
       (λ f. omega (arith, f .0, rest .0 (f .1)), λ l. (omega arith, rest .1 (omega arith)))
 
+  -- a row that fits slots of no more than this depth is no deeper
+  pub fits-within : (ss : List Slot) (d : ℕ) (e : Parts) → Each (λ (s : Slot). s .room ≤ d) ss → Typed types (slotTypes ss) e → Fits ss e → depth e ≤ d
+  unfolding slotTypes depth
+  fits-within [] d end all h f = omega arith
+  fits-within [] d (opened r) all h f = absurd h
+  fits-within [] d (bound c fs r) all h f = absurd h
+  fits-within (s ∷ ss) d end all h f = absurd h
+  fits-within (s ∷ ss) d (opened r) all h f = fits-within ss d r (all .1) h f
+  fits-within (s ∷ ss) d (bound c fs r) all h f = omega (arith, all .0, f .0, fits-within ss d r (all .1) (h .3) (f .1))
+
   -- so of slots of one depth it is enough to know the types and the depth of the row
-  one-depth : (ts : List ℕ) (d : ℕ) (e : Parts) → (Typed types (slotTypes (slots ts d)) e × Fits (slots ts d) e) ↔ (Typed types ts e × (depth e ≤ d))
-  one-depth ts d e = rw (slots-types ts d) (λ h. (h .0, fits-depth ts d e (h .0) .0 (h .1)), λ h. (h .0, fits-depth ts d e (h .0) .1 (h .1)))
+  one-depth : (ts : List ℕ) (d : ℕ) (e : Parts) → (Typed types (slotTypes (evenSlots ts d)) e × Fits (evenSlots ts d) e) ↔ (Typed types ts e × (depth e ≤ d))
+  one-depth ts d e = rw (even-types ts d) (λ h. (h .0, fits-depth ts d e (h .0) .0 (h .1)), λ h. (h .0, fits-depth ts d e (h .0) .1 (h .1)))
 
   -- a row that fits has the types of its slots, and each part is at most as deep as its slot allows
   pub fit-typed : (ss : List Slot) (e : Parts) → Fit types ss e → Typed types (slotTypes ss) e × Fits ss e
@@ -120,7 +137,7 @@ module _ (types : Types) where
   fit-typed (s ∷ ss) end h = absurd h
   fit-typed (s ∷ ss) (opened r) h = fit-typed ss r (h .1)
   fit-typed (s ∷ ss) (bound c fs r) h =
-      let inner = one-depth (h .1) (h .0) fs .0 (fit-typed (slots (h .1) (h .0)) fs (h .4)) in
+      let inner = one-depth (h .1) (h .0) fs .0 (fit-typed (evenSlots (h .1) (h .0)) fs (h .4)) in
       let rest = fit-typed ss r (h .5) in
       ((h .1, h .3, inner .0, rest .0), (omega (arith, inner .1, h .2), rest .1))
 
@@ -135,7 +152,7 @@ module _ (types : Types) where
   typed-fit (s ∷ ss) (bound c fs r) z h l =
       let d = s .room - 1 in
       let inner = one-depth (h .0) d fs .1 (h .2, omega (arith, l .0)) in
-      (d, h .0, omega (arith, l .0), h .1, typed-fit (slots (h .0) d) fs (z .0) (inner .0) (inner .1), typed-fit ss r (z .1) (h .3) (l .1))
+      (d, h .0, omega (arith, l .0), h .1, typed-fit (evenSlots (h .0) d) fs (z .0) (inner .0) (inner .1), typed-fit ss r (z .1) (h .3) (l .1))
 
   -- what a fork takes in a slot: a constructor of its type whose fields all have a value that fits below
   abbrev pub TakenIn : Slot → Fork → Type 0
@@ -170,9 +187,9 @@ module _ (types : Types) where
   bind-fit [] (opened r) q f h g m = absurd h
   bind-fit (s ∷ ss) (opened r) here f h g m =
       let k = forks-of s f m in
-      let open-fields = open-fit (slots (k .1) (k .0)) (shallow-roomy (k .1) (k .0) (k .5)) in
-      let many : length (slots (k .1) (k .0)) ≡ f .fields = slots-length (k .1) (k .0) ∙ sym (k .4) in
-      (k .0, k .1, k .2, k .3, subst (λ (n : ℕ). Fit types (slots (k .1) (k .0)) (allOpen n)) many open-fields, h .1)
+      let open-fields = open-fit (evenSlots (k .1) (k .0)) (shallow-roomy (k .1) (k .0) (k .5)) in
+      let many : length (evenSlots (k .1) (k .0)) ≡ f .fields = even-length (k .1) (k .0) ∙ sym (k .4) in
+      (k .0, k .1, k .2, k .3, subst (λ (n : ℕ). Fit types (evenSlots (k .1) (k .0)) (allOpen n)) many open-fields, h .1)
   bind-fit (s ∷ ss) (opened r) (after q) f h g m = (h .0, bind-fit ss r q f (h .1) g m)
   bind-fit (s ∷ ss) (opened r) (inside q) f h g m = h
   bind-fit [] (bound c fs r) q f h g m = absurd h
@@ -181,7 +198,7 @@ module _ (types : Types) where
   bind-fit (s ∷ ss) (bound c fs r) (inside q) f h g m =
       let same = field-slots types s c (h .0) (h .1) (omega (arith, h .2)) (h .3) in
       let taken = subst (λ (x : List Slot). f ∈ forksAt types (leastDepths types) (slotAt types fs q x)) same m in
-      (h .0, h .1, h .2, h .3, bind-fit (slots (h .1) (h .0)) fs q f (h .4) g taken, h .5)
+      (h .0, h .1, h .2, h .3, bind-fit (evenSlots (h .1) (h .0)) fs q f (h .4) g taken, h .5)
 
   -- where a row is open, a closed row that completes it and fits has one of the fork's constructors
   pub fork-covers : (ss : List Slot) {e j : Parts} → e ⊑ j → Closed j → Fit types ss j → (q : Place) → at e q ≡ free
@@ -191,7 +208,7 @@ module _ (types : Types) where
   fork-covers ss (⊑-open a) z h q g = absurd z
   fork-covers [] (⊑-bind a) z h q g = absurd h
   fork-covers (s ∷ ss) (⊑-bind {gs = gs} {d = c} a) z h here g =
-      let typed = one-depth (h .1) (h .0) gs .0 (fit-typed (slots (h .1) (h .0)) gs (h .4)) in
+      let typed = one-depth (h .1) (h .0) gs .0 (fit-typed (evenSlots (h .1) (h .0)) gs (h .4)) in
       let small = shallow-covers types (h .1) gs (h .0) (z .0) (typed .0) (typed .1) in
       (c, width gs, refl, of-forks s _ (h .0, h .1, h .2, h .3, typed-width (h .1) gs (typed .0), small))
   fork-covers (s ∷ ss) (⊑-bind a) z h (after q) g = fork-covers ss a (z .1) (h .5) q g
@@ -200,18 +217,18 @@ module _ (types : Types) where
   fork-covers (s ∷ ss) (⊑-same f a) z h here g = absurd (free-unbound (sym g))
   fork-covers (s ∷ ss) (⊑-same f a) z h (after q) g = fork-covers ss a (z .1) (h .5) q g
   fork-covers (s ∷ ss) (⊑-same {c = c} f a) z h (inside q) g =
-      rw (field-slots types s c (h .0) (h .1) (omega (arith, h .2)) (h .3)) (fork-covers (slots (h .1) (h .0)) f (z .0) (h .4) q g)
+      rw (field-slots types s c (h .0) (h .1) (omega (arith, h .2)) (h .3)) (fork-covers (evenSlots (h .1) (h .0)) f (z .0) (h .4) q g)
 
   -- a closed value that is at most n deep, taken apart
   single : (t n : ℕ) (v : Parts) → Closed v → Typed types (t ∷ []) v → depth v ≤ n
-      → (c : ℕ) × (gs : Parts) × Closed gs × ((d : ℕ) × (us : List ℕ) × (n ≡ suc d) × (fieldTypes types t c ≡ some us) × Fit types (slots us d) gs)
+      → (c : ℕ) × (gs : Parts) × Closed gs × ((d : ℕ) × (us : List ℕ) × (n ≡ suc d) × (fieldTypes types t c ≡ some us) × Fit types (evenSlots us d) gs)
   unfolding depth
   single t n end z h l = absurd h
   single t n (opened r) z h l = absurd z
   single t zero (bound c gs r) z h l = absurd (omega (arith, l))
   single t (suc d) (bound c gs r) z h l =
       let inner = one-depth (h .0) d gs .1 (h .2, omega (arith, l)) in
-      (c, gs, z .0, (d, h .0, refl, h .1, typed-fit (slots (h .0) d) gs (z .0) (inner .0) (inner .1)))
+      (c, gs, z .0, (d, h .0, refl, h .1, typed-fit (evenSlots (h .0) d) gs (z .0) (inner .0) (inner .1)))
 
   -- every input that fits has a completion that fits
   pub completion : (ss : List Slot) (e : Parts) → Fit types ss e → (j : Parts) × (e ⊑ j) × Closed j × Fit types ss j
@@ -225,11 +242,6 @@ module _ (types : Types) where
       let rest = completion ss r (h .1) in
       (bound (v .0) (v .1) (rest .0), ⊑-bind (rest .1), (v .2, rest .2), (v .3 .0, v .3 .1, v .3 .2, v .3 .3, v .3 .4, rest .3))
   completion (s ∷ ss) (bound c fs r) h =
-      let inner = completion (slots (h .1) (h .0)) fs (h .4) in
+      let inner = completion (evenSlots (h .1) (h .0)) fs (h .4) in
       let rest = completion ss r (h .5) in
       (bound c (inner .0) (rest .0), ⊑-same (inner .1) (rest .1), (inner .2, rest .2), (h .0, h .1, h .2, h .3, inner .3, rest .3))
-
--- a closed input is within the depth exactly if its deepest parameter is
-pub within-depth : (p : Program) (j : Parts) → ClosedInput p j → Fits (sourceSlots p) j ↔ (depth j ≤ p .depth)
-unfolding sourceSlots
-within-depth p j h = fits-depth (p .types) (sourceTypes p) (p .depth) j (h .1)

@@ -18,7 +18,7 @@ use Rattle.reach.specs.Base.{pick, _∈_, Each}
 use Rattle.reach.specs.Limits.{listLimit, depthLimit}
 use Rattle.reach.specs.Syntax.{Types, Program}
 use Rattle.reach.specs.Parts.{Parts, end, opened, bound, prefix}
-use Rattle.reach.specs.Types.{Typed, Slot, slots, sourceSlots, slotTypes, leastDepths}
+use Rattle.reach.specs.Types.{Typed, Slot, slots, evenSlots, sourceSlots, slotTypes, leastDepths}
 use Rattle.reach.specs.Search.{Entry, entries}
 use Rattle.reach.specs.Lists.{wordBytes, kindBytes, entryBytes, listBytes, isMark, kindOf, sayingOf}
 use Rattle.reach.specs.Answers.{accepted, check, searchAnswer, listed}
@@ -230,8 +230,8 @@ module _ (p : Program) (few : OpenApart (p .types)) (s : List ℕ)
 
 -- What fits its slots as the search's inputs do keeps their depths.
 module _ (types : Types) where
-  fit-deepest : (us : List ℕ) (d : ℕ) (e : Parts) → Fit types (slots us d) e → deepest types us e ≤ d
-  unfolding slots deepest
+  fit-deepest : (us : List ℕ) (d : ℕ) (e : Parts) → Fit types (evenSlots us d) e → deepest types us e ≤ d
+  unfolding evenSlots slots deepest
   fit-deepest [] d end h = omega arith
   fit-deepest [] d (opened r) h = absurd h
   fit-deepest [] d (bound c fs r) h = absurd h

@@ -1,20 +1,22 @@
 -- What an accepted file keeps to: the limits of 01, no type without a closed value, and parameters that fit the depth.
 -- Each reader promises a fact of whatever it finds; the promises are joined along the reader's own text.
--- Rests on Reader, RuleFile and Answers of specs/ and on Slots.
+-- Rests on Reader, RuleFile and Answers of specs/, on Slots and on Depths.
 use Prim.Native.Nat.{ℕ, zero, suc, pred, _≤_, zero-le, suc-le-suc}
-use mathlib.Core.Path.{_≡_, refl, subst}
+use mathlib.Core.Path.{_≡_, refl, subst, ap, _∙_}
+use mathlib.Core.Logic.{_↔_}
 use mathlib.Core.Bool.{Bool, true, _&&_, and-eq-true-iff}
 use mathlib.Core.List.{List, [], _∷_}
 use mathlib.Core.Option.{Option, none, some}
 use native.Mathlib.Nat.{le-trans}
-use lib.ListN.{length, getD, getElem?}
+use lib.ListN.{length, getD, getElem?, replicate}
 use lib.Dec.{leb}
 use borrow.Author.Tests.{leb-true}
 use Rattle.reach.specs.declared.Refusal.{Refusal}
 use Rattle.reach.specs.declared.Refusal.the-variants.{OutOfRange, UnknownNumber, TrailingBytes, EmptyType, DepthTooSmall, BadSpelling}
 use Rattle.reach.specs.Limits.{typeLimit, constructorLimit, fieldLimit, functionLimit, parameterLimit, bodyLimit, depthLimit, stepLimit}
 use Rattle.reach.specs.Syntax.{Function, Program, fieldTypes, functionAt, parametersOf, sourceTypes}
-use Rattle.reach.specs.Types.{Slot, sourceSlots, leastDepths}
+use Rattle.reach.specs.Parts.{Parts, depth}
+use Rattle.reach.specs.Types.{Slot, slots, evenSlots, sourceSlots, depthOf, ClosedInput, Fits, WithinDepth, leastDepths}
 use Rattle.reach.specs.Names.{spells}
 use Rattle.reach.specs.Reader.{Got, got, refused, onGot, Reader, _>>=_, _>>_, give, refuse, demand, byte, word, times, passed, atEnd}
 use Rattle.reach.specs.RuleFile.{Mark, inTurn, mark, counted, constructorRecord, typeRecord, Head, functionRecord, Goal, goalRecord}
@@ -23,7 +25,8 @@ use Rattle.reach.specs.Answers.{accepted, turnedBack, check}
 use Rattle.reach.specs.Base.{Each}
 use Rattle.reach.proofs.InTurn.{in-turn}
 use Rattle.reach.proofs.Base.{clash, picked, nth-member, each-member, each-getD}
-use Rattle.reach.proofs.Slots.{slots-each}
+use Rattle.reach.proofs.Slots.{even-each, even-slots, source-types}
+use Rattle.reach.proofs.Depths.{fits-within, fits-depth}
 
 -- the fact holds of the value that was found and of the place behind it, if one was
 abbrev pub IfFound : {A : Type 0} → (A → ℕ → Type 0) → Got A → Type 0
@@ -140,9 +143,10 @@ head-kept =
     (λ x y. then (anything (passed l))
     (λ b w. giving (le-trans (hs .0) (h .1))))))))
 
--- what GO asks for is within the limits
+-- what GO asks for is within the limits, and its depths are alike
 abbrev pub GoalKept : Goal → Type 0
-GoalKept g = (1 ≤ g .depth) × (g .depth ≤ depthLimit) × (g .steps ≤ stepLimit)
+GoalKept g =
+    (1 ≤ depthOf (g .depths)) × (depthOf (g .depths) ≤ depthLimit) × (g .depths ≡ replicate parameterLimit (depthOf (g .depths))) × (g .steps ≤ stepLimit)
 
 goal-kept : Promises GoalKept goalRecord
 unfolding goalRecord
@@ -152,7 +156,7 @@ goal-kept =
     (λ l v. then (counting 1 depthLimit)
     (λ d h. then (anything word)
     (λ s w. then-on (demanding _ _)
-    (λ x t. giving (h .0, h .1, leb-true s stepLimit t))))))
+    (λ x t. giving (h .0, h .1, refl, leb-true s stepLimit t))))))
 
 -- the types and the functions that follow the first ones
 more-types : (n : ℕ) → Promises (λ ts. (length ts ≤ n) × Each TypeKept ts) (moreTypes n)
@@ -218,7 +222,8 @@ pub record Kept (p : Program) : Type 0 where
   pub fields-limit : (t c : ℕ) (us : List ℕ) → fieldTypes (p .types) t c ≡ some us → length us ≤ fieldLimit
   pub functions-limit : length (p .functions) ≤ functionLimit
   pub parameters-limit : length (sourceTypes p) ≤ parameterLimit
-  pub depth-limit : (1 ≤ p .depth) × (p .depth ≤ depthLimit)
+  pub depth-limit : (1 ≤ depthOf (p .depths)) × (depthOf (p .depths) ≤ depthLimit)
+  pub depths-alike : p .depths ≡ replicate parameterLimit (depthOf (p .depths))
   pub steps-limit : p .steps ≤ stepLimit
   pub no-empty : noEmptyType (leastDepths (p .types)) ≡ true
   pub deep-enough : deepEnough p ≡ true
@@ -242,7 +247,8 @@ program-kept o fs kept few all filled deep spelled =
       functions-limit = le-trans few (kept .heads-count);
       parameters-limit = parameters-of (getElem? fs (o .goal .source)) fs (o .goal .source) refl all;
       depth-limit = (kept .goal .0, kept .goal .1);
-      steps-limit = kept .goal .2;
+      depths-alike = kept .goal .2;
+      steps-limit = kept .goal .3;
       no-empty = filled;
       deep-enough = deep;
       well-spelled = spelled;
@@ -272,7 +278,22 @@ pub accepted-keeps : (file : List ℕ) (p : Program) → check file ≡ accepted
 unfolding check
 accepted-keeps file p e = accepting (ruleFile file 0) p (file-kept .found file 0) e
 
--- none of its parameters may be deeper than 64
-pub accepted-rooms : (file : List ℕ) (p : Program) → check file ≡ accepted p → Each (λ (s : Slot). s .room ≤ depthLimit) (sourceSlots p)
-unfolding sourceSlots
-accepted-rooms file p h = slots-each _ (sourceTypes p) (p .depth) (λ t. (accepted-keeps file p h) .depth-limit .1)
+module _ (file : List ℕ) (p : Program) (h : check file ≡ accepted p) where
+  -- its parameters have slots of one depth
+  pub accepted-even : sourceSlots p ≡ evenSlots (sourceTypes p) (depthOf (p .depths))
+  unfolding sourceSlots
+  accepted-even =
+      let kept = accepted-keeps file p h in
+      ap (slots (sourceTypes p)) (kept .depths-alike) ∙ even-slots (sourceTypes p) parameterLimit (depthOf (p .depths)) (kept .parameters-limit)
+
+  -- none of them may be deeper than 64
+  pub accepted-rooms : Each (λ (s : Slot). s .room ≤ depthLimit) (sourceSlots p)
+  accepted-rooms = rw accepted-even (even-each _ (sourceTypes p) (depthOf (p .depths)) (λ t. (accepted-keeps file p h) .depth-limit .1))
+
+  -- so no input within the depth is
+  pub within-limit : (j : Parts) → WithinDepth p j → depth j ≤ depthLimit
+  within-limit j within = fits-within (p .types) (sourceSlots p) depthLimit j accepted-rooms (rw (source-types p) (within .0 .1)) (within .1)
+
+  -- a closed input is within the depth exactly if its deepest parameter is
+  pub within-depth : (j : Parts) → ClosedInput p j → Fits (sourceSlots p) j ↔ (depth j ≤ depthOf (p .depths))
+  within-depth j values = rw accepted-even (fits-depth (p .types) (sourceTypes p) (depthOf (p .depths)) j (values .1))

@@ -245,6 +245,21 @@ module _ (types : Types) (m : Manner) (Allowed : Parts → Type 0) (lawful : Law
         let behind : there .0 ≡ i + 1 + length (prefix fs) = omega (arith, reads .behind, size) in
         there .1 ∙ ap (got (built c fs (suc (deepest types us fs)))) behind
 
+    -- and so is any value that stands alone
+    pub one-read : (levels : ℕ) (s : List ℕ) (t i : ℕ) (e : Parts) (rest : List ℕ) → Typed types (t ∷ []) e → Allowed e → deepest types (t ∷ []) e ≤ levels
+        → drop i s ≡ prefix e ++ rest → (v : Value) × Found (value types m levels t) s i v rest
+    unfolding prefix deepest
+    one-read levels s t i end rest h a l w = absurd h
+    one-read levels s t i (opened end) rest h a l w = (_, (value-meets levels s) .opening t i rest a w)
+    one-read levels s t i (opened (opened r)) rest h a l w = absurd h
+    one-read levels s t i (opened (bound c fs r)) rest h a l w = absurd h
+    one-read levels s t i (bound c fs end) rest (us, has, inner, none-behind) a l w =
+        let shallow : depth fs < levels = omega (arith, rw has at l, depth-deepest types us fs) in
+        let may = (lawful .bounds c fs end) .0 a in
+        (_, (value-meets levels s) .building t c us fs i rest has inner (may .0) shallow (w ∙ ap (λ (y : List ℕ). c ∷ (y ++ rest)) (append-nil (prefix fs))))
+    one-read levels s t i (bound c fs (opened r)) rest (us, has, inner, behind) a l w = absurd behind
+    one-read levels s t i (bound c fs (bound b gs r)) rest (us, has, inner, behind) a l w = absurd behind
+
   -- A value for each slot.
 
   -- the row has values of the slots' types, each at most as deep as its slot allows
@@ -311,7 +326,7 @@ module _ (types : Types) (table other : List ℕ) (same : (t : ℕ) → getD tab
       rw (same t)
       (ap (pick {A = Got Value} (eqb b 0xff) (got (unbound (getD other t 0)) k)) (then-same (orRefuse BadList (fieldTypes types t b) s k) _ _ (λ us j. rw (rows us j) refl)))
 
-  value-same : (levels : ℕ) (s : List ℕ) (t i : ℕ) → value types (inEntries table) levels t s i ≡ value types (inEntries other) levels t s i
+  pub value-same : (levels : ℕ) (s : List ℕ) (t i : ℕ) → value types (inEntries table) levels t s i ≡ value types (inEntries other) levels t s i
   unfolding value
   value-same zero s t i = then-same (byte s i) _ _ (λ b k. from-same s _ _ (λ us j. refl) t b k)
   value-same (suc levels) s t i =

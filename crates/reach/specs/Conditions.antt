@@ -14,7 +14,7 @@ use Rattle.reach.specs.Base.{_∈_}
 use Rattle.reach.specs.Limits.{fileLimit}
 use Rattle.reach.specs.Syntax.{Expr}
 use Rattle.reach.specs.Parts.{Parts}
-use Rattle.reach.specs.Types.{ValueOf, LeastDepth}
+use Rattle.reach.specs.Types.{Slot, slots, ValueOf, LeastDepth}
 use Rattle.reach.specs.Names.{Spells}
 use Rattle.reach.specs.Reader.{got, refused}
 use Rattle.reach.specs.RuleFile.{Head, Declarations, Outline, outline, bodyOf}
@@ -82,15 +82,18 @@ SomeTypeEmpty d = (t : ℕ) × (t < length (d .types)) × ((v : Parts) → ¬ Va
 abbrev pub Hollow : List ℕ → Type 0
 Hollow file = (o : Outline) × Passes file o × SomeTypeEmpty (o .declared)
 
--- Refusal 9: "a source parameter's least depth exceeds D". The type of a parameter of the source.
+-- Refusal 9: "a source parameter's least depth exceeds D". A parameter of the source: its type; and its type with the depth that it may have.
 abbrev pub SourceParameter : Outline → ℕ → Type 0
 SourceParameter o t = (h : Head) × (getElem? (o .declared .heads) (o .goal .source) ≡ some h) × (t ∈ h .parameters)
 
+abbrev pub SourceSlot : Outline → Slot → Type 0
+SourceSlot o s = (h : Head) × (getElem? (o .declared .heads) (o .goal .source) ≡ some h) × (s ∈ slots (h .parameters) (o .goal .depths))
+
 abbrev pub AllParametersFit : Outline → Type 0
-AllParametersFit o = (t : ℕ) → SourceParameter o t → (d : ℕ) × LeastDepth (o .declared .types) t d × (d ≤ o .goal .depth)
+AllParametersFit o = (s : Slot) → SourceSlot o s → (d : ℕ) × LeastDepth (o .declared .types) (s .type) d × (d ≤ s .room)
 
 abbrev pub SomeParameterTooDeep : Outline → Type 0
-SomeParameterTooDeep o = (t : ℕ) × SourceParameter o t × ((d : ℕ) × LeastDepth (o .declared .types) t d × (o .goal .depth < d))
+SomeParameterTooDeep o = (s : Slot) × SourceSlot o s × ((d : ℕ) × LeastDepth (o .declared .types) (s .type) d × (s .room < d))
 
 abbrev pub Shallow : List ℕ → Type 0
 Shallow file = (o : Outline) × Passes file o × AllTypesInhabited (o .declared) × SomeParameterTooDeep o

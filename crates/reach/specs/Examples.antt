@@ -268,8 +268,8 @@ definitions : Unit {0}
 unfolding
     Syntax.count Syntax.nthExpr Syntax.fieldTypes Syntax.functionAt Syntax.sourceTypes
     Parts.width Parts.allOpen Parts.part Parts.within Parts.at Parts.bindAt Parts.prefix
-    Types.slots Types.sourceSlots Types.fieldSlots Types.slotAt Types.known Types.inhabited Types.round Types.rounds Types.leastDepths
-    Types.shallow Types.forksFrom Types.forks Types.forksAt
+    Types.slots Types.evenSlots Types.sourceSlots Types.fieldSlots Types.slotAt Types.known Types.inhabited Types.round Types.rounds Types.leastDepths
+    Types.shallow Types.roomy Types.forksFrom Types.forks Types.forksAt
     Eval.partOf Eval.size Eval.suspend Eval.lookup Eval.resume Eval.choose Eval.enter Eval.answered Eval.view Eval.look Eval.answer Eval.next
     Eval.conclude Eval.eval Eval.startOf Eval.start Eval.run
     Search.gather Search.branches Search.search Search.openInput Search.entries Search.countFrom

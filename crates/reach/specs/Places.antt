@@ -4,7 +4,8 @@
 use Prim.Native.Nat.{ℕ, zero, suc, _+_, _*_}
 use mathlib.Core.List.{List, [], _∷_, map}
 use mathlib.Core.Option.{Option}
-use lib.ListN.{getD}
+use lib.ListN.{getD, replicate}
+use Rattle.reach.specs.Limits.{parameterLimit}
 use Rattle.reach.specs.RuleFile.{Head, Goal, Declarations, Outline}
 
 -- the n bytes from place i on; past the end they are 0
@@ -37,7 +38,8 @@ headAt s i =
 
 -- the goal whose record stands at place i
 unfoldable pub goalAt : List ℕ → ℕ → Goal
-goalAt s i = record { source = getD s i 0; label = getD s (i + 1) 0; depth = getD s (i + 2) 0; steps = wordAt s (i + 3) }
+goalAt s i =
+    record { source = getD s i 0; label = getD s (i + 1) 0; depths = replicate parameterLimit (getD s (i + 2) 0); steps = wordAt s (i + 3) }
 
 -- what a file declares whose types and functions stand at these places
 unfoldable pub declarationsAt : List ℕ → List ℕ → List ℕ → Declarations

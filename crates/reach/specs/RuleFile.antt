@@ -5,13 +5,13 @@ use Prim.Native.Nat.{ℕ, zero, suc, pred, _+_}
 use mathlib.Core.Bool.{Bool, true, false, _&&_}
 use mathlib.Core.List.{List, [], _∷_, _++_}
 use mathlib.Core.Option.{Option, none, some}
-use lib.ListN.{length, getD, getElem?, take}
+use lib.ListN.{length, getD, getElem?, take, replicate}
 use lib.Dec.{ltb, leb, eqb}
 use Rattle.reach.specs.declared.Refusal.the-variants.{UnexpectedMark, OutOfRange, UnknownNumber, UnknownCode, TypeMismatch, TrailingBytes, EmptyType, DepthTooSmall, BadSpelling}
 use Rattle.reach.specs.Base.{pick}
 use Rattle.reach.specs.Limits.{fileLimit, typeLimit, constructorLimit, fieldLimit, functionLimit, parameterLimit, bodyLimit, depthLimit, stepLimit, viewLimit, nestingLimit}
-use Rattle.reach.specs.Syntax.{Expr, variable, call, construct, case, letIn, target, Exprs, []ₑ, _∷ₑ_, Alternatives, no-more, absent, present, Types, Function, Program, fieldTypes, sourceTypes}
-use Rattle.reach.specs.Types.{leastDepths, shallow}
+use Rattle.reach.specs.Syntax.{Expr, variable, call, construct, case, letIn, target, Exprs, []ₑ, _∷ₑ_, Alternatives, no-more, absent, present, Types, Function, Program, fieldTypes}
+use Rattle.reach.specs.Types.{sourceSlots, leastDepths, roomy}
 use Rattle.reach.specs.Names.{spells}
 use Rattle.reach.specs.Reader.{Got, got, refused, Reader, _>>=_, _>>_, give, refuse, demand, byte, word, times, passed, atEnd}
 
@@ -82,14 +82,14 @@ functionRecord = do
   b ← passed l
   give (record { parameters = ps; result = r; body = b; size = l })
 
--- What GO asks for.
+-- What GO asks for, with a depth for each parameter that a source may have.
 pub record Goal : Type 0 where
   pub source : ℕ
   pub label : ℕ
-  pub depth : ℕ
+  pub depths : List ℕ
   pub steps : ℕ
 
--- what follows the mark GO
+-- what follows the mark GO: all parameters may be equally deep
 unfoldable pub goalRecord : Reader Goal
 goalRecord = do
   f ← byte
@@ -97,7 +97,7 @@ goalRecord = do
   d ← counted 1 depthLimit
   s ← word
   demand (leb s stepLimit) OutOfRange
-  give (record { source = f; label = l; depth = d; steps = s })
+  give (record { source = f; label = l; depths = replicate parameterLimit d; steps = s })
 
 -- The marks that may come, each with what follows it. Any other mark, known or not, is out of its turn.
 unfoldable pub inTurn : {A : Type 0} → List (Mark × Reader A) → Mark → Reader A
@@ -312,16 +312,16 @@ functionsOf d (h ∷ hs) = do
 
 unfoldable pub programOf : Outline → List Function → Program
 programOf o fs =
-    record { types = o .declared .types; functions = fs; named = o .named; source = o .goal .source; label = o .goal .label; depth = o .goal .depth; steps = o .goal .steps }
+    record { types = o .declared .types; functions = fs; named = o .named; source = o .goal .source; label = o .goal .label; depths = o .goal .depths; steps = o .goal .steps }
 
 -- every type has a closed value
 unfoldable pub noEmptyType : List ℕ → Bool
 noEmptyType [] = true
 noEmptyType (d ∷ ds) = ltb 0 d && noEmptyType ds
 
--- each source parameter has a value within D
+-- each source parameter has a value within its depth
 unfoldable pub deepEnough : Program → Bool
-deepEnough p = shallow (leastDepths (p .types)) (p .depth) (sourceTypes p)
+deepEnough p = roomy (leastDepths (p .types)) (sourceSlots p)
 
 -- the type that NA names spells names; 02, Slip 4
 unfoldable pub wellSpelled : Outline → Bool

@@ -53,14 +53,15 @@ pub record Function : Type 0 where
   pub result : ℕ
   pub body : Expr
 
--- A rule file that was read: its types, its functions, the type whose values are names, if NA names one, and what GO asks for.
+-- A rule file that was read: its types, its functions, the type whose values are names, if NA names one, and what GO asks for, with a depth for each
+-- parameter that the source may have.
 pub record Program : Type 0 where
   pub types : Types
   pub functions : List Function
   pub named : Option ℕ
   pub source : ℕ
   pub label : ℕ
-  pub depth : ℕ
+  pub depths : List ℕ
   pub steps : ℕ
 
 -- the field types of a constructor, if the type has that constructor

@@ -25,21 +25,30 @@ pub record Slot : Type 0 where
   pub type : ℕ
   pub room : ℕ
 
-unfoldable pub slots : List ℕ → ℕ → List Slot
-slots [] d = []
-slots (t ∷ ts) d = record { type = t; room = d } ∷ slots ts d
+-- a slot for each of these types, with a depth for each in their order; a type that has none has no room
+unfoldable pub slots : List ℕ → List ℕ → List Slot
+slots [] ds = []
+slots (t ∷ ts) ds = record { type = t; room = getD ds 0 0 } ∷ slots ts (tail ds)
+
+-- the same with one depth for all
+unfoldable pub evenSlots : List ℕ → ℕ → List Slot
+evenSlots ts d = slots ts (replicate (length ts) d)
 
 unfoldable pub slotTypes : List Slot → List ℕ
 slotTypes [] = []
 slotTypes (s ∷ ss) = s .type ∷ slotTypes ss
 
--- the parameters of the source: each may be D deep
+-- the parameters of the source, each with a depth of its own
 unfoldable pub sourceSlots : Program → List Slot
-sourceSlots p = slots (sourceTypes p) (p .depth)
+sourceSlots p = slots (sourceTypes p) (p .depths)
+
+-- the D of a goal that gives every parameter the same depth, as GO does
+abbrev pub depthOf : List ℕ → ℕ
+depthOf depths = getD depths 0 0
 
 abbrev pub slotsOf : Option (List ℕ) → ℕ → List Slot
 slotsOf none d = []
-slotsOf (some us) d = slots us d
+slotsOf (some us) d = evenSlots us d
 
 -- the fields of constructor c in a slot: each may be one less deep
 unfoldable pub fieldSlots : Types → Option Slot → ℕ → List Slot
@@ -105,6 +114,11 @@ leastDepths types = rounds types (length types)
 unfoldable pub shallow : List ℕ → ℕ → List ℕ → Bool
 shallow table d [] = true
 shallow table d (t ∷ ts) = (ltb 0 (getD table t 0) && leb (getD table t 0) d) && shallow table d ts
+
+-- by the table, each of these slots has a closed value that fits it
+unfoldable pub roomy : List ℕ → List Slot → Bool
+roomy table [] = true
+roomy table (s ∷ ss) = shallow table (s .room) (s .type ∷ []) && roomy table ss
 
 -- A constructor that a fork takes, with its number of fields.
 pub record Fork : Type 0 where

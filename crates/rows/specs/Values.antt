@@ -31,15 +31,15 @@ abbrev pub mannerOf : List ℕ → Manner
 mannerOf [] = inInputs
 mannerOf (d ∷ ds) = inEntries (d ∷ ds)
 
--- a value of type t, one for each of these types, and one for each of them that is at most so deep
+-- a value of type t, one for each of these types, and one for each of them that is at most as deep as its depth says
 abbrev pub valueAt : List ℕ → List ℕ → List ℕ → ℕ → ℕ → Reader Value
 valueAt file types table levels t = value (map (typeAt file) types) (mannerOf table) levels t
 
 abbrev pub rowAt : List ℕ → List ℕ → List ℕ → ℕ → List ℕ → Reader (Parts × ℕ)
 rowAt file types table levels ts = valuesBy (valueAt file types table levels) ts
 
-abbrev pub slotsAt : List ℕ → List ℕ → List ℕ → ℕ → List ℕ → Reader (Parts × ℕ)
-slotsAt file types table depth ts = slotted (map (typeAt file) types) (mannerOf table) depthLimit (slots ts depth)
+abbrev pub slotsAt : List ℕ → List ℕ → List ℕ → List ℕ → List ℕ → Reader (Parts × ℕ)
+slotsAt file types table depths ts = slotted (map (typeAt file) types) (mannerOf table) depthLimit (slots ts depths)
 
 -- no value goes below more constructors than it may, and the least depth of a type is a byte
 abbrev pub Near : ℕ → Measured → Type 0

@@ -18,11 +18,11 @@ use Rattle.reach.specs.Words.{numberOf}
 use Rattle.reach.specs.Limits.{fileLimit}
 use Rattle.reach.specs.Syntax.{Program}
 use Rattle.reach.specs.Parts.{Parts}
-use Rattle.reach.specs.Types.{ValueOf, LeastDepth}
+use Rattle.reach.specs.Types.{depthOf, ValueOf, LeastDepth}
 use Rattle.reach.specs.Names.{Spells}
 use Rattle.reach.specs.RuleFile.{Outline}
 use Rattle.reach.specs.Answers as Answers
-use Rattle.reach.specs.Conditions.{FirstPassRefuses, SecondPassRefuses, ThirdPassRefuses, Passes, SourceParameter, RefusedBy}
+use Rattle.reach.specs.Conditions.{FirstPassRefuses, SecondPassRefuses, ThirdPassRefuses, Passes, AllTypesInhabited, SourceParameter, Shallow, NamesSpelled, NamesOtherwise, Misspelled, Acceptable, RefusedBy}
 use Rattle.reach.proofs.Base.{clash}
 use Rattle.reach.proofs.Refusals.{turned-back-by}
 use Rattle.reach.proofs.Conditions as Conditions
@@ -38,6 +38,32 @@ accepted-shows (Answers.turnedBack why) = (λ is. absurd (clash (cc)), λ h. abs
 refused-shows : (c : Answers.Checked) (why : Refusal) → (checkedOf c ≡ Checked.Refused why) ↔ (c ≡ Answers.turnedBack why)
 refused-shows (Answers.accepted p) why = (λ is. absurd (clash (cc)), λ is. absurd (clash (cc)))
 refused-shows (Answers.turnedBack by) why = (λ is. let same : by ≡ why = cc in ap Answers.turnedBack same, λ is. ap checkedOf is)
+
+-- GO gives all parameters one depth: so a parameter's own depth is D
+abbrev Within : Outline → Type 0
+Within o = (t : ℕ) → SourceParameter o t → (d : ℕ) × LeastDepth (o .declared .types) t d × (d ≤ depthOf (o .goal .depths))
+
+abbrev Beyond : Outline → Type 0
+Beyond o = (t : ℕ) × SourceParameter o t × ((d : ℕ) × LeastDepth (o .declared .types) t d × (depthOf (o .goal .depths) < d))
+
+module _ (file : List ℕ) where
+  acceptable-within : Acceptable file ↔ ((o : Outline) × Passes file o × AllTypesInhabited (o .declared) × Within o × NamesSpelled o)
+  acceptable-within = (
+    λ (o, passes, inhabited, fit, spelled). (o, passes, inhabited, (Conditions.all-within file o (passes .outlined)) .0 fit, spelled),
+    λ (o, passes, inhabited, fit, spelled). (o, passes, inhabited, (Conditions.all-within file o (passes .outlined)) .1 fit, spelled),
+  )
+
+  shallow-beyond : Shallow file ↔ ((o : Outline) × Passes file o × AllTypesInhabited (o .declared) × Beyond o)
+  shallow-beyond = (
+    λ (o, passes, inhabited, deep). (o, passes, inhabited, (Conditions.some-beyond file o (passes .outlined)) .0 deep),
+    λ (o, passes, inhabited, deep). (o, passes, inhabited, (Conditions.some-beyond file o (passes .outlined)) .1 deep),
+  )
+
+  misspelled-within : Misspelled file ↔ ((o : Outline) × Passes file o × AllTypesInhabited (o .declared) × Within o × NamesOtherwise o)
+  misspelled-within = (
+    λ (o, passes, inhabited, fit, otherwise). (o, passes, inhabited, (Conditions.all-within file o (passes .outlined)) .0 fit, otherwise),
+    λ (o, passes, inhabited, fit, otherwise). (o, passes, inhabited, (Conditions.all-within file o (passes .outlined)) .1 fit, otherwise),
+  )
 
 -- 01, "Turned back": which numbers a pass can give at all. The first gives 1, 2, 3 and 7 only, the third 1 and 3 to 7 only, and the second, by its case of
 -- `RefusedBy`, 4 only.
@@ -56,9 +82,9 @@ module _ (file : List ℕ) (r : Checked) (call : Promised file r) where
   pub accepted-exactly :
       (r ≡ Checked.Accepted)
       ↔ ((o : Outline) × Passes file o × ((t : ℕ) → t < length (o .declared .types) → (v : Parts) × ValueOf (o .declared .types) t v)
-      × ((t : ℕ) → SourceParameter o t → (d : ℕ) × LeastDepth (o .declared .types) t d × (d ≤ o .goal .depth))
+      × ((t : ℕ) → SourceParameter o t → (d : ℕ) × LeastDepth (o .declared .types) t d × (d ≤ depthOf (o .goal .depths)))
       × ((t : ℕ) → o .named ≡ some t → Spells (o .declared .types) t))
-  accepted-exactly = rw (call .answer-is) (Iff·trans (accepted-shows (Answers.check file)) (Conditions.accepted-exactly file))
+  accepted-exactly = rw (call .answer-is) (Iff·trans (accepted-shows (Answers.check file)) (Iff·trans (Conditions.accepted-exactly file) (acceptable-within file)))
 
   -- A file is refused exactly by the test that it fails first, in the order of 01, "Turned back": the cases of `RefusedBy`.
   pub refused-exactly : (why : Refusal) → (r ≡ Checked.Refused why) ↔ RefusedBy file why
@@ -105,17 +131,17 @@ module _ (file : List ℕ) (r : Checked) (call : Promised file r) where
   pub shallow-exactly :
       (r ≡ Checked.Refused DepthTooSmall)
       ↔ ((o : Outline) × Passes file o × ((t : ℕ) → t < length (o .declared .types) → (v : Parts) × ValueOf (o .declared .types) t v)
-      × ((t : ℕ) × SourceParameter o t × ((d : ℕ) × LeastDepth (o .declared .types) t d × (o .goal .depth < d))))
-  shallow-exactly = Iff·trans (refused-exactly DepthTooSmall) (Conditions.shallow-by file)
+      × ((t : ℕ) × SourceParameter o t × ((d : ℕ) × LeastDepth (o .declared .types) t d × (depthOf (o .goal .depths) < d))))
+  shallow-exactly = Iff·trans (refused-exactly DepthTooSmall) (Iff·trans (Conditions.shallow-by file) (shallow-beyond file))
 
   -- 15: "the type named by NA has another form, tested straight after 9" (02, Slip 4). The passes found nothing, every type has a closed value, and each source
   -- parameter has one within D.
   pub spelling-exactly :
       (r ≡ Checked.Refused BadSpelling)
       ↔ ((o : Outline) × Passes file o × ((t : ℕ) → t < length (o .declared .types) → (v : Parts) × ValueOf (o .declared .types) t v)
-      × ((t : ℕ) → SourceParameter o t → (d : ℕ) × LeastDepth (o .declared .types) t d × (d ≤ o .goal .depth))
+      × ((t : ℕ) → SourceParameter o t → (d : ℕ) × LeastDepth (o .declared .types) t d × (d ≤ depthOf (o .goal .depths)))
       × ((t : ℕ) × (o .named ≡ some t) × ¬ Spells (o .declared .types) t))
-  spelling-exactly = Iff·trans (refused-exactly BadSpelling) (Conditions.spelling-by file)
+  spelling-exactly = Iff·trans (refused-exactly BadSpelling) (Iff·trans (Conditions.spelling-by file) (misspelled-within file))
 
   -- 10 to 14 are never given.
   pub others-never : (why : Refusal) → 9 < numberOf why → numberOf why < 15 → ¬ (r ≡ Checked.Refused why)

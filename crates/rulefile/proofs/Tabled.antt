@@ -8,7 +8,7 @@ use mathlib.Core.Option.{Option, none, some}
 use lib.ListN.{length, getD, getElem?, length-map}
 use native.Mathlib.Omega.{arith}
 use Rattle.reach.specs.Syntax.{Function, Program, functionAt, sourceTypes}
-use Rattle.reach.specs.Types.{leastDepths}
+use Rattle.reach.specs.Types.{sourceSlots, leastDepths}
 use Rattle.reach.specs.RuleFile.{Head, Goal, Declarations, Outline, programOf, deepEnough}
 use Rattle.reach.specs.Places.{typeAt, headAt, declarationsAt, outlineAt}
 use Rattle.reach.proofs.Base.{clash}
@@ -17,7 +17,7 @@ use Rattle.codes.proofs.Encoding.{BodyAt, Bodies, function-of, bodies-are}
 use Rattle.lookups.proofs.Tables.{found, missing}
 use Rattle.goal.specs.Goals.{Asks, namedOf}
 use Rattle.depths.specs.Table.{padded}
-use Rattle.depths.proofs.Padded.{padded-lookup, padded-shallow}
+use Rattle.depths.proofs.Padded.{padded-lookup, padded-roomy}
 use Rattle.rulefile.specs.declared.Loaded.{Loaded}
 use Rattle.rulefile.specs.Loading.{Passed, sourceShallow, typePlaces, functionPlaces, Tabled}
 
@@ -62,8 +62,8 @@ module _ {s types functions : List ℕ} {named : Option ℕ} {goal : Goal} {fs :
 
   -- the test of depth on the padded table is the one of the definition
   pub depth-tested : sourceShallow s functions goal (padded (leastDepths (map (typeAt s) types))) ≡ deepEnough (programOf whole fs)
-  unfolding deepEnough programOf declarationsAt outlineAt
-  depth-tested = rw source-parameters (padded-shallow (leastDepths (map (typeAt s) types)) (goal .depth) _)
+  unfolding deepEnough sourceSlots programOf declarationsAt outlineAt
+  depth-tested = rw source-parameters (padded-roomy (leastDepths (map (typeAt s) types)) _)
 
 -- ---- the program of a loaded file
 
@@ -82,7 +82,7 @@ module _ {s : List ℕ} {r : Loaded} {p : Program} (t : Tabled s r p) where
       record {
         source-is = sym (ap (λ q. q .source) (t .program));
         label-is = sym (ap (λ q. q .label) (t .program));
-        depth-is = sym (ap (λ q. q .depth) (t .program));
+        depths-are = sym (ap (λ q. q .depths) (t .program));
         steps-is = sym (ap (λ q. q .steps) (t .program));
       }
 

@@ -8,7 +8,7 @@ use mathlib.Core.Option.{Option}
 use lib.ListN.{length, getD, take}
 use Rattle.reach.specs.Limits.{fileLimit, typeLimit, functionLimit}
 use Rattle.reach.specs.Syntax.{Function, Program}
-use Rattle.reach.specs.Types.{leastDepths, shallow}
+use Rattle.reach.specs.Types.{slots, leastDepths, roomy}
 use Rattle.reach.specs.Names.{spells}
 use Rattle.reach.specs.Reader.{got}
 use Rattle.reach.specs.RuleFile as RuleFile
@@ -53,9 +53,9 @@ pub record Reads (s : List ℕ) (o : Outlined) : Type 0 where
   pub functions : List Function
   pub passed : Passed s (typesIn o) (functionsIn o) (namedOf (o .named)) (goalOf (o .goal)) functions
 
--- each parameter of the source has a closed value that is at most D deep, by the table
+-- each parameter of the source has a closed value that is at most as deep as it may be, by the table
 abbrev pub sourceShallow : List ℕ → List ℕ → RuleFile.Goal → List ℕ → Bool
-sourceShallow s functions goal least = shallow least (goal .depth) ((headAt s (getD functions (goal .source) 0)) .parameters)
+sourceShallow s functions goal least = roomy least (slots ((headAt s (getD functions (goal .source) 0)) .parameters) (goal .depths))
 
 -- the type that NA names, where there is one, has the form of names
 abbrev pub namesSpelled : List ℕ → List ℕ → Option ℕ → Bool

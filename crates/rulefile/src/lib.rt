@@ -1,6 +1,6 @@
 // The check of a rule file: the three passes in their order, then the tests of depth and of the form of names. `check` answers accepted or
 // the one refusal of 1 to 9 or 15; `load` also hands on what later layers need of an accepted file: the places of its types and functions,
-// the type that NA names, its goal by value and the least depths. Rests on crates outline, numbers, bodies, depths, spelling, lookups and goal.
+// the type that NA names, its goal by value and the least depths. Rests on crates outline, numbers, bodies, rooms, spelling, lookups and goal.
 ghost use mathlib.Core.Path.{_≡_};
 ghost use Rattle.goal.specs.Goals.{goalOf, namedOf};
 ghost use Rattle.rulefile.specs.Answering.{Promised};
@@ -8,7 +8,6 @@ ghost use Rattle.rulefile.specs.Loading.{Outlines, Reads, Loads, sourceS
 use bodies::Judged;
 use bodies::bodies;
 use depths::Depths;
-use depths::all_shallow;
 use depths::least_depths;
 use depths::none_empty;
 use goal::Goal;
@@ -20,6 +19,7 @@ use outline::Outlined;
 use outline::first_pass;
 use reach::Refusal;
 use records::Step;
+use rooms::all_roomy;
 use spelling::spells;
 
 const FILE_LIMIT: usize = 16384;
@@ -59,12 +59,13 @@ fn turned_back(why: Refusal) -> Loaded
     }
 }
 
-// Each parameter of the source has a closed value that is at most D deep.
+// Each parameter of the source has a closed value that is at most as deep as the parameter may be.
 fn source_shallow<'a>(file: &'a [u8], functions: &'a [u16], goal: Goal, least: Depths) -> bool
     ensures { λ r. ⌜ r ≡ sourceShallow (now (file .entry)) (now (functions .entry)) (goalOf goal) (least .of) ⌝ }
 {
     let head = head_of(file, functions, goal.source);
-    all_shallow(file, head.parameters, head.count, goal.depth, least)
+    let depths = goal.depths;
+    all_roomy(file, head.parameters, head.count, depths, least)
 }
 
 // The type that NA names, where there is one, has the form of names.

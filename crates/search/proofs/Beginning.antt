@@ -46,7 +46,7 @@ module _ {file types functions least : List ℕ} {goal : Goal} {w : List ℕ} {p
       }
 
       begins-there :
-          {w′ : List ℕ} → Opened file w w′ base (head .parameters) (head .count) (goal .depth)
+          {w′ : List ℕ} → Opened file w w′ base (head .parameters) (head .count) (goal .depths)
           → Begins here (goal .label) w′ (head .count) (startRegisters (head .body))
       begins-there {w′} opened =
           let of-file = given .of-file in
@@ -76,14 +76,14 @@ module _ {file types functions least : List ℕ} {goal : Goal} {w : List ℕ} {p
           }
 
       pub begins :
-          {w′ : List ℕ} {from : Registers} → from ≡ startRegisters (head .body) → Opened file w w′ base (head .parameters) (head .count) (goal .depth)
+          {w′ : List ℕ} {from : Registers} → from ≡ startRegisters (head .body) → Opened file w w′ base (head .parameters) (head .count) (goal .depths)
           → Begins here (goal .label) w′ (head .count) from
       begins {w′} from-is opened = subst (Begins here (goal .label) w′ (head .count)) (sym from-is) (begins-there opened)
 
       -- so what is explored from there is the search of the program
       pub explored :
           {w′ : List ℕ} {from : Registers} (w″ before after : List ℕ) (a : Answer) → from ≡ startRegisters (head .body)
-          → Opened file w w′ base (head .parameters) (head .count) (goal .depth)
+          → Opened file w w′ base (head .parameters) (head .count) (goal .depths)
           → Explores file types functions least (goal .label) w′ w″ (goal .steps) base stack (head .count) from before after a
           → Explored (settingOf file types functions least p) before after w″ a
       explored w″ before after a from-is opened explores =

@@ -37,7 +37,7 @@ fn search_checked<'a>(
     let stack = choices_at(goal.steps);
     let head = head_of(file, functions, goal.source);
     let n = head.count;
-    let from = open_input(file, work, base, head, goal.depth);
+    let from = open_input(file, work, base, head, goal);
     explore(
         file,
         types,

@@ -11,17 +11,17 @@ use lib.Seq.{drop-cons, drop-drop, drop-append-seam}
 use Rattle.reach.specs.Limits.{depthLimit}
 use Rattle.reach.specs.Syntax.{Types, Program, fieldTypes, sourceTypes}
 use Rattle.reach.specs.Parts.{Parts, end, opened, bound, Place, here, after, inside, part, within, has, at, Closed, depth, prefix, There}
-use Rattle.reach.specs.Types.{Slot, slots, slotTypes, fieldSlots, slotAt, sourceSlots, Fits}
+use Rattle.reach.specs.Types.{Slot, evenSlots, slotTypes, fieldSlots, slotAt, sourceSlots, Fits}
 use Rattle.reach.specs.Reader.{got}
 use Rattle.reach.specs.Partial.{Value, inInputs, OpenApart, value}
 use Rattle.reach.specs.Input.{inputOf}
 use Rattle.reach.specs.Answers.{check, accepted}
 use Rattle.reach.proofs.ClosedInputs.{input-exactly}
-use Rattle.reach.proofs.Depths.{typed-width, fits-depth, within-depth}
-use Rattle.reach.proofs.Limits.{accepted-keeps}
+use Rattle.reach.proofs.Depths.{typed-width, fits-depth}
+use Rattle.reach.proofs.Limits.{within-limit}
 use Rattle.reach.proofs.Partial.{inputs-lawful, value-read}
 use Rattle.reach.proofs.Reading.{byte-there}
-use Rattle.reach.proofs.Slots.{slots-types}
+use Rattle.reach.proofs.Slots.{even-types, source-types}
 use Rattle.values.specs.Positions.{RowStands, byteOf}
 
 -- What stands at place i of the bytes s where a closed value of type t begins: the number c of its constructor, and from the next place on its fields.
@@ -147,8 +147,8 @@ module _ {types : Types} {s : List ℕ} where
   part-stands (bound c fs r) (inside q) (x ∷ ss) i row fits there =
       let v = first-stands row in
       let d = x .room - 1 in
-      let inner : RowStands types (slotTypes (slots (v .fields) d)) s (i + 1) fs = rw (slots-types (v .fields) d) (v .inner) in
-      let p = part-stands fs q (slots (v .fields) d) (i + 1) inner (fits-depth types (v .fields) d fs (v .inner .typed) .1 (omega (arith, fits .0))) there in
+      let inner : RowStands types (slotTypes (evenSlots (v .fields) d)) s (i + 1) fs = rw (even-types (v .fields) d) (v .inner) in
+      let p = part-stands fs q (evenSlots (v .fields) d) (i + 1) inner (fits-depth types (v .fields) d fs (v .inner .typed) .1 (omega (arith, fits .0))) there in
       record {
         slot = p .slot;
         slot-there = rw (v .known) (p .slot-there);
@@ -168,13 +168,12 @@ module _ (file : List ℕ) {p : Program} (checked : check file ≡ accepted p) (
       record {
         closed = within .0 .0;
         typed = within .0 .1;
-        shallow = omega (arith, within-depth p j (within .0) .0 (within .1), accepted-keeps file p checked .depth-limit .1);
+        shallow = within-limit file p checked j within;
         behind = [];
         bytes = sym same ∙ sym (append-nil (prefix j));
       }
 
   -- and so does every part of it, with its slot
   pub input-part : (q : Place) → There (at j q) → PartStands (p .types) input j q (sourceSlots p) 0
-  unfolding sourceSlots
   input-part q there =
-      part-stands j q (slots (sourceTypes p) (p .depth)) 0 (rw (slots-types (sourceTypes p) (p .depth)) input-stands) (input-exactly file p checked input j .0 reads .0 .1) there
+      part-stands j q (sourceSlots p) 0 (rw (source-types p) input-stands) (input-exactly file p checked input j .0 reads .0 .1) there

@@ -4,7 +4,7 @@ use Prim.Native.Nat.{_+_, _-_, _≤_}
 use mathlib.Core.Path.{_≡_}
 use native.Mathlib.Omega.{arith}
 use borrow.Author.Needs.{needs}
-use Rattle.reach.specs.Types.{slots}
+use Rattle.reach.specs.Types.{evenSlots}
 use Rattle.reach.specs.Places.{bytesAt}
 use Rattle.cells.specs.Writes.{Opens}
 use Rattle.cells.proofs.Writing.{opens-none, opens-next}
@@ -13,7 +13,7 @@ use Rattle.cells.proofs.open_cells.Tie as tie
 
 abbrev Inv-loop : tie.InvT-loop
 Inv-loop file work₀ first fields k room cell₀ place₀ more₀ work cell place more =
-    (Opens work₀ work first (k - more) (slots (bytesAt file fields k) room)) × (cell + more ≡ first + k) × (place + more ≡ fields + k) × (more ≤ k)
+    (Opens work₀ work first (k - more) (evenSlots (bytesAt file fields k) room)) × (cell + more ≡ first + k) × (place + more ≡ fields + k) × (more ≤ k)
 
 abbrev μ-loop : tie.MeasureT-loop
 μ-loop file work₀ first fields k room cell₀ place₀ more₀ work cell place more = more

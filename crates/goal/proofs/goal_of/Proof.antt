@@ -1,4 +1,5 @@
--- `goal::goal_of` meets its contract: the bytes of the goal's record, of which the last two make one number. Bytes are small, so the sum fits.
+-- `goal::goal_of` meets its contract: the bytes of the goal's record, of which the last two make one number, and the one before them is the depth of all
+-- parameters. Bytes are small, so the sum fits.
 use Prim.Native.Nat.{_+_}
 use mathlib.Core.Path.{_≡_}
 use native.Mathlib.Omega.{arith}
@@ -6,6 +7,11 @@ use borrow.Author.Needs.{needs}
 use Rattle.reach.specs.Places.{goalAt, wordAt}
 use Rattle.goal.proofs.goal_of.Statement.{statement}
 use Rattle.goal.proofs.goal_of.Tie as tie
+
+cast-depths : tie.Need-cast-depths
+cast-depths c =
+    let start = c .before .before .before in
+    omega (arith, c .byte-behind2 .ensures, start .shared-slice-known .given (start .before .args .at + 2))
 
 mul-steps : tie.Need-mul-steps
 mul-steps c =
@@ -40,6 +46,7 @@ goal-of-spec =
     (λ c κs. search needs)
     (λ c κs. search needs)
     (λ c κs. search needs)
+    cast-depths
     (λ c κs. search needs)
     (λ c κs. search needs)
     mul-steps

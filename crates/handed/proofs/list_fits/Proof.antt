@@ -17,12 +17,12 @@ use Rattle.handed.proofs.list_fits.Tie as tie
 
 -- what is left of the list, from the place reached, is read as all of it is
 abbrev Inv-loop : tie.InvT-loop
-Inv-loop file types functions least source depth steps list end at₀ more₀ at more =
+Inv-loop file types functions least goal list end at₀ more₀ at more =
     (end ≡ length list) × (at ≤ length list)
-    × ((p : Program) → Given file types functions (least .of) source depth steps p → found (entriesBy (entry p) more list at) ≡ found (entriesBy (entry p) (length list) list 0))
+    × ((p : Program) → Given file types functions (least .of) (goal .source) (goal .depths) (goal .steps) p → found (entriesBy (entry p) more list at) ≡ found (entriesBy (entry p) (length list) list 0))
 
 abbrev μ-loop : tie.MeasureT-loop
-μ-loop file types functions least source depth steps list end at₀ more₀ at more = more
+μ-loop file types functions least goal list end at₀ more₀ at more = more
 
 returns : tie.Need-returns Inv-loop μ-loop
 returns c p given = too-long given (c .before .before .before .before .before .args .list .now) (c .if1 .taken)

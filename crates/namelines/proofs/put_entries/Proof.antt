@@ -22,8 +22,8 @@ use Rattle.namelines.proofs.put_entries.Tie as tie
 -- the rest of the list stands from the place reached on, and its names are still to be written
 abbrev Inv-loop : tie.InvT-loop
 Inv-loop file types least list asked text₀ at₀ to₀ text at to =
-    Going (map (typeAt file) types) (asked .depth) (asked .named) (typesAsked file asked) list text₀
-    (listNames (map (typeAt file) types) (asked .depth) (asked .named) (typesAsked file asked) list) text at to
+    Going (map (typeAt file) types) (asked .named) (typesAsked file asked) list text₀
+    (listNames (map (typeAt file) types) (asked .named) (typesAsked file asked) list) text at to
     × (at ≤ length list)
 
 abbrev μ-loop : tie.MeasureT-loop
@@ -32,7 +32,7 @@ abbrev μ-loop : tie.MeasureT-loop
 loop-holds : tie.Need-loop-holds Inv-loop μ-loop
 loop-holds c =
     let listed = c .before .before .before .before .before .pre in
-    (going-whole _ _ _ _ (listed .legible) _ _ _ (listed .entries) (listed .bytes) (listed .fitted), omega arith)
+    (going-whole _ _ _ (listed .legible) _ _ _ (listed .entries) (listed .bytes) (listed .fitted), omega arith)
 
 -- the size that was told is that of the entry
 size-is : (list : List ℕ) (at m : ℕ) {r : Size} {n : ℕ} → sizeOf r ≡ entrySize list at → r ≡ Size.Bytes n → entrySize list at ≡ some m → n ≡ m
@@ -42,7 +42,7 @@ returns : tie.Need-returns Inv-loop μ-loop
 returns c =
     let turn = c .before .before .before .before in
     let start = turn .before .before .before .before .before .before in
-    let here = going-more _ _ _ _ (start .pre .legible) _ _ _ (turn .loop .inv .0) (c .before .before .before .loop-test .taken) in
+    let here = going-more _ _ _ (start .pre .legible) _ _ _ (turn .loop .inv .0) (c .before .before .before .loop-test .taken) in
     absurd (Option·none-ne-some _ (sym (ap sizeOf (c .enum-told .given .1)) ∙ c .before .before .size-at .ensures ∙ here .size))
 
 same-length : tie.Need-same-length Inv-loop μ-loop
@@ -58,8 +58,8 @@ put-entry-requires c κs =
     let turn = c .before .before .before .before .before .before in
     let start = turn .before .before .before .before .before .before in
     let listed = start .pre in
-    let here = going-more _ _ _ _ (listed .legible) _ _ _ (turn .loop .inv .0) (c .before .before .before .before .before .loop-test .taken) in
-    let far = going-end _ _ _ _ (listed .legible) _ _ _ (listed .entries) (listed .bytes) (listed .fitted) (turn .loop .inv .0) in (
+    let here = going-more _ _ _ (listed .legible) _ _ _ (turn .loop .inv .0) (c .before .before .before .before .before .loop-test .taken) in
+    let far = going-end _ _ _ (listed .legible) _ _ _ (listed .entries) (listed .bytes) (listed .fitted) (turn .loop .inv .0) in (
       record { row = here .entry .input; stands = here .stands; legible = listed .legible; near = listed .near; in-limit = listed .in-limit },
       omega (arith, far, listed .in-limit),
     )
@@ -68,7 +68,7 @@ add-at : tie.Need-add-at Inv-loop μ-loop
 add-at c =
     let turn = c .before .before .before .before .before .before .before .before .before in
     let start = turn .before .before .before .before .before .before in
-    let here = going-more _ _ _ _ (start .pre .legible) _ _ _ (turn .loop .inv .0) (c .before .before .before .before .before .before .before .before .loop-test .taken) in
+    let here = going-more _ _ _ (start .pre .legible) _ _ _ (turn .loop .inv .0) (c .before .before .before .before .before .before .before .before .loop-test .taken) in
     let same = size-is _ _ _ (c .before .before .before .before .before .before .before .size-at .ensures) (c .before .before .before .before .before .n .given .1) (here .size) in
     omega (arith, same, here .room, start .pre .in-limit)
 
@@ -76,7 +76,7 @@ loop-less : tie.Need-loop-less Inv-loop μ-loop
 loop-less c =
     let turn = c .before .before .before .before .before .before .before .before .before in
     let start = turn .before .before .before .before .before .before in
-    let here = going-more _ _ _ _ (start .pre .legible) _ _ _ (turn .loop .inv .0) (c .before .before .before .before .before .before .before .before .loop-test .taken) in
+    let here = going-more _ _ _ (start .pre .legible) _ _ _ (turn .loop .inv .0) (c .before .before .before .before .before .before .before .before .loop-test .taken) in
     let same = size-is _ _ _ (c .before .before .before .before .before .before .before .size-at .ensures) (c .before .before .before .before .before .n .given .1) (here .size) in
     omega (arith, same, here .room, here .some-bytes)
 
@@ -84,7 +84,7 @@ loop-again : tie.Need-loop-again Inv-loop μ-loop
 loop-again c =
     let turn = c .before .before .before .before .before .before .before .before .before in
     let start = turn .before .before .before .before .before .before in
-    let here = going-more _ _ _ _ (start .pre .legible) _ _ _ (turn .loop .inv .0) (c .before .before .before .before .before .before .before .before .loop-test .taken) in
+    let here = going-more _ _ _ (start .pre .legible) _ _ _ (turn .loop .inv .0) (c .before .before .before .before .before .before .before .before .loop-test .taken) in
     let same = size-is _ _ _ (c .before .before .before .before .before .before .before .size-at .ensures) (c .before .before .before .before .before .n .given .1) (here .size) in
     (rw same (here .later (c .before .before .put-entry .ensures)), omega (arith, same, here .room))
 
@@ -92,7 +92,7 @@ returns-2 : tie.Need-returns-2 Inv-loop μ-loop
 returns-2 c =
     let turn = c .before in
     let start = turn .before .before .before .before .before .before in
-    going-done _ _ _ _ (start .pre .legible) _ _ _ (turn .loop .inv .0) (c .loop-test .left)
+    going-done _ _ _ (start .pre .legible) _ _ _ (turn .loop .inv .0) (c .loop-test .left)
 
 same-length-2 : tie.Need-same-length-2 Inv-loop μ-loop
 same-length-2 c = puts-length (returns-2 c)
