@@ -20,7 +20,7 @@ use Rattle.reach.specs.Answers.{Checked, accepted, turnedBack, SearchAnswer, no
 use Rattle.reach.specs.Printouts.{TextAnswer, noText, ofLength}
 use Rattle.entries.specs.Spans.{partPlace}
 use Rattle.entries.proofs.Demands.{found-within}
-use Rattle.packing.specs.Packing.{verdictNumber, outcomeNumber, checkNumber, searchNumber, runNumber, textNumber, partNumber}
+use Rattle.packing.specs.Packing.{verdictNumber, outcomeNumber, checkNumber, searchNumber, runNumber, textNumber, spanNumber, partNumber}
 use Rattle.packing.specs.Unpacking.{refusalBits, caseBits, countBits, stepBits, depthBits, placeBits, sizeBits, refusalNamed, verdictNamed, outcomeNamed, decodedCheck, checkRead, decodedSearch, searchRead, RunRead, decodedRun, runRead, TextRead, decodedText, textRead, decodedPart}
 
 -- The parts of a packed number are what was packed: each of the two lower ones fills a byte at most.
@@ -148,7 +148,7 @@ module _ (l : List ℕ) (k : ℕ) where
   -- of the number for a span, and of the part of the list that it is
   abbrev Reads : Option (ℕ × ℕ) → Type 0
   Reads span =
-      decodedPart (onFound (roomOf (length l)) (λ s. s .0 + 4294967296 * s .1) span)
+      decodedPart (spanNumber (roomOf (length l)) span)
       ≡ (onFound (roomOf (length l)) (λ s. s .0) span, length (onFound [] (λ s. take (s .1) (drop (s .0) l)) span))
 
   counted : roomOf (length l) ≤ listLimit
