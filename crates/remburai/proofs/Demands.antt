@@ -15,7 +15,7 @@ use lib.ListN.{length, getD, take}
 use lib.Dec.{eqb}
 use Rattle.reach.specs.declared.Refusal.{Refusal}
 use Rattle.reach.specs.declared.Refusal.the-variants.{WorkTooShort, ListFull}
-use Rattle.reach.specs.Words.{numberOf, OfFile, stepsOf}
+use Rattle.reach.specs.Words.{allRefusals, refusalNamed, numberOf, OfFile, stepsOf}
 use Rattle.reach.specs.Syntax.{Program}
 use Rattle.reach.specs.Limits.{workWords, listLimit, stepLimit, depthLimit}
 use Rattle.reach.specs.Lists.{listBytes, roomOf, entryPart}
@@ -31,7 +31,7 @@ use Rattle.closed.proofs.Demands.{refused-file, steps-spent, depth-within}
 use Rattle.printout.proofs.Demands.{searched-length, searched-text}
 use Rattle.entries.specs.Spans.{partPlace}
 use Rattle.packing.specs.Packing.{checkNumber, searchNumber, runNumber, textNumber, partNumber}
-use Rattle.packing.specs.Unpacking.{refusalBits, countBits, stepBits, depthBits, decodedCheck, checkRead, SearchRead, decodedSearch, searchRead, decodedRun, runRead, TextRead, decodedText, textRead, refusalNamed, decodedPart}
+use Rattle.packing.specs.Unpacking.{refusalBits, countBits, stepBits, depthBits, decodedCheck, checkRead, SearchRead, decodedSearch, searchRead, decodedRun, runRead, TextRead, decodedText, textRead, decodedPart}
 use Rattle.remburai.proofs.Answers.{length-text-small, write-text-small}
 use Rattle.remburai.specs.Answering.{Checks, Searches, Runs, Finds, Measures, Writes}
 use Rattle.packing.proofs.Unpacked.{Small, refused-parted, ran-parted, check-reads, search-reads, run-reads, read-one, text-reads, text-read-one, part-reads}
@@ -183,7 +183,7 @@ module _ (file work work′ list list′ : List ℕ) (a : ℕ) (call : Searches 
       by-cause (inr (same, h)) = clash (cc)
 
   ended : (s : SearchAnswer) → answer ≡ s → Ended s
-  unfolding refusalNamed refusalOf
+  unfolding refusalNamed allRefusals refusalOf
   ended (noSearch why) is = absurd (by-number lists)
     where
       by-number : ((refusalBits a ≡ 0) ⊎ (refusalBits a ≡ numberOf ListFull)) → ⊥
