@@ -35,14 +35,14 @@ use Rattle.loaded.proofs.Loaded.{loaded-accepted}
 use Rattle.running.specs.Looked.{LookedAt}
 use Rattle.running.specs.Running.{GivenInput}
 use Rattle.results.specs.Results.{runResult}
-use Rattle.closed.specs.Answering.{Leaves, Promised, HasRun}
+use Rattle.closed.specs.Answering.{Leaves, RunPromise, HasRun}
 use Rattle.closed.specs.Evaluating.{Runnable, RunsAs}
 use Rattle.results.specs.declared.RunResult.{RunResult}
 use Rattle.results.specs.declared.RunResult.the-variants as RunResult
 
 -- what a call promises of its own answer holds of the definition's
-pub run-so : {file input work work′ : List ℕ} {r : RunResult} → Promised file input work work′ r → HasRun file input work work′
-run-so {file} {input} {work} {work′} call = subst (Promised file input work work′) (call .answer-is) call
+pub run-so : {file input work work′ : List ℕ} {r : RunResult} → RunPromise file input work work′ r → HasRun file input work work′
+run-so {file} {input} {work} {work′} call = subst (RunPromise file input work work′) (call .answer-is) call
 
 -- a refused file
 pub answer-refused : (file input : List ℕ) (work : ℕ) {why : Refusal} → check file ≡ turnedBack why → RunResult.Refused why ≡ runResult (runAnswer file input work)

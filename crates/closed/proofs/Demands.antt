@@ -33,7 +33,7 @@ use Rattle.running.specs.Looked.{LookedAt}
 use Rattle.results.specs.declared.RunResult.{RunResult}
 use Rattle.results.specs.declared.RunResult.the-variants as RunResult
 use Rattle.results.specs.Results.{runResult}
-use Rattle.closed.specs.Answering.{Unchanged, Leaves, Promised, IsInput}
+use Rattle.closed.specs.Answering.{Unchanged, Leaves, RunPromise, IsInput}
 
 -- What the answer of an accepted file says.
 abbrev RunMeans : Program → List ℕ → ℕ → RunAnswer → Type 0
@@ -82,8 +82,8 @@ missing-kept n (unfinished m) is = absurd (clash (cc))
 missing-kept n (missing m) is = let same : n ≡ m = cc in ap missing (sym same)
 missing-kept n (halted q m) is = absurd (clash (cc))
 
--- `Promised file input work work′ r` is the contract: the call answered r, and the work slice that held the words `work` holds `work′`.
-module _ (file input work work′ : List ℕ) (r : RunResult) (call : Promised file input work work′ r) where
+-- `RunPromise file input work work′ r` is the contract: the call answered r, and the work slice that held the words `work` holds `work′`.
+module _ (file input work work′ : List ℕ) (r : RunResult) (call : RunPromise file input work work′ r) where
   -- 01, "Turned back": a file that the check refuses gets its number, whatever the input and the words are.
   pub refused-file : (why : Refusal) → check file ≡ turnedBack why → r ≡ RunResult.Refused why
   refused-file why checked = call .answer-is ∙ ap runResult (run-turned-back file input (length work) why checked)

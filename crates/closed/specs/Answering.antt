@@ -28,14 +28,14 @@ Leaves (RunResult.Refused why) file input w′ = Unit {0}
 Leaves (RunResult.Ran o deep) file input w′ = (p : Program) (j : Parts) → check file ≡ accepted p → inputOf p input ≡ some j → LookedAt p j (p .steps) w′
 
 -- What the call promises, and all that it promises: of its answer, of the words that it may not change, and of those that it may.
-pub record Promised (file input work work′ : List ℕ) (r : RunResult) : Type 0 where
+pub record RunPromise (file input work work′ : List ℕ) (r : RunResult) : Type 0 where
   pub answer-is : r ≡ runResult (runAnswer file input (length work))
   pub words-are : Unchanged r file work work′
   pub cells-are : Leaves r file input work′
 
 -- the same of a call that runs and does not hand on the run's own answer
 abbrev pub HasRun : List ℕ → List ℕ → List ℕ → List ℕ → Type 0
-HasRun file input work work′ = Promised file input work work′ (runResult (runAnswer file input (length work)))
+HasRun file input work work′ = RunPromise file input work work′ (runResult (runAnswer file input (length work)))
 
 -- the bytes are one closed, fitting value per parameter: the prefix form of j
 abbrev pub IsInput : Program → List ℕ → Parts → Type 0

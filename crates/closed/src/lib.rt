@@ -1,6 +1,6 @@
 // The closed run: the evaluation of a rule on one closed input, in the lent words. Parts of the input are bound when a case looks at
 // them. Rests on crates goal, rulefile, loaded, inputs, values, running and results.
-ghost use Rattle.closed.specs.Answering.{Promised};
+ghost use Rattle.closed.specs.Answering.{RunPromise};
 ghost use Rattle.closed.specs.Evaluating.{Runnable, RunsAs};
 use goal::Goal;
 use inputs::Reading;
@@ -55,7 +55,7 @@ fn evaluate<'a>(
 
 // The closed run of a rule file on an input, in the lent words.
 pub fn run<'a>(file: &'a [u8], input: &'a [u8], work: &mut [u32]) -> RunResult
-    ensures { λ r. ⌜ Promised (now (file .entry)) (now (input .entry)) (now (work .entry)) (now (work .exit)) r ⌝ }
+    ensures { λ r. ⌜ RunPromise (now (file .entry)) (now (input .entry)) (now (work .entry)) (now (work .exit)) r ⌝ }
 {
     let loaded = load(file);
     let answer = loaded.answer;

@@ -1,6 +1,6 @@
 -- The demands of the request, said of the call `check`. A reviewer reads this file with the contract in src/lib.rt: the sentence that a theorem answers stands
 -- above it, and its statement uses definitions of specs/ only: `Passes`, `FirstPassRefuses`, `RefusedBy` and the like are those of reach's Conditions.
--- `Promised file r` is the contract: the call answered r. Nothing is asked of the file.
+-- `CheckPromise file r` is the contract: the call answered r. Nothing is asked of the file.
 -- That each call stops and touches nothing outside its buffers is what the check proves of every function. The same of the calls `search` and `run` stands in
 -- the Demands of crates search and closed.
 -- Rests on reach's Conditions and Refusals.
@@ -29,7 +29,7 @@ use Rattle.reach.proofs.Conditions as Conditions
 use Rattle.results.specs.declared.CheckResult.{CheckResult}
 use Rattle.results.specs.declared.CheckResult.the-variants as CheckResult
 use Rattle.results.specs.Results.{checkResult}
-use Rattle.rulefile.specs.Answering.{Promised}
+use Rattle.rulefile.specs.Answering.{CheckPromise}
 
 -- what the enum shows of the definition's answer
 accepted-shows : (c : Answers.Checked) → (checkResult c ≡ CheckResult.Accepted) ↔ ((p : Program) × (c ≡ Answers.accepted p))
@@ -48,7 +48,7 @@ first-pass-gives file why h = Conditions.first-gives file why h
 pub third-pass-gives : (file : List ℕ) (why : Refusal) → ThirdPassRefuses file why → numberOf why ∈ (1 ∷ 3 ∷ 4 ∷ 5 ∷ 6 ∷ 7 ∷ [])
 third-pass-gives file why h = Conditions.third-gives file why h
 
-module _ (file : List ℕ) (r : CheckResult) (call : Promised file r) where
+module _ (file : List ℕ) (r : CheckResult) (call : CheckPromise file r) where
   -- Demand 1: "returns a result or one of the numbered refusals, each under its own condition only".
 
   -- A file is accepted exactly where its size is in the limit, the first pass reads an outline of it, all numbers in that outline exist, every body is

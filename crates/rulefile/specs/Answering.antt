@@ -8,5 +8,5 @@ use Rattle.results.specs.declared.CheckResult.{CheckResult}
 use Rattle.results.specs.Results.{checkResult}
 
 -- What the call promises, the one sentence of its contract: its answer for the bytes of the file is the definition's.
-pub record Promised (file : List ℕ) (r : CheckResult) : Type 0 where
+pub record CheckPromise (file : List ℕ) (r : CheckResult) : Type 0 where
   pub answer-is : r ≡ checkResult (check file)

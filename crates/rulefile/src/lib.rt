@@ -4,7 +4,7 @@
 // lookups, goal and results.
 ghost use mathlib.Core.Path.{_≡_};
 ghost use Rattle.goal.specs.Goals.{goalOf, namedOf};
-ghost use Rattle.rulefile.specs.Answering.{Promised};
+ghost use Rattle.rulefile.specs.Answering.{CheckPromise};
 ghost use Rattle.rulefile.specs.Loading.{Outlines, Reads, Loads, sourceShallow, namesSpelled};
 use bodies::Judged;
 use bodies::bodies;
@@ -147,7 +147,7 @@ pub fn load(file: &[u8]) -> Loaded
 }
 
 pub fn check(file: &[u8]) -> CheckResult
-    ensures { λ r. ⌜ Promised (now (file .entry)) r ⌝ }
+    ensures { λ r. ⌜ CheckPromise (now (file .entry)) r ⌝ }
 {
     let loaded = load(file);
     loaded.answer

@@ -27,12 +27,12 @@ use Rattle.reach.proofs.Refusals.{turned-back-by}
 use Rattle.results.specs.declared.SearchResult.{SearchResult}
 use Rattle.results.specs.declared.SearchResult.the-variants as SearchResult
 use Rattle.results.specs.Results.{searchResult, listLengthIn, refusalIn, verdictIn}
-use Rattle.search.specs.Answering.{Promised, Searched}
+use Rattle.search.specs.Answering.{SearchPromise, Searched}
 use Rattle.exploring.proofs.Cutting.{size-more, answer-complete, answer-full, answer-short, answer-refused}
 
 -- what a call promises of its own answer holds of the definition's
-pub searched-so : {file work work′ before after : List ℕ} {r : SearchResult} → Promised file work work′ before after r → Searched file work work′ before after
-searched-so {file} {work} {work′} {before} {after} call = subst (Promised file work work′ before after) (call .answer-is) call
+pub searched-so : {file work work′ before after : List ℕ} {r : SearchResult} → SearchPromise file work work′ before after r → Searched file work work′ before after
+searched-so {file} {work} {work′} {before} {after} call = subst (SearchPromise file work work′ before after) (call .answer-is) call
 
 -- The answer shows the length, the refusal and the verdict of the definition's.
 

@@ -1,6 +1,6 @@
 -- The demands of the request, said of the call `search`. A reviewer reads this file with the contract in src/lib.rt: the sentence that a theorem answers
 -- stands above it, and its statement uses definitions of specs/ only.
--- `Promised file work work′ before after r` is the contract: the call answered r, the list slice that held the bytes `before` holds `after`, and the work
+-- `SearchPromise file work work′ before after r` is the contract: the call answered r, the list slice that held the bytes `before` holds `after`, and the work
 -- slice that held the words `work` holds `work′`. The list is read back from its bytes, `take (listLengthIn r) after`: `ReadsAs p bytes k e` says that entry k
 -- there is e. Nothing is asked of the file and of the slices.
 -- That each call stops and touches nothing outside its buffers is what the check proves of every function.
@@ -39,12 +39,12 @@ use Rattle.reach.proofs.Demands as Reach
 use Rattle.results.specs.declared.SearchResult.{SearchResult}
 use Rattle.results.specs.declared.SearchResult.the-variants as SearchResult
 use Rattle.results.specs.Results.{listLengthIn, refusalIn, verdictIn}
-use Rattle.search.specs.Answering.{WordsAfter, Promised, ReadsAs}
+use Rattle.search.specs.Answering.{WordsAfter, SearchPromise, ReadsAs}
 use Rattle.exploring.proofs.Cutting.{size-more, written-none, written-length}
 use Rattle.search.proofs.Called.{length-is, refusal-is, verdict-is, refused-when, full-when, complete-when, complete-lists, full-lists, refused-lists, listed-room, room-inside, written-take, written-drop, member-number, says-spent, says-missing}
 use Rattle.search.proofs.Reading.{part-of, reads-exactly, reads-or-empty}
 
-module _ (file work work′ before after : List ℕ) (r : SearchResult) (call : Promised file work work′ before after r) where
+module _ (file work work′ before after : List ℕ) (r : SearchResult) (call : SearchPromise file work work′ before after r) where
   -- the definition's answer, which the call shows, and the entries listed
   abbrev answer : SearchAnswer
   answer = searchAnswer file (length work) (length before)

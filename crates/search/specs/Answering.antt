@@ -32,14 +32,14 @@ WordsAfter (SearchResult.Full n) file w w′ =
 
 -- What the call promises, and all that it promises: of its answer; of the list slice, which held the bytes `before` (the entries of the definition's
 -- answer stand at its front, and the bytes after them are as before); and of the words.
-pub record Promised (file work work′ before after : List ℕ) (r : SearchResult) : Type 0 where
+pub record SearchPromise (file work work′ before after : List ℕ) (r : SearchResult) : Type 0 where
   pub answer-is : r ≡ searchResult (searchAnswer file (length work) (length before))
   pub list-is : after ≡ written (listed (searchAnswer file (length work) (length before))) before
   pub words-are : WordsAfter r file work work′
 
 -- the same of a call that searches and does not hand on the search's own answer: the list and the words are as the definition's answer says
 abbrev pub Searched : List ℕ → List ℕ → List ℕ → List ℕ → List ℕ → Type 0
-Searched file work work′ before after = Promised file work work′ before after (searchResult (searchAnswer file (length work) (length before)))
+Searched file work work′ before after = SearchPromise file work work′ before after (searchResult (searchAnswer file (length work) (length before)))
 
 -- Entry k of these bytes of a list, read back, is e: the part that it fills is there, and says the kind and the steps of e and, in prefix form, its
 -- partial input, which has the source's types.

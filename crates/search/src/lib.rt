@@ -1,7 +1,7 @@
 // The search of a rule file for the partial inputs that reach the target, by lazy narrowing: depth first, in moves, over one path
 // with a stack of choice points, all of it in the lent words; entries are written to the lent list. Rests on crates goal, rulefile,
 // loaded, lookups, machine, skipping, exploring and results.
-ghost use Rattle.search.specs.Answering.{Promised};
+ghost use Rattle.search.specs.Answering.{SearchPromise};
 ghost use Rattle.search.specs.Searching.{SomeSearchable, ExploresThem};
 use depths::Depths;
 use entries::room;
@@ -57,7 +57,7 @@ fn search_checked<'a>(
 
 // The search of a rule file, in the lent words, its list written to the lent list slice.
 pub fn search<'a>(file: &'a [u8], work: &mut [u32], list: &mut [u8]) -> SearchResult
-    ensures { λ r. ⌜ Promised (now (file .entry)) (now (work .entry)) (now (work .exit)) (now (list .entry)) (now (list .exit)) r ⌝ }
+    ensures { λ r. ⌜ SearchPromise (now (file .entry)) (now (work .entry)) (now (work .exit)) (now (list .entry)) (now (list .exit)) r ⌝ }
 {
     let loaded = load(file);
     let answer = loaded.answer;
