@@ -25,6 +25,7 @@ sys.dont_write_bytecode = True
 
 from blind.compare import Different, same
 from blind.enumerate import reachlist
+from check_refusals import words
 from name_lines import name_lines, named_type
 from rule_tool import build
 
@@ -33,8 +34,7 @@ SCRIPT, NAMES = os.path.join(ROOT, "reachlist"), os.path.join(ROOT, "namelist")
 PROGRAMS = [os.path.join(ROOT, "target", "bin", name) for name in ("reachlist", "namelist")]
 STORED = os.path.join(ROOT, "tests", "reachlist")
 SECONDS = 30  # after which a run is given up
-WORDS = ["", "short", "mark", "range", "stranger", "code", "misfit", "tail", "hollow", "shallow", "input", "bench", "full", "page", "scrap",
-         "spelling"]
+WORDS = words()
 P, RELAY = os.path.join(STORED, "p.rule"), os.path.join(ROOT, "examples", "relay.rule")
 
 

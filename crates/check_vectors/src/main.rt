@@ -3,14 +3,14 @@
 ghost use Prim.Native.Nat.{_≤_};
 use libc::STDIN_FILENO;
 use libc::STDOUT_FILENO;
-use rulefile::Checked;
+use results::CheckResult;
 
-fn print_answer(answer: Checked) {
+fn print_answer(answer: CheckResult) {
     match answer {
-        Checked::Accepted => {
+        CheckResult::Accepted => {
             io::write_all(STDOUT_FILENO, b"accepted\n");
         }
-        Checked::Refused(why) => {
+        CheckResult::Refused(why) => {
             io::write_all(STDOUT_FILENO, b"refused ");
             io::print_decimal(STDOUT_FILENO, refusals::number(why));
             io::write_all(STDOUT_FILENO, b"\n");

@@ -23,8 +23,8 @@ use Rattle.reach.proofs.Limits.{accepted-keeps, within-limit}
 use Rattle.inputs.specs.declared.Reading.{Reading}
 use Rattle.inputs.specs.declared.Reading.the-variants as Reading
 use Rattle.inputs.specs.Depth.{inputAt, readingOf}
-use Rattle.rulefile.specs.declared.Checked.{Checked}
-use Rattle.rulefile.specs.declared.Checked.the-variants as Checked
+use Rattle.results.specs.declared.CheckResult.{CheckResult}
+use Rattle.results.specs.declared.CheckResult.the-variants as CheckResult
 use Rattle.rulefile.specs.declared.Loaded.{Loaded}
 use Rattle.rulefile.specs.Loading.{typePlaces, functionPlaces, Tabled, Loads}
 use Rattle.rulefile.proofs.Tabled.{program-goal}
@@ -33,17 +33,18 @@ use Rattle.loaded.proofs.Files.{given-file}
 use Rattle.loaded.proofs.Loaded.{loaded-accepted}
 use Rattle.running.specs.Looked.{LookedAt}
 use Rattle.binding.specs.Underway.{GivenInput}
-use Rattle.closed.specs.Answering.{Leaves, answerOf, Promised, HasRun}
+use Rattle.results.specs.Results.{runResult}
+use Rattle.closed.specs.Answering.{Leaves, RunPromise, HasRun}
 use Rattle.closed.specs.Evaluating.{Runnable, RunsAs}
-use Rattle.closed.specs.declared.Answer.{Answer}
-use Rattle.closed.specs.declared.Answer.the-variants as Answer
+use Rattle.results.specs.declared.RunResult.{RunResult}
+use Rattle.results.specs.declared.RunResult.the-variants as RunResult
 
 -- what a call promises of its own answer holds of the definition's
-pub run-so : {file input work work′ : List ℕ} {r : Answer} → Promised file input work work′ r → HasRun file input work work′
-run-so {file} {input} {work} {work′} call = subst (Promised file input work work′) (call .answer-is) call
+pub run-so : {file input work work′ : List ℕ} {r : RunResult} → RunPromise file input work work′ r → HasRun file input work work′
+run-so {file} {input} {work} {work′} call = subst (RunPromise file input work work′) (call .answer-is) call
 
 -- a refused file
-pub answer-refused : (file input : List ℕ) (work : ℕ) {why : Refusal} → check file ≡ turnedBack why → Answer.Refused why ≡ answerOf (runAnswer file input work)
+pub answer-refused : (file input : List ℕ) (work : ℕ) {why : Refusal} → check file ≡ turnedBack why → RunResult.Refused why ≡ runResult (runAnswer file input work)
 unfolding runAnswer runChecked
 answer-refused file input work h = rw h
 
@@ -59,7 +60,7 @@ module _ {file : List ℕ} {r : Loaded} {p : Program} (checked : check file ≡ 
       rw (program-goal t .source-is, program-goal t .depths-are, ← (given .file-of .types-there), ← (given .parameters-there))
 
   -- an input that does not fit
-  pub answer-bad : (input : List ℕ) (work : ℕ) → input-there input ≡ none → Answer.Refused BadInput ≡ answerOf (runAnswer file input work)
+  pub answer-bad : (input : List ℕ) (work : ℕ) → input-there input ≡ none → RunResult.Refused BadInput ≡ runResult (runAnswer file input work)
   unfolding runAnswer runChecked runInput
   answer-bad input work h = rw (checked, ← (input-is input), h)
 
@@ -78,7 +79,7 @@ module _ {file : List ℕ} {r : Loaded} {p : Program} (checked : check file ≡ 
         omega (arith, is, within-limit file p checked j within)
 
     -- too few words
-    pub answer-short : (work : ℕ) → work < workWords (r .goal .steps) → Answer.Refused WorkTooShort ≡ answerOf (runAnswer file input work)
+    pub answer-short : (work : ℕ) → work < workWords (r .goal .steps) → RunResult.Refused WorkTooShort ≡ runResult (runAnswer file input work)
     unfolding runAnswer runChecked runInput
     answer-short work short =
         let z : work < workWords (p .steps) = omega (arith, program-goal t .steps-is) in
@@ -87,7 +88,7 @@ module _ {file : List ℕ} {r : Loaded} {p : Program} (checked : check file ≡ 
     -- the run
     pub answer-ran :
         (work : ℕ) (o : Outcome) → workWords (r .goal .steps) ≤ work → o ≡ outcomeOf (Eval.run p j)
-        → Answer.Ran o deep ≡ answerOf (runAnswer file input work)
+        → RunResult.Ran o deep ≡ runResult (runAnswer file input work)
     unfolding runAnswer runChecked runInput
     answer-ran work o enough is =
         let z : workWords (p .steps) ≤ work = omega (arith, program-goal t .steps-is) in
@@ -103,12 +104,12 @@ reading-some none e = absurd (clash (cc))
 reading-some (some (j, d)) {deep} e = let same : d ≡ deep = cc in (j, ap (λ (n : ℕ). some (j, n)) same)
 
 -- The same for a file that was loaded and accepted, by the functions that `run` calls.
-module _ (file : List ℕ) (r : Loaded) (loads : Loads file r) (is : r .answer ≡ Checked.Accepted) where
+module _ (file : List ℕ) (r : Loaded) (loads : Loads file r) (is : r .answer ≡ CheckResult.Accepted) where
   abbrev here : (p : Program) × (check file ≡ accepted p) × Tabled file r p
   here = loaded-accepted file r loads is
 
   module _ (input : List ℕ) {b : Reading} (told : b ≡ readingOf (input-there (here .1) (here .2) input)) where
-    pub run-bad : (work : ℕ) → b ≡ Reading.Misfit → Answer.Refused BadInput ≡ answerOf (runAnswer file input work)
+    pub run-bad : (work : ℕ) → b ≡ Reading.Misfit → RunResult.Refused BadInput ≡ runResult (runAnswer file input work)
     run-bad work e = answer-bad (here .1) (here .2) input work (reading-none _ (sym e ∙ told))
 
     module _ {deep : ℕ} (is-deep : b ≡ Reading.Deep deep) {words : ℕ} (words-are : words ≡ workWords (r .goal .steps)) where
@@ -118,7 +119,7 @@ module _ (file : List ℕ) (r : Loaded) (loads : Loads file r) (is : r .answer �
       pub run-deep : deep ≤ 64
       run-deep = deep-small (here .1) (here .2) input (fits .1)
 
-      pub run-short : (work : ℕ) → work < words → Answer.Refused WorkTooShort ≡ answerOf (runAnswer file input work)
+      pub run-short : (work : ℕ) → work < words → RunResult.Refused WorkTooShort ≡ runResult (runAnswer file input work)
       run-short work short = answer-short (here .1) (here .2) input (fits .1) work (omega arith)
 
       pub run-able : (w : List ℕ) → words ≤ length w → Runnable file (typePlaces r) (functionPlaces r) input (r .goal) (take words w)
@@ -131,13 +132,13 @@ module _ (file : List ℕ) (r : Loaded) (loads : Loads file r) (is : r .answer �
       )
 
       module _ {v : List ℕ} {o : Outcome} (runs : RunsAs file (typePlaces r) (functionPlaces r) input (r .goal) v o) where
-        pub run-ran : (work : ℕ) → words ≤ work → Answer.Ran o deep ≡ answerOf (runAnswer file input work)
+        pub run-ran : (work : ℕ) → words ≤ work → RunResult.Ran o deep ≡ runResult (runAnswer file input work)
         run-ran work enough =
             answer-ran (here .1) (here .2) input (fits .1) work o (omega arith)
             (runs (here .0) (fits .0) (given-of (here .1) (here .2) input (fits .1)) (program-goal (here .2)) .0)
 
         -- what the words that were lent on stand for, they stand for with those behind them
-        pub run-leaves : (behind : List ℕ) → Leaves (Answer.Ran o deep) file input (v ++ behind)
+        pub run-leaves : (behind : List ℕ) → Leaves (RunResult.Ran o deep) file input (v ++ behind)
         run-leaves behind p j checked reads =
             let given = given-of (here .1) (here .2) input (fits .1) in
             let one : here .0 ≡ p = cc (here .1) in

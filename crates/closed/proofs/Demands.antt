@@ -30,9 +30,10 @@ use Rattle.reach.proofs.Limits.{within-depth}
 use Rattle.reach.proofs.Demands as Reach
 use Rattle.reach.proofs.Refusals.{turned-back-by}
 use Rattle.running.specs.Looked.{LookedAt}
-use Rattle.closed.specs.declared.Answer.{Answer}
-use Rattle.closed.specs.declared.Answer.the-variants as Answer
-use Rattle.closed.specs.Answering.{answerOf, Unchanged, Leaves, Promised, IsInput}
+use Rattle.results.specs.declared.RunResult.{RunResult}
+use Rattle.results.specs.declared.RunResult.the-variants as RunResult
+use Rattle.results.specs.Results.{runResult}
+use Rattle.closed.specs.Answering.{Unchanged, Leaves, RunPromise, IsInput}
 
 -- What the answer of an accepted file says.
 abbrev RunMeans : Program → List ℕ → ℕ → RunAnswer → Type 0
@@ -81,11 +82,11 @@ missing-kept n (unfinished m) is = absurd (clash (cc))
 missing-kept n (missing m) is = let same : n ≡ m = cc in ap missing (sym same)
 missing-kept n (halted q m) is = absurd (clash (cc))
 
--- `Promised file input work work′ r` is the contract: the call answered r, and the work slice that held the words `work` holds `work′`.
-module _ (file input work work′ : List ℕ) (r : Answer) (call : Promised file input work work′ r) where
+-- `RunPromise file input work work′ r` is the contract: the call answered r, and the work slice that held the words `work` holds `work′`.
+module _ (file input work work′ : List ℕ) (r : RunResult) (call : RunPromise file input work work′ r) where
   -- 01, "Turned back": a file that the check refuses gets its number, whatever the input and the words are.
-  pub refused-file : (why : Refusal) → check file ≡ turnedBack why → r ≡ Answer.Refused why
-  refused-file why checked = call .answer-is ∙ ap answerOf (run-turned-back file input (length work) why checked)
+  pub refused-file : (why : Refusal) → check file ≡ turnedBack why → r ≡ RunResult.Refused why
+  refused-file why checked = call .answer-is ∙ ap runResult (run-turned-back file input (length work) why checked)
 
   module _ (p : Program) (checked : check file ≡ accepted p) where
     means : RunMeans p input (length work) (runAnswer file input (length work))
@@ -104,10 +105,10 @@ module _ (file input work work′ : List ℕ) (r : Answer) (call : Promised file
     -- Demand 1 and 2: the call runs exactly where the bytes are a closed input that fits and the words are enough, and answers as the published evaluation of
     -- that input ends, after exactly its steps. 02, Slip 3: "the closed run returns the largest of them, 0 without parameters": the depth of that input.
     pub ran-exactly : (o : Outcome) (deep : ℕ)
-        → (r ≡ Answer.Ran o deep) ↔ ((j : Parts) × IsInput p input j × (workWords (p .steps) ≤ length work) × (o ≡ outcomeOf (run p j)) × (deep ≡ depth j))
+        → (r ≡ RunResult.Ran o deep) ↔ ((j : Parts) × IsInput p input j × (workWords (p .steps) ≤ length work) × (o ≡ outcomeOf (run p j)) × (deep ≡ depth j))
     ran-exactly o deep = (λ is. from (runAnswer file input (length work)) means (sym (call .answer-is) ∙ is), λ h. call .answer-is ∙ into (h .0) (h .1) (h .2) (h .3) (h .4) (runAnswer file input (length work)) means)
       where
-        from : (a : RunAnswer) → RunMeans p input (length work) a → answerOf a ≡ Answer.Ran o deep
+        from : (a : RunAnswer) → RunMeans p input (length work) a → runResult a ≡ RunResult.Ran o deep
             → (j : Parts) × IsInput p input j × (workWords (p .steps) ≤ length work) × (o ≡ outcomeOf (run p j)) × (deep ≡ depth j)
         from (noRun why) m is = absurd (clash (cc))
         from (ran x d) (j, reads, enough, ends) is =
@@ -117,63 +118,63 @@ module _ (file input work work′ : List ℕ) (r : Answer) (call : Promised file
 
         into :
             (j : Parts) → IsInput p input j → workWords (p .steps) ≤ length work → o ≡ outcomeOf (run p j) → deep ≡ depth j
-            → (a : RunAnswer) → RunMeans p input (length work) a → answerOf a ≡ Answer.Ran o deep
+            → (a : RunAnswer) → RunMeans p input (length work) a → runResult a ≡ RunResult.Ran o deep
         into j is enough ends as-deep (noRun why) (inl (by, unread)) = absurd (clash (cc (unread, reads-as j is)))
         into j is enough ends as-deep (noRun why) (inr (by, (k, d, reads, short))) = absurd (omega arith)
         into j is enough ends as-deep (ran x d) (k, reads, fits, ended-so) =
             let same : k ≡ j = one-input k j d reads is in
             let deeper : d ≡ deep = read k d reads .1 ∙ ap depth same ∙ sym as-deep in
             let ended-as : x ≡ o = ended-so ∙ ap (λ (y : Parts). outcomeOf (run p y)) same ∙ sym ends in
-            ap (λ (y : Outcome). Answer.Ran y d) ended-as ∙ ap (Answer.Ran o) deeper
+            ap (λ (y : Outcome). RunResult.Ran y d) ended-as ∙ ap (RunResult.Ran o) deeper
 
     -- 01, "Turned back", refusal 10: "the bytes are not one closed, fitting value per parameter".
-    pub bad-exactly : (r ≡ Answer.Refused BadInput) ↔ ((j : Parts) → ¬ IsInput p input j)
+    pub bad-exactly : (r ≡ RunResult.Refused BadInput) ↔ ((j : Parts) → ¬ IsInput p input j)
     bad-exactly = (λ is j other. from (runAnswer file input (length work)) means (sym (call .answer-is) ∙ is) j other, λ never. call .answer-is ∙ into never (runAnswer file input (length work)) means)
       where
-        from : (a : RunAnswer) → RunMeans p input (length work) a → answerOf a ≡ Answer.Refused BadInput → (j : Parts) → IsInput p input j → ⊥
+        from : (a : RunAnswer) → RunMeans p input (length work) a → runResult a ≡ RunResult.Refused BadInput → (j : Parts) → IsInput p input j → ⊥
         from (noRun why) (inl (by, unread)) is j other = clash (cc (unread, reads-as j other))
         from (noRun why) (inr (by, (k, d, reads, short))) is j other = clash (cc (by))
         from (ran x d) m is j other = clash (cc)
 
-        into : ((j : Parts) → ¬ IsInput p input j) → (a : RunAnswer) → RunMeans p input (length work) a → answerOf a ≡ Answer.Refused BadInput
-        into never (noRun why) (inl (by, unread)) = ap Answer.Refused by
+        into : ((j : Parts) → ¬ IsInput p input j) → (a : RunAnswer) → RunMeans p input (length work) a → runResult a ≡ RunResult.Refused BadInput
+        into never (noRun why) (inl (by, unread)) = ap RunResult.Refused by
         into never (noRun why) (inr (by, (k, d, reads, short))) = absurd (never k (read k d reads .0))
         into never (ran x d) (k, reads, fits, ended-so) = absurd (never k (read k d reads .0))
 
     -- 02, Slip 3: "the check for refusal 10 [relies] on the new figure": bytes of closed values of the parameters' types are refused exactly if the deepest
     -- of them is deeper than D.
-    pub too-deep-exactly : (j : Parts) → ClosedInput p j → prefix j ≡ input → (r ≡ Answer.Refused BadInput) ↔ (depthOf (p .depths) < depth j)
+    pub too-deep-exactly : (j : Parts) → ClosedInput p j → prefix j ≡ input → (r ≡ RunResult.Refused BadInput) ↔ (depthOf (p .depths) < depth j)
     too-deep-exactly j values same = (
       λ is. Reach.too-deep-exactly file p checked input j values same .0 (unread (runAnswer file input (length work)) means (sym (call .answer-is) ∙ is)),
       λ deep. bad-exactly .1 (λ k other. absurd (clash (cc (reads-as k other, Reach.too-deep-exactly file p checked input j values same .1 deep)))),
     )
       where
-        unread : (a : RunAnswer) → RunMeans p input (length work) a → answerOf a ≡ Answer.Refused BadInput → readInput p input ≡ none
+        unread : (a : RunAnswer) → RunMeans p input (length work) a → runResult a ≡ RunResult.Refused BadInput → readInput p input ≡ none
         unread (noRun why) (inl (by, none-read)) is = none-read
         unread (noRun why) (inr (by, other)) is = absurd (clash (cc (by)))
         unread (ran x d) m is = absurd (clash (cc))
 
     -- 01, "Turned back", refusal 11: "the work slice of 32-bit words is shorter than 64 × S + 1,024", tested after the input.
-    pub short-exactly : (r ≡ Answer.Refused WorkTooShort) ↔ ((j : Parts) × IsInput p input j × (length work < workWords (p .steps)))
+    pub short-exactly : (r ≡ RunResult.Refused WorkTooShort) ↔ ((j : Parts) × IsInput p input j × (length work < workWords (p .steps)))
     short-exactly = (λ is. from (runAnswer file input (length work)) means (sym (call .answer-is) ∙ is), λ h. call .answer-is ∙ into (h .0) (h .1) (h .2) (runAnswer file input (length work)) means)
       where
-        from : (a : RunAnswer) → RunMeans p input (length work) a → answerOf a ≡ Answer.Refused WorkTooShort → (j : Parts) × IsInput p input j × (length work < workWords (p .steps))
+        from : (a : RunAnswer) → RunMeans p input (length work) a → runResult a ≡ RunResult.Refused WorkTooShort → (j : Parts) × IsInput p input j × (length work < workWords (p .steps))
         from (noRun why) (inl (by, unread)) is = absurd (clash (cc (by)))
         from (noRun why) (inr (by, (k, d, reads, short))) is = (k, read k d reads .0, short)
         from (ran x d) m is = absurd (clash (cc))
 
-        into : (j : Parts) → IsInput p input j → length work < workWords (p .steps) → (a : RunAnswer) → RunMeans p input (length work) a → answerOf a ≡ Answer.Refused WorkTooShort
+        into : (j : Parts) → IsInput p input j → length work < workWords (p .steps) → (a : RunAnswer) → RunMeans p input (length work) a → runResult a ≡ RunResult.Refused WorkTooShort
         into j is short (noRun why) (inl (by, unread)) = absurd (clash (cc (unread, reads-as j is)))
-        into j is short (noRun why) (inr (by, other)) = ap Answer.Refused by
+        into j is short (noRun why) (inr (by, other)) = ap RunResult.Refused by
         into j is short (ran x d) (k, reads, fits, ended-so) = absurd (omega arith)
 
     -- 01: steps spent are "never above S"; "unfinished: S steps are done".
-    pub steps-spent : (o : Outcome) (deep : ℕ) → r ≡ Answer.Ran o deep → stepsOf o ≤ p .steps
+    pub steps-spent : (o : Outcome) (deep : ℕ) → r ≡ RunResult.Ran o deep → stepsOf o ≤ p .steps
     steps-spent o deep is =
         let (j, reads, enough, ends, as-deep) = ran-exactly o deep .0 is in
         rw ends (steps-kept (p .steps) (run p j) (run-spent p j))
 
-    pub unfinished-all : (n deep : ℕ) → r ≡ Answer.Ran (Unfinished n) deep → n ≡ p .steps
+    pub unfinished-all : (n deep : ℕ) → r ≡ RunResult.Ran (Unfinished n) deep → n ≡ p .steps
     unfinished-all n deep is =
         let (j, reads, enough, ends, as-deep) = ran-exactly (Unfinished n) deep .0 is in
         unfinished-kept (p .steps) n (run p j) (run-spent p j) ends
@@ -181,7 +182,7 @@ module _ (file input work work′ : List ℕ) (r : Answer) (call : Promised file
     -- 02, Slip 1: "the closed run says missing too, no longer ended": exactly where, inside the step limit, the last of so many steps finds that a case has no
     -- alternative for its constructor.
     pub missing-exactly : (n deep : ℕ)
-        → (r ≡ Answer.Ran (Missing n) deep) ↔ ((j : Parts) × IsInput p input j × (workWords (p .steps) ≤ length work) × MissingAfter p j n × (deep ≡ depth j))
+        → (r ≡ RunResult.Ran (Missing n) deep) ↔ ((j : Parts) × IsInput p input j × (workWords (p .steps) ≤ length work) × MissingAfter p j n × (deep ≡ depth j))
     unfolding outcomeOf
     missing-exactly n deep = (
       λ is. let (j, reads, enough, ends, as-deep) = ran-exactly (Missing n) deep .0 is in
@@ -191,12 +192,12 @@ module _ (file input work work′ : List ℕ) (r : Answer) (call : Promised file
     )
 
     -- 02, Slip 3: no depth is answered above D, and of an input without parameters 0.
-    pub depth-within : (o : Outcome) (deep : ℕ) → r ≡ Answer.Ran o deep → deep ≤ depthOf (p .depths)
+    pub depth-within : (o : Outcome) (deep : ℕ) → r ≡ RunResult.Ran o deep → deep ≤ depthOf (p .depths)
     depth-within o deep is =
         let (j, (within, same), enough, ends, as-deep) = ran-exactly o deep .0 is in
         omega (arith, as-deep, within-depth file p checked j (within .0) .0 (within .1))
 
-    pub depth-none : (o : Outcome) (deep : ℕ) → sourceTypes p ≡ [] → r ≡ Answer.Ran o deep → deep ≡ 0
+    pub depth-none : (o : Outcome) (deep : ℕ) → sourceTypes p ≡ [] → r ≡ RunResult.Ran o deep → deep ≡ 0
     unfolding depth
     depth-none o deep without is =
         let (j, (within, same), enough, ends, as-deep) = ran-exactly o deep .0 is in
@@ -218,45 +219,45 @@ module _ (file input work work′ : List ℕ) (r : Answer) (call : Promised file
   -- 15 are the check's; 10 is given for an accepted file where "the bytes are not one closed, fitting value per parameter"; 11 behind it where "the work
   -- slice of 32-bit words is shorter than 64 × S + 1,024". No other number is given.
   pub refused-exactly : (why : Refusal)
-      → (r ≡ Answer.Refused why)
+      → (r ≡ RunResult.Refused why)
       ↔ ((OfFile why × (check file ≡ turnedBack why))
       ⊎ (((why ≡ BadInput) × ((p : Program) × (check file ≡ accepted p) × ((j : Parts) → ¬ IsInput p input j)))
       ⊎ ((why ≡ WorkTooShort) × ((p : Program) × (check file ≡ accepted p) × ((j : Parts) × IsInput p input j × (length work < workWords (p .steps)))))))
   refused-exactly why = (λ is. from (check file) refl is, ⊎-elim (λ h. refused-file why (h .1)) (⊎-elim bad short))
     where
       by-means :
-          (p : Program) → check file ≡ accepted p → (a : RunAnswer) → RunMeans p input (length work) a → answerOf a ≡ Answer.Refused why
+          (p : Program) → check file ≡ accepted p → (a : RunAnswer) → RunMeans p input (length work) a → runResult a ≡ RunResult.Refused why
           → (why ≡ BadInput) ⊎ (why ≡ WorkTooShort)
       by-means p checked (noRun by) (inl (same-as, unread)) is = let same : by ≡ why = cc in inl (sym same ∙ same-as)
       by-means p checked (noRun by) (inr (same-as, rest)) is = let same : by ≡ why = cc in inr (sym same ∙ same-as)
       by-means p checked (ran o deep) m is = absurd (clash (cc))
 
-      from : (c : Checked) → check file ≡ c → r ≡ Answer.Refused why → Refusable why
+      from : (c : Checked) → check file ≡ c → r ≡ RunResult.Refused why → Refusable why
       from (turnedBack by) checked is =
           let same : by ≡ why = cc (refused-file by checked) in
           let turned : check file ≡ turnedBack why = checked ∙ ap turnedBack same in
           inl (turned-back-by file why turned, turned)
       from (accepted p) checked is =
-          inr (⊎-elim (λ same-as. inl (same-as, (p, checked, bad-exactly p checked .0 (is ∙ ap Answer.Refused same-as))))
-          (λ same-as. inr (same-as, (p, checked, short-exactly p checked .0 (is ∙ ap Answer.Refused same-as))))
+          inr (⊎-elim (λ same-as. inl (same-as, (p, checked, bad-exactly p checked .0 (is ∙ ap RunResult.Refused same-as))))
+          (λ same-as. inr (same-as, (p, checked, short-exactly p checked .0 (is ∙ ap RunResult.Refused same-as))))
           (by-means p checked (runAnswer file input (length work)) (run-means file input (length work) p checked) (sym (call .answer-is) ∙ is)))
 
-      bad : (why ≡ BadInput) × ((p : Program) × (check file ≡ accepted p) × ((j : Parts) → ¬ IsInput p input j)) → r ≡ Answer.Refused why
-      bad (same-as, (p, checked, never)) = bad-exactly p checked .1 never ∙ ap Answer.Refused (sym same-as)
+      bad : (why ≡ BadInput) × ((p : Program) × (check file ≡ accepted p) × ((j : Parts) → ¬ IsInput p input j)) → r ≡ RunResult.Refused why
+      bad (same-as, (p, checked, never)) = bad-exactly p checked .1 never ∙ ap RunResult.Refused (sym same-as)
 
       short :
           (why ≡ WorkTooShort) × ((p : Program) × (check file ≡ accepted p) × ((j : Parts) × IsInput p input j × (length work < workWords (p .steps))))
-          → r ≡ Answer.Refused why
-      short (same-as, (p, checked, few)) = short-exactly p checked .1 few ∙ ap Answer.Refused (sym same-as)
+          → r ≡ RunResult.Refused why
+      short (same-as, (p, checked, few)) = short-exactly p checked .1 few ∙ ap RunResult.Refused (sym same-as)
 
   -- 01, "Turned back": "Refusals 1 to 11 change no buffer." 02, Slip 4: nor does 15.
-  pub refused-unchanged : (why : Refusal) → r ≡ Answer.Refused why → work′ ≡ work
-  refused-unchanged why is = subst (λ (a : Answer). Unchanged a file work work′) is (call .words-are)
+  pub refused-unchanged : (why : Refusal) → r ≡ RunResult.Refused why → work′ ≡ work
+  refused-unchanged why is = subst (λ (a : RunResult). Unchanged a file work work′) is (call .words-are)
 
   -- What the words stand for after a run: a partial input below the closed one, on which the evaluation comes to the same end.
-  pub run-looked : (o : Outcome) (deep : ℕ) → r ≡ Answer.Ran o deep → (p : Program) (j : Parts) → check file ≡ accepted p → IsInput p input j
+  pub run-looked : (o : Outcome) (deep : ℕ) → r ≡ RunResult.Ran o deep → (p : Program) (j : Parts) → check file ≡ accepted p → IsInput p input j
       → (drop (workWords (p .steps)) work′ ≡ drop (workWords (p .steps)) work) × LookedAt p j (p .steps) work′
   run-looked o deep is p j checked input-is = (
-    subst (λ (a : Answer). Unchanged a file work work′) is (call .words-are) p checked,
-    subst (λ (a : Answer). Leaves a file input work′) is (call .cells-are) p j checked (Reach.input-exactly file p checked input j .1 input-is),
+    subst (λ (a : RunResult). Unchanged a file work work′) is (call .words-are) p checked,
+    subst (λ (a : RunResult). Leaves a file input work′) is (call .cells-are) p j checked (Reach.input-exactly file p checked input j .1 input-is),
   )

@@ -1,6 +1,6 @@
 // The closed run: the evaluation of a rule on one closed input, in the lent words. Parts of the input are bound when a case looks at
-// them. Rests on crates goal, rulefile, loaded, inputs, values and running.
-ghost use Rattle.closed.specs.Answering.{Promised};
+// them. Rests on crates goal, rulefile, loaded, inputs, values, running and results.
+ghost use Rattle.closed.specs.Answering.{RunPromise};
 ghost use Rattle.closed.specs.Evaluating.{Runnable, RunsAs};
 use goal::Goal;
 use inputs::Reading;
@@ -11,17 +11,12 @@ use machine::records_at;
 use machine::work_words;
 use reach::Outcome;
 use reach::Refusal;
-use rulefile::Checked;
+use results::CheckResult;
+use results::RunResult;
 use rulefile::load;
 use running::go_on;
 use skipping::fill_ends;
 use values::note_values;
-
-// The answer of a closed run: how it ended and how deep the input is, or a refusal.
-pub enum Answer {
-    Ran(Outcome, u8),
-    Refused(Refusal),
-}
 
 // The run of a checked file's rule on a closed input that fits.
 fn evaluate<'a>(
@@ -59,13 +54,13 @@ fn evaluate<'a>(
 }
 
 // The closed run of a rule file on an input, in the lent words.
-pub fn run<'a>(file: &'a [u8], input: &'a [u8], work: &mut [u32]) -> Answer
-    ensures { λ r. ⌜ Promised (now (file .entry)) (now (input .entry)) (now (work .entry)) (now (work .exit)) r ⌝ }
+pub fn run<'a>(file: &'a [u8], input: &'a [u8], work: &mut [u32]) -> RunResult
+    ensures { λ r. ⌜ RunPromise (now (file .entry)) (now (input .entry)) (now (work .entry)) (now (work .exit)) r ⌝ }
 {
     let loaded = load(file);
     let answer = loaded.answer;
-    if let Checked::Refused(why) = answer {
-        return Answer::Refused(why);
+    if let CheckResult::Refused(why) = answer {
+        return RunResult::Refused(why);
     }
     let types = loaded.types;
     let functions = loaded.functions;
@@ -79,11 +74,11 @@ pub fn run<'a>(file: &'a [u8], input: &'a [u8], work: &mut [u32]) -> Answer
         goal,
         input,
     ) else {
-        return Answer::Refused(Refusal::BadInput);
+        return RunResult::Refused(Refusal::BadInput);
     };
     let words = work_words(goal.steps);
     if work.len() < words {
-        return Answer::Refused(Refusal::WorkTooShort);
+        return RunResult::Refused(Refusal::WorkTooShort);
     }
     let outcome = evaluate(
         file,
@@ -94,5 +89,5 @@ pub fn run<'a>(file: &'a [u8], input: &'a [u8], work: &mut [u32]) -> Answer
         &mut work[..words],
     );
     let depth = deep as u8;
-    Answer::Ran(outcome, depth)
+    RunResult::Ran(outcome, depth)
 }

@@ -37,7 +37,7 @@ use Rattle.listing.specs.declared.Written.{Written}
 use Rattle.listing.specs.declared.Written.the-variants as Written
 use Rattle.listing.specs.Entry.{InputIn, Listable, entryFor, WroteFor, WroteEntry}
 use Rattle.headers.proofs.Bytes.{entry-length}
-use Rattle.exploring.specs.declared.Answer.the-variants as Answer
+use Rattle.results.specs.declared.SearchResult.the-variants as SearchResult
 use Rattle.verdicts.specs.Verdicts.{WithEntry, VerdictAfter}
 use Rattle.exploring.specs.Exploring.{firstWalk, GoesOn, ListableAs, WroteAs, FirstEntries, Begins, SomeBegins, Explores}
 use Rattle.exploring.proofs.Cutting.{verdict-with, size-more, written-none, written-length, written-more}
@@ -131,7 +131,7 @@ module _ {file types functions least : List ℕ} {label : ℕ} {w₀ : List ℕ}
     -- the end of the search
     pub came-over :
         {b : Bool} → GoesOn x b → b ≡ false
-        → Explores file types functions least label w₀ w limit base stack parameters from before l (Answer.Complete n v)
+        → Explores file types functions least label w₀ w limit base stack parameters from before l (SearchResult.Complete n v)
     came-over goes is p begins =
         let now = came .of p begins in
         let (over, lowest) = subst (GoesOn x) is goes in
@@ -301,7 +301,7 @@ module _ {file types functions least : List ℕ} {label : ℕ} {w₀ : List ℕ}
               stands = entry .2;
             }
 
-        pub came-full : r ≡ Written.Full → Explores file types functions least label w₀ w′ limit base stack parameters from before l′ (Answer.Full n)
+        pub came-full : r ≡ Written.Full → Explores file types functions least label w₀ w′ limit base stack parameters from before l′ (SearchResult.Full n)
         came-full is p begins = by-listing (m .listing) refl wrote
           where
             by-listing :

@@ -1,5 +1,5 @@
 -- What the functions of the loop promise: an entry listed at the end of a path, and the whole list of a program.
--- Rests on reach's Search and Lists, on choices' Choices, arriving's Moving, listing's Entry and on the enum of src/lib.rt.
+-- Rests on reach's Search and Lists, on choices' Choices, arriving's Moving, listing's Entry and on the enum of crate results.
 use Prim.Native.Nat.{ℕ, _+_, _≤_, _<_}
 use mathlib.Core.Path.{_≡_}
 use mathlib.Core.Bool.{Bool, true, false}
@@ -22,8 +22,8 @@ use Rattle.arriving.specs.Moving.{UnderWay, Active}
 use Rattle.listing.specs.declared.Written.{Written}
 use Rattle.listing.specs.declared.Written.the-variants as Written
 use Rattle.listing.specs.Entry.{Listable, WroteEntry}
-use Rattle.exploring.specs.declared.Answer.{Answer}
-use Rattle.exploring.specs.declared.Answer.the-variants as Answer
+use Rattle.results.specs.declared.SearchResult.{SearchResult}
+use Rattle.results.specs.declared.SearchResult.the-variants as SearchResult
 
 -- the walk at the beginning
 abbrev pub firstWalk : ℕ → Registers → Walk
@@ -66,10 +66,10 @@ pub record FirstEntries (g : Setting) (before after w′ : List ℕ) (n : ℕ) :
   pub cells : ℕ
   pub stands : Cells (g .program .types) (sourceSlots (g .program)) w′ cells (next .input)
 
-abbrev pub Explored : Setting → List ℕ → List ℕ → List ℕ → Answer → Type 0
-Explored g before after w′ (Answer.Refused why) = ⊥
-Explored g before after w′ (Answer.Complete n v) = WholeList g before after w′ n v
-Explored g before after w′ (Answer.Full n) = FirstEntries g before after w′ n
+abbrev pub Explored : Setting → List ℕ → List ℕ → List ℕ → SearchResult → Type 0
+Explored g before after w′ (SearchResult.Refused why) = ⊥
+Explored g before after w′ (SearchResult.Complete n v) = WholeList g before after w′ n v
+Explored g before after w′ (SearchResult.Full n) = FirstEntries g before after w′ n
 
 -- the path with which the search begins
 pub record Begins (g : Setting) (label : ℕ) (w : List ℕ) (parameters : ℕ) (r : Registers) : Type 0 where
@@ -82,7 +82,7 @@ abbrev pub SomeBegins : List ℕ → List ℕ → List ℕ → List ℕ → ℕ 
 SomeBegins file types functions least label w limit base stack parameters r =
     (p : Program) × Begins (setting file types functions least p limit base stack) label w parameters r
 
-abbrev pub Explores : List ℕ → List ℕ → List ℕ → List ℕ → ℕ → List ℕ → List ℕ → ℕ → ℕ → ℕ → ℕ → Registers → List ℕ → List ℕ → Answer → Type 0
+abbrev pub Explores : List ℕ → List ℕ → List ℕ → List ℕ → ℕ → List ℕ → List ℕ → ℕ → ℕ → ℕ → ℕ → Registers → List ℕ → List ℕ → SearchResult → Type 0
 Explores file types functions least label w w′ limit base stack parameters r before after a =
     (p : Program) → Begins (setting file types functions least p limit base stack) label w parameters r
     → Explored (setting file types functions least p limit base stack) before after w′ a

@@ -1,5 +1,5 @@
 // The loop of a search: path after path while one is under way or a choice point is left, what each path lists written to the lent list, and the
-// verdict. Rests on crates moves, listing and verdicts.
+// verdict. Rests on crates moves, listing, verdicts and results.
 ghost use mathlib.Core.Path.{_≡_};
 ghost use Prim.Native.Nat.{_≤_};
 ghost use lib.ListN.{length};
@@ -11,18 +11,10 @@ use listing::Written;
 use listing::write_entry;
 use moves::make_moves;
 use reach::PathEnd;
-use reach::Refusal;
 use reach::Verdict;
 use registers::Registers;
+use results::SearchResult;
 use verdicts::verdict_after;
-
-// The answer: a refusal of 1 to 9, 11 or 15; the length of a complete list with its verdict; or, with refusal 12, the length of the list
-// that was cut short.
-pub enum Answer {
-    Refused(Refusal),
-    Complete(usize, Verdict),
-    Full(usize),
-}
 
 // Whether the search goes on: a path is under way, or there is a choice point.
 fn is_active(walk: Walk) -> bool
@@ -85,7 +77,7 @@ pub fn explore<'a>(
     parameters: usize,
     from: Registers,
     list: &mut [u8],
-) -> Answer
+) -> SearchResult
     requires { ⌜ SomeBegins (now file) (now types) (now functions) (least .of) label (now work) limit base stack parameters from ⌝ }
     requires { ⌜ Ends (now file) (now types) (now functions) (now ends) ⌝ }
     ensures { λ a. ⌜ Explores (now (file .entry)) (now (types .entry)) (now (functions .entry)) (least .of) label (now (work .entry)) (now (work .exit)) limit base stack parameters from (now (list .entry)) (now (list .exit)) a ⌝ }
@@ -121,11 +113,11 @@ pub fn explore<'a>(
             at,
         );
         let Written::Behind(behind) = written else {
-            return Answer::Full(at);
+            return SearchResult::Full(at);
         };
         at = behind;
         verdict = verdict_after(verdict, listing);
         walk = next;
     }
-    Answer::Complete(at, verdict)
+    SearchResult::Complete(at, verdict)
 }

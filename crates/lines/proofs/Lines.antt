@@ -10,7 +10,6 @@ use lib.ListN.{length, getD, drop, drop-of-length-le}
 use lib.Seq.{drop-cons}
 use lib.Dec.{eqb}
 use Rattle.reach.specs.declared.Refusal.{Refusal}
-use Rattle.reach.specs.declared.Refusal.the-variants as refusal
 use Rattle.reach.specs.declared.Counts.{Counts}
 use Rattle.reach.specs.declared.Verdict.{Verdict}
 use Rattle.reach.specs.declared.Verdict.the-variants.{Found, Undecided, None}
@@ -82,23 +81,6 @@ share-few a b = go (eqb (a + b) 0)
     go : (t : Bool) → pick t 0 (100 * b / (a + b)) ≤ 100 * b
     go true = omega arith
     go false = div-le-self (100 * b) (a + b)
-
-pub number-few : (why : Refusal) → numberOf why ≤ 15
-number-few refusal.Truncated = omega arith
-number-few refusal.UnexpectedMark = omega arith
-number-few refusal.OutOfRange = omega arith
-number-few refusal.UnknownNumber = omega arith
-number-few refusal.UnknownCode = omega arith
-number-few refusal.TypeMismatch = omega arith
-number-few refusal.TrailingBytes = omega arith
-number-few refusal.EmptyType = omega arith
-number-few refusal.DepthTooSmall = omega arith
-number-few refusal.BadInput = omega arith
-number-few refusal.WorkTooShort = omega arith
-number-few refusal.ListFull = omega arith
-number-few refusal.TextTooShort = omega arith
-number-few refusal.BadList = omega arith
-number-few refusal.BadSpelling = omega arith
 
 module _ {t u : List ℕ} {at r : ℕ} where
   pub number-end : (n : ℕ) → Puts t at (space ∷ decimal n) u r → r ≤ at + (n + 2)

@@ -11,16 +11,16 @@ use Rattle.reach.specs.Limits.{workWords}
 use Rattle.reach.specs.Syntax.{Program}
 use Rattle.reach.specs.Answers.{check, accepted, turnedBack}
 use Rattle.reach.proofs.Limits.{accepted-keeps}
-use Rattle.rulefile.specs.declared.Checked.the-variants as Checked
+use Rattle.results.specs.declared.CheckResult.the-variants as CheckResult
 use Rattle.rulefile.specs.declared.Loaded.{Loaded}
 use Rattle.rulefile.specs.Loading.{typePlaces, functionPlaces, Tabled, LoadsAs, Loads}
 use Rattle.rulefile.proofs.Tabled.{program-goal}
 
 -- what a loaded file says, by its answer
-pub loaded-accepted : (file : List ℕ) (r : Loaded) → Loads file r → r .answer ≡ Checked.Accepted → (p : Program) × (check file ≡ accepted p) × Tabled file r p
+pub loaded-accepted : (file : List ℕ) (r : Loaded) → Loads file r → r .answer ≡ CheckResult.Accepted → (p : Program) × (check file ≡ accepted p) × Tabled file r p
 loaded-accepted file r loads is = subst (LoadsAs file r) is loads
 
-pub loaded-refused : (file : List ℕ) (r : Loaded) {why : Refusal} → Loads file r → r .answer ≡ Checked.Refused why → check file ≡ turnedBack why
+pub loaded-refused : (file : List ℕ) (r : Loaded) {why : Refusal} → Loads file r → r .answer ≡ CheckResult.Refused why → check file ≡ turnedBack why
 loaded-refused file r loads is = subst (LoadsAs file r) is loads
 
 -- a part that is there is as long as it says
@@ -28,7 +28,7 @@ pub taken-length : (n : ℕ) (l : List ℕ) → n ≤ length l → length (take 
 taken-length n l fits = omega (arith, length-take n l)
 
 -- The tables and the goal of a file that was loaded and accepted.
-module _ (file : List ℕ) (r : Loaded) (loads : Loads file r) (is : r .answer ≡ Checked.Accepted) where
+module _ (file : List ℕ) (r : Loaded) (loads : Loads file r) (is : r .answer ≡ CheckResult.Accepted) where
   abbrev here : (p : Program) × (check file ≡ accepted p) × Tabled file r p
   here = loaded-accepted file r loads is
 

@@ -32,8 +32,8 @@ use Rattle.goal.specs.declared.Named.the-variants as Named
 use Rattle.goal.specs.Goals.{namedOf}
 use Rattle.lookups.specs.declared.Head.{Head}
 use Rattle.lookups.specs.Heads.{headOf, NearHead}
-use Rattle.rulefile.specs.declared.Checked.{Checked}
-use Rattle.rulefile.specs.declared.Checked.the-variants as Checked
+use Rattle.results.specs.declared.CheckResult.{CheckResult}
+use Rattle.results.specs.declared.CheckResult.the-variants as CheckResult
 use Rattle.rulefile.specs.declared.Loaded.{Loaded}
 use Rattle.rulefile.specs.Loading.{typePlaces, functionPlaces, Tabled, LoadsAs, Loads}
 use Rattle.rulefile.proofs.Tabled.{program-types, types-many, program-goal, program-named, program-source-types, program-least}
@@ -43,12 +43,12 @@ use Rattle.namelines.specs.Lists.{listNames, Fitted, Listed}
 use Rattle.namelines.proofs.Entries.{names-length, names-are}
 
 -- an accepted file is loaded as one
-pub answer-accepted : (file : List ℕ) (r : Loaded) {p : Program} → Loads file r → check file ≡ accepted p → r .answer ≡ Checked.Accepted
+pub answer-accepted : (file : List ℕ) (r : Loaded) {p : Program} → Loads file r → check file ≡ accepted p → r .answer ≡ CheckResult.Accepted
 answer-accepted file r {p} loads checked = by-answer (r .answer) loads
   where
-    by-answer : (a : Checked) → LoadsAs file r a → a ≡ Checked.Accepted
-    by-answer Checked.Accepted h = refl
-    by-answer (Checked.Refused why) h = absurd (clash (cc (h, checked)))
+    by-answer : (a : CheckResult) → LoadsAs file r a → a ≡ CheckResult.Accepted
+    by-answer CheckResult.Accepted h = refl
+    by-answer (CheckResult.Refused why) h = absurd (clash (cc (h, checked)))
 
 -- the array of least depths has a number
 pub table-there : (file : List ℕ) (r : Loaded) {p : Program} → Tabled file r p → 0 < length (r .least)

@@ -22,15 +22,15 @@ use Rattle.names.proofs.Demands as Names
 use Rattle.names.specs.NameList.{entryNames, refusalEnd, namesBy, namesText}
 use Rattle.writing.specs.Writing.{Fronts}
 use Rattle.printing.proofs.Lengths.{refusal-short}
-use Rattle.exploring.specs.declared.Answer.{Answer}
-use Rattle.exploring.specs.declared.Answer.the-variants as Answer
-use Rattle.search.specs.Answering.{answerOf, lengthIn}
+use Rattle.results.specs.declared.SearchResult.{SearchResult}
+use Rattle.results.specs.declared.SearchResult.the-variants as SearchResult
+use Rattle.results.specs.Results.{searchResult, listLengthIn}
 use Rattle.search.proofs.Called.{length-is, written-take, refused-is, complete-when, complete-lists, full-lists}
 use Rattle.namelines.specs.Lists as Lines
 use Rattle.namelines.proofs.Files.{lines-length}
 
 -- the text of a refusal other than 12
-pub refused-names : (file : List ℕ) (work list : ℕ) (why : Refusal) → Answer.Refused why ≡ answerOf (searchAnswer file work list) → refusalLine why ≡ namesText file work list
+pub refused-names : (file : List ℕ) (work list : ℕ) (why : Refusal) → SearchResult.Refused why ≡ searchResult (searchAnswer file work list) → refusalLine why ≡ namesText file work list
 refused-names file work list why is = sym (Names.refused-names file work list why (refused-is (searchAnswer file work list) why is))
 
 -- What is known of a list that was written, complete or cut short: the program, its length, and the line behind its names.
@@ -40,18 +40,18 @@ pub record Known (file : List ℕ) (work list n : ℕ) (full : Bool) : Type 0 wh
   pub long : n ≡ length (listBytes (listed (searchAnswer file work list)))
   pub ends : refusalEnd (refusalOf (searchAnswer file work list)) ≡ pick full (refusalLine ListFull) []
 
-pub known-complete : (file : List ℕ) (work list n : ℕ) (v : Verdict) → Answer.Complete n v ≡ answerOf (searchAnswer file work list) → Known file work list n false
+pub known-complete : (file : List ℕ) (work list n : ℕ) (v : Verdict) → SearchResult.Complete n v ≡ searchResult (searchAnswer file work list) → Known file work list n false
 unfolding refusalEnd refusalOf
 known-complete file work list n v is =
     let when = (complete-when file work list n v) .0 (sym is) in
     record {
       program = when .0;
       checked = when .1;
-      long = ap lengthIn is ∙ length-is (searchAnswer file work list);
+      long = ap listLengthIn is ∙ length-is (searchAnswer file work list);
       ends = rw (complete-lists file work list n v (sym is) .0) refl;
     }
 
-pub known-full : (file : List ℕ) (work list n : ℕ) → Answer.Full n ≡ answerOf (searchAnswer file work list) → Known file work list n true
+pub known-full : (file : List ℕ) (work list n : ℕ) → SearchResult.Full n ≡ searchResult (searchAnswer file work list) → Known file work list n true
 unfolding refusalEnd refusalOf
 known-full file work list n is = by-check (check file) refl
   where
@@ -59,7 +59,7 @@ known-full file work list n is = by-check (check file) refl
     by-check (accepted p) checked = record {
       program = p;
       checked = checked;
-      long = ap lengthIn is ∙ length-is (searchAnswer file work list);
+      long = ap listLengthIn is ∙ length-is (searchAnswer file work list);
       ends = rw (full-lists file work list n (sym is)) refl;
     }
     by-check (turnedBack by) checked = absurd (clash (cc (search-turned-back file work list by checked, full-lists file work list n (sym is))))

@@ -24,7 +24,8 @@ use Rattle.reach.proofs.Answers.{search-turned-back}
 use Rattle.reach.proofs.Stages.{size-refused}
 use Rattle.names.specs.NameList.{filled, namesIn, namesText}
 use Rattle.names.proofs.Demands as Names
-use Rattle.search.specs.Answering.{answerOf, lengthIn, ReadsAs}
+use Rattle.results.specs.Results.{searchResult, listLengthIn}
+use Rattle.search.specs.Answering.{ReadsAs}
 use Rattle.search.proofs.Demands as Search
 use Rattle.report.specs.Answers.{programInput}
 use Rattle.report.proofs.Program.{front-whole, front-behind, first-enough}
@@ -43,10 +44,10 @@ module _ (file work work′ list list′ page page′ : List ℕ) (r : ℕ) (cal
 
   -- the list that the call wrote, whose names the text has: the search's own, which stands at the front of its slice
   abbrev wrote : List ℕ
-  wrote = take (lengthIn (answerOf (searchAnswer file (length work) (length list)))) list′
+  wrote = take (listLengthIn (searchResult (searchAnswer file (length work) (length list)))) list′
 
   pub list-stands : wrote ≡ listBytes (listed (searchAnswer file (length work) (length list)))
-  list-stands = Search.list-stands file work work′ list list′ (answerOf (searchAnswer file (length work) (length list))) (call .leaves)
+  list-stands = Search.list-stands file work work′ list list′ (searchResult (searchAnswer file (length work) (length list))) (call .leaves)
 
   -- "A filled entry, its other parameters completed in any fitting way, behaves as its entry says": each entry that is read back from the bytes of that
   -- list, for each kind; and its names are closed values of the named type that fit the depth.
@@ -54,7 +55,7 @@ module _ (file work work′ list list′ page page′ : List ℕ) (r : ℕ) (cal
       → Each (λ (v : Parts). ValueOf (p .types) named v × (depth v ≤ depthOf (p .depths))) (namesIn named (sourceTypes p) (filled p named (e .input)))
       × ((j : Parts) → ClosedInput p j → Completes j (filled p named (e .input)) → run p j ≡ says (e .kind) (e .steps))
   names-true p checked named is k e reads =
-      let there = (Search.entry-reads file work work′ list list′ (answerOf (searchAnswer file (length work) (length list))) (call .leaves) p checked k e) .0 reads in
+      let there = (Search.entry-reads file work work′ list list′ (searchResult (searchAnswer file (length work) (length list))) (call .leaves) p checked k e) .0 reads in
       let m = nth-member (listed (searchAnswer file (length work) (length list))) k e there in (
         Names.names-filled file p checked (length work) (length list) named is e m,
         Names.filled-true file p checked (length work) (length list) named is e m,

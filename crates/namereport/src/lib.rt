@@ -4,9 +4,9 @@ ghost use Prim.Native.Nat.{_≤_};
 ghost use lib.ListN.{length};
 ghost use Rattle.report.specs.Answers.{programPage};
 ghost use Rattle.namereport.specs.Answers.{Promised, Prints};
-use exploring::Answer;
 use namelines::list_names;
 use printing::refusal_text;
+use results::SearchResult;
 
 // Searches a rule file in the lent words and list, writes the names of the entries that were listed to the front of a slice, with the line of a refusal behind
 // them if there is one, and answers with the text's length. A slice that is too short has as many bytes of the text as it holds: one with 4 times the bytes of
@@ -15,9 +15,9 @@ pub fn names<'a>(file: &'a [u8], work: &mut [u32], list: &mut [u8], text: &mut [
     ensures { λ r. ⌜ Promised (now (file .entry)) (now (work .entry)) (now (work .exit)) (now (list .entry)) (now (list .exit)) (now (text .entry)) (now (text .exit)) r ⌝ }
 {
     match search::search(file, work, list) {
-        Answer::Refused(why) => return refusal_text(why, text),
-        Answer::Complete(n, _) => return list_names(file, &list[..n], false, text),
-        Answer::Full(n) => return list_names(file, &list[..n], true, text),
+        SearchResult::Refused(why) => return refusal_text(why, text),
+        SearchResult::Complete(n, _) => return list_names(file, &list[..n], false, text),
+        SearchResult::Full(n) => return list_names(file, &list[..n], true, text),
     }
 }
 

@@ -1,5 +1,6 @@
 -- What is read off the number of an answer is what the answer says: of every answer, whatever file and slices it comes from.
--- Rests on specs/Packing and specs/Unpacking, and on entries' Demands (the part of an entry is as long as its span says).
+-- Rests on specs/Packing and specs/Unpacking, on reach's Words (the numbers of refusals), and on entries' Demands (the part of an entry is as long as its
+-- span says).
 use Prim.Native.Nat.{ℕ, _+_, _*_, _≤_, _<_}
 use native.Mathlib.Omega.{arith}
 use mathlib.Core.Path.{_≡_, refl, sym, ap, _∙_}
@@ -7,21 +8,22 @@ use mathlib.Core.List.{List, [], flatMap}
 use mathlib.Core.Option.{Option, none, some, Option·none-ne-some, Option·some-injective}
 use lib.ListN.{length, take, drop}
 use Rattle.reach.specs.declared.Refusal.{Refusal}
-use Rattle.reach.specs.declared.Refusal.the-variants.{Truncated, UnexpectedMark, OutOfRange, UnknownNumber, UnknownCode, TypeMismatch, TrailingBytes, EmptyType, DepthTooSmall, BadInput, WorkTooShort, ListFull, TextTooShort, BadList, BadSpelling}
+use Rattle.reach.specs.declared.Refusal.the-variants.{ListFull}
 use Rattle.reach.specs.declared.Outcome.{Outcome}
 use Rattle.reach.specs.declared.Outcome.the-variants.{Reached, Ended, Unfinished, Missing}
 use Rattle.reach.specs.declared.Verdict.{Verdict}
 use Rattle.reach.specs.declared.Verdict.the-variants.{Found, Undecided, None}
-use Rattle.reach.specs.Words.{numberOf, stepsOf}
+use Rattle.reach.specs.Words.{numberOf, refusalNamed, stepsOf}
 use Rattle.reach.specs.Limits.{listLimit}
 use Rattle.reach.specs.Search.{verdict}
 use Rattle.reach.specs.Lists.{listBytes, roomOf, onFound, entrySpan, entryPart}
 use Rattle.reach.specs.Answers.{Checked, accepted, turnedBack, SearchAnswer, noSearch, complete, cutShort, listed, refusalOf, verdictOf, RunAnswer, noRun, ran}
 use Rattle.reach.specs.Printouts.{TextAnswer, noText, ofLength}
+use Rattle.reach.proofs.Words.{refusal-named, number-byte}
 use Rattle.entries.specs.Spans.{partPlace}
 use Rattle.entries.proofs.Demands.{found-within}
-use Rattle.packing.specs.Packing.{verdictNumber, outcomeNumber, checkNumber, searchNumber, runNumber, textNumber, partNumber}
-use Rattle.packing.specs.Unpacking.{refusalBits, caseBits, countBits, stepBits, depthBits, placeBits, sizeBits, refusalNamed, verdictNamed, outcomeNamed, decodedCheck, checkRead, decodedSearch, searchRead, RunRead, decodedRun, runRead, TextRead, decodedText, textRead, decodedPart}
+use Rattle.packing.specs.Packing.{verdictNumber, outcomeNumber, checkNumber, searchNumber, runNumber, textNumber, spanNumber, partNumber}
+use Rattle.packing.specs.Unpacking.{refusalBits, caseBits, countBits, stepBits, depthBits, placeBits, sizeBits, verdictNamed, outcomeNamed, decodedCheck, checkRead, decodedSearch, searchRead, RunRead, decodedRun, runRead, TextRead, decodedText, textRead, decodedPart}
 
 -- The parts of a packed number are what was packed: each of the two lower ones fills a byte at most.
 pub record Parted (number low middle count : ℕ) : Type 0 where
@@ -33,24 +35,6 @@ parted : (number low middle count : ℕ) → low < 256 → middle < 256 → numb
 parted number low middle count l m is = record { low-is = omega arith; middle-is = omega arith; count-is = omega arith }
 
 -- The number of a case fits a byte, and names that case.
-
-refusal-named : (why : Refusal) → (numberOf why < 256) × (refusalNamed (numberOf why) ≡ some why)
-unfolding refusalNamed
-refusal-named Truncated = (omega arith, refl)
-refusal-named UnexpectedMark = (omega arith, refl)
-refusal-named OutOfRange = (omega arith, refl)
-refusal-named UnknownNumber = (omega arith, refl)
-refusal-named UnknownCode = (omega arith, refl)
-refusal-named TypeMismatch = (omega arith, refl)
-refusal-named TrailingBytes = (omega arith, refl)
-refusal-named EmptyType = (omega arith, refl)
-refusal-named DepthTooSmall = (omega arith, refl)
-refusal-named BadInput = (omega arith, refl)
-refusal-named WorkTooShort = (omega arith, refl)
-refusal-named ListFull = (omega arith, refl)
-refusal-named TextTooShort = (omega arith, refl)
-refusal-named BadList = (omega arith, refl)
-refusal-named BadSpelling = (omega arith, refl)
 
 verdict-named : (v : Verdict) → (verdictNumber v < 256) × (verdictNamed (verdictNumber v) ≡ some v)
 unfolding verdictNamed
@@ -73,7 +57,7 @@ none-named = (refl, refl, refl)
 -- The number of each answer, taken apart.
 
 pub refused-parted : (why : Refusal) → Parted (numberOf why) (numberOf why) 0 0
-refused-parted why = parted (numberOf why) (numberOf why) 0 0 (refusal-named why .0) (omega arith) (omega arith)
+refused-parted why = parted (numberOf why) (numberOf why) 0 0 (number-byte why) (omega arith) (omega arith)
 
 -- a run's number has its steps and its depth in place of the count: the steps fill 16 bits at most, and the depth 8
 abbrev pub Small : RunAnswer → Type 0
@@ -93,28 +77,28 @@ ran-parted o deep small =
 
 pub check-reads : (a : Checked) → decodedCheck (checkNumber a) ≡ checkRead a
 check-reads (accepted p) = none-named .0
-check-reads (turnedBack why) = rw (refused-parted why .low-is) (refusal-named why .1)
+check-reads (turnedBack why) = rw (refused-parted why .low-is) (refusal-named why)
 
 pub search-reads : (a : SearchAnswer) → decodedSearch (searchNumber a) ≡ searchRead a
 unfolding refusalOf verdictOf listed listBytes flatMap
 search-reads (noSearch why) =
     let z = refused-parted why in
-    rw (z .low-is, z .middle-is, z .count-is, refusal-named why .1, none-named .1)
+    rw (z .low-is, z .middle-is, z .count-is, refusal-named why, none-named .1)
 search-reads (complete es) =
     let v = verdict-named (verdict es) in
     let z = parted (searchNumber (complete es)) 0 (verdictNumber (verdict es)) (length (listBytes es)) (omega arith) (v .0) (omega arith) in
     rw (z .low-is, z .middle-is, z .count-is, none-named .0, v .1)
 search-reads (cutShort es) =
     let z = parted (searchNumber (cutShort es)) (numberOf ListFull) 0 (length (listBytes es)) (omega arith) (omega arith) (omega arith) in
-    rw (z .low-is, z .middle-is, z .count-is, refusal-named ListFull .1, none-named .1)
+    rw (z .low-is, z .middle-is, z .count-is, refusal-named ListFull, none-named .1)
 
 pub run-reads : (a : RunAnswer) → Small a → decodedRun (runNumber a) ≡ runRead a
 run-reads (noRun why) small =
     let z = refused-parted why in
-    let few = refusal-named why .0 in
+    let few = number-byte why in
     let steps : stepBits (numberOf why) ≡ 0 = omega arith in
     let deep : depthBits (numberOf why) ≡ 0 = omega arith in
-    rw (z .low-is, z .middle-is, steps, deep, refusal-named why .1, none-named .2)
+    rw (z .low-is, z .middle-is, steps, deep, refusal-named why, none-named .2)
 run-reads (ran o deep) small =
     let z = ran-parted o deep small in
     rw (z .low-is, z .middle-is, z .steps-are, z .depth-is, none-named .0, outcome-named o .1)
@@ -132,7 +116,7 @@ read-one (ran o d) (ran u e) is =
 pub text-reads : (a : TextAnswer) → decodedText (textNumber a) ≡ textRead a
 text-reads (noText why) =
     let z = refused-parted why in
-    rw (z .low-is, z .count-is, refusal-named why .1)
+    rw (z .low-is, z .count-is, refusal-named why)
 text-reads (ofLength n) =
     let z = parted (textNumber (ofLength n)) 0 0 n (omega arith) (omega arith) (omega arith) in
     rw (z .low-is, z .count-is, none-named .0)
@@ -148,7 +132,7 @@ module _ (l : List ℕ) (k : ℕ) where
   -- of the number for a span, and of the part of the list that it is
   abbrev Reads : Option (ℕ × ℕ) → Type 0
   Reads span =
-      decodedPart (onFound (roomOf (length l)) (λ s. s .0 + 4294967296 * s .1) span)
+      decodedPart (spanNumber (roomOf (length l)) span)
       ≡ (onFound (roomOf (length l)) (λ s. s .0) span, length (onFound [] (λ s. take (s .1) (drop (s .0) l)) span))
 
   counted : roomOf (length l) ≤ listLimit

@@ -5,6 +5,7 @@
 use Prim.Native.Nat.{ℕ, _+_, _*_, _≤_}
 use mathlib.Core.Path.{_≡_}
 use mathlib.Core.List.{List}
+use mathlib.Core.Option.{Option}
 use lib.ListN.{length, take, drop}
 use Rattle.reach.specs.declared.Refusal.the-variants.{ListFull}
 use Rattle.reach.specs.declared.Outcome.{Outcome}
@@ -52,9 +53,21 @@ abbrev pub textNumber : TextAnswer → ℕ
 textNumber (noText why) = numberOf why
 textNumber (ofLength n) = 65536 * n
 
--- the entry of a given number: its place and its size; where there is none, the list's end and no byte
+-- the span of an entry, in a list whose bytes that count end here: its place and its size; where there is none, that end and no byte
+abbrev pub spanNumber : ℕ → Option (ℕ × ℕ) → ℕ
+spanNumber end found = onFound end (λ span. span .0 + 4294967296 * span .1) found
+
+-- the place behind it
+abbrev pub spanEnd : Option (ℕ × ℕ) → ℕ
+spanEnd found = onFound 0 (λ span. span .0 + span .1) found
+
+-- the entry of a given number
 unfoldable pub partNumber : List ℕ → ℕ → ℕ
-partNumber list k = onFound (roomOf (length list)) (λ span. span .0 + 4294967296 * span .1) (entrySpan (take listLimit list) k 0)
+partNumber list k = spanNumber (roomOf (length list)) (entrySpan (take listLimit list) k 0)
+
+-- r is the number of every answer that a call shows by this result
+abbrev pub Numbers : {A R : Type 0} → (A → R) → (A → ℕ) → R → ℕ → Type 0
+Numbers {A} shown number result r = (a : A) → result ≡ shown a → r ≡ number a
 
 -- What the number for an entry says: its place and its size are read off it, and the bytes there are the entry's part of the list.
 pub record PartAt (list : List ℕ) (k r : ℕ) : Type 0 where

@@ -1,16 +1,16 @@
 -- What a caller in C reads off the number that a call answered with: the parts of an answer, as the functions at the end of include/remburai.h take
 -- them, and the cases that their numbers name there. And what the definition's answer says, for the theorems that the two are the same.
--- Rests on reach's enums, Answers, Lists and Printouts.
+-- Rests on reach's enums, Words, Answers, Lists and Printouts.
 use Prim.Native.Nat.{ℕ, _/_, _%_}
 use mathlib.Core.List.{[], _∷_}
 use mathlib.Core.Option.{Option, none, some}
 use lib.ListN.{length, getD}
 use Rattle.reach.specs.declared.Refusal.{Refusal}
-use Rattle.reach.specs.declared.Refusal.the-variants.{Truncated, UnexpectedMark, OutOfRange, UnknownNumber, UnknownCode, TypeMismatch, TrailingBytes, EmptyType, DepthTooSmall, BadInput, WorkTooShort, ListFull, TextTooShort, BadList, BadSpelling}
 use Rattle.reach.specs.declared.Outcome.{Outcome}
 use Rattle.reach.specs.declared.Outcome.the-variants.{Reached, Ended, Unfinished, Missing}
 use Rattle.reach.specs.declared.Verdict.{Verdict}
 use Rattle.reach.specs.declared.Verdict.the-variants.{Found, Undecided, None}
+use Rattle.reach.specs.Words.{refusalNamed}
 use Rattle.reach.specs.Lists.{listBytes}
 use Rattle.reach.specs.Answers.{Checked, accepted, turnedBack, SearchAnswer, listed, refusalOf, verdictOf, RunAnswer, noRun, ran}
 use Rattle.reach.specs.Printouts.{TextAnswer, noText, ofLength}
@@ -45,14 +45,7 @@ placeBits number = number % 4294967296
 abbrev pub sizeBits : ℕ → ℕ
 sizeBits number = number / 4294967296
 
--- The cases that the numbers name. 0 is none, and so is a number that no case has.
-
-unfoldable pub refusalNamed : ℕ → Option Refusal
-refusalNamed n =
-    getD
-    (none ∷ some Truncated ∷ some UnexpectedMark ∷ some OutOfRange ∷ some UnknownNumber ∷ some UnknownCode ∷ some TypeMismatch ∷ some TrailingBytes ∷ some EmptyType ∷ some DepthTooSmall ∷ some BadInput ∷ some WorkTooShort ∷ some ListFull ∷ some TextTooShort ∷ some BadList ∷ some BadSpelling ∷ [])
-    n
-    none
+-- The cases that the numbers name, as `refusalNamed` of reach's Words does for refusals. 0 is none, and so is a number that no case has.
 
 unfoldable pub verdictNamed : ℕ → Option Verdict
 verdictNamed n = getD (none ∷ some Found ∷ some Undecided ∷ some None ∷ []) n none

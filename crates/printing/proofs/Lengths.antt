@@ -24,7 +24,8 @@ use Rattle.reach.specs.Search.{oneMore, countFrom, counts, verdictBy}
 use Rattle.reach.specs.Text.{spaced, lineFrom, decimal, kindWord, partWord, lineSaying, share, totalLine, refusalLine, lastLine, textOf, listText}
 use Rattle.reach.proofs.ReadBack.{size-inside}
 use Rattle.writing.proofs.Digits.{digits-three, digits-five, digits-eight}
-use Rattle.lines.proofs.Lines.{kind-few, verdict-few, number-few}
+use Rattle.reach.proofs.Words.{number-byte}
+use Rattle.lines.proofs.Lines.{kind-few, verdict-few}
 use Rattle.lines.specs.Counting.{Few}
 use Rattle.printing.proofs.Walk.{size-least, few-more}
 
@@ -147,7 +148,7 @@ refusal-short why =
       line-length (0x72 ∷ 0x65 ∷ 0x66 ∷ 0x75 ∷ 0x73 ∷ 0x65 ∷ 0x64 ∷ []) (decimal (numberOf why) ∷ []),
       spaced-more (decimal (numberOf why)) [],
       spaced-none,
-      digits-three (numberOf why) (omega (arith, number-few why)),
+      digits-three (numberOf why) (omega (arith, number-byte why)),
     )
 
 total-short : (c : Counts) → Few c 16777216 → length (totalLine c) ≤ 64

@@ -5,9 +5,9 @@
 ghost use Prim.Native.Nat.{_≤_};
 use libc::STDIN_FILENO;
 use libc::STDOUT_FILENO;
-use printout::Answer;
 use printout::text_length;
 use printout::write_text;
+use results::TextResult;
 
 // The bytes of the longest text slice that a case may ask for.
 const ROOM: usize = 262400;
@@ -36,14 +36,14 @@ fn print_list(list: &[u8], full: bool) {
 }
 
 // Prints what a call answered.
-fn print_answer(call: &[u8], answer: Answer) {
+fn print_answer(call: &[u8], answer: TextResult) {
     io::write_all(STDOUT_FILENO, call);
     match answer {
-        Answer::Refused(why) => {
+        TextResult::Refused(why) => {
             io::write_all(STDOUT_FILENO, b" refused ");
             io::print_decimal(STDOUT_FILENO, refusals::number(why));
         }
-        Answer::Length(n) => {
+        TextResult::Length(n) => {
             io::write_all(STDOUT_FILENO, b" ");
             io::print_decimal(STDOUT_FILENO, n as u64);
         }

@@ -22,17 +22,18 @@ use Rattle.reach.specs.Printouts.{Printout, noPrintout, printout, printoutCheck
 use Rattle.reach.proofs.Base.{clash}
 use Rattle.reach.proofs.Handed.{handed-exactly, handed-text}
 use Rattle.reach.proofs.Printouts.{printout-bytes}
-use Rattle.rulefile.specs.declared.Checked.{Checked}
-use Rattle.rulefile.specs.declared.Checked.the-variants as Checked
+use Rattle.results.specs.declared.CheckResult.{CheckResult}
+use Rattle.results.specs.declared.CheckResult.the-variants as CheckResult
 use Rattle.rulefile.specs.declared.Loaded.{Loaded}
 use Rattle.rulefile.specs.Loading.{typePlaces, functionPlaces, Tabled, Loads}
 use Rattle.rulefile.proofs.Tabled.{program-types, program-goal, program-source-types, program-least}
 use Rattle.loaded.proofs.Loaded.{loaded-accepted, loaded-refused}
 use Rattle.handed.specs.Fits.{Given, FitsList}
 use Rattle.writing.specs.Writing.{fronted, Fronts}
-use Rattle.printout.specs.declared.Answer.{Answer}
-use Rattle.printout.specs.declared.Answer.the-variants as Answer
-use Rattle.printout.specs.Answering.{judgedOf, Judges, answerOf, Measures, Writes}
+use Rattle.results.specs.declared.TextResult.{TextResult}
+use Rattle.results.specs.declared.TextResult.the-variants as TextResult
+use Rattle.results.specs.Results.{textResult}
+use Rattle.printout.specs.Answering.{judgedOf, Judges, Measures, Writes}
 
 -- the tables of a loaded file are what the reading of a list asks for
 given : {file : List ℕ} {r : Loaded} {p : Program} → Answers.check file ≡ Answers.accepted p → Tabled file r p
@@ -47,43 +48,43 @@ given checked t = record {
 }
 
 -- the file is refused
-pub judge-refused : (file list : List ℕ) (r : Loaded) {why : Refusal} → Loads file r → r .answer ≡ Checked.Refused why → Judges file list (Checked.Refused why)
+pub judge-refused : (file list : List ℕ) (r : Loaded) {why : Refusal} → Loads file r → r .answer ≡ CheckResult.Refused why → Judges file list (CheckResult.Refused why)
 judge-refused file list r loads is = record { answer-is = sym (ap (judgedOf list) (loaded-refused file r loads is)) }
 
 -- the file is accepted, and the list was read
-module _ (file list : List ℕ) (r : Loaded) (loads : Loads file r) (is : r .answer ≡ Checked.Accepted) where
+module _ (file list : List ℕ) (r : Loaded) (loads : Loads file r) (is : r .answer ≡ CheckResult.Accepted) where
   abbrev Told : Bool → Type 0
   Told = FitsList file (typePlaces r) (functionPlaces r) (r .least) (r .goal .source) (r .goal .depths) (r .goal .steps) list
 
   judge-by : (b : Bool) (o : Option (List Entry)) → b ≡ onFound false (λ es. true) o
-      → pick b Checked.Accepted (Checked.Refused BadList) ≡ onFound (Checked.Refused BadList) (λ es. Checked.Accepted) o
+      → pick b CheckResult.Accepted (CheckResult.Refused BadList) ≡ onFound (CheckResult.Refused BadList) (λ es. CheckResult.Accepted) o
   judge-by b none same = rw same refl
   judge-by b (some es) same = rw same refl
 
-  judged : (b : Bool) → Told b → Judges file list (pick b Checked.Accepted (Checked.Refused BadList))
+  judged : (b : Bool) → Told b → Judges file list (pick b CheckResult.Accepted (CheckResult.Refused BadList))
   judged b told =
       let (p, checked, t) = loaded-accepted file r loads is in
       record { answer-is = judge-by b (handed p list) (told p (given checked t)) ∙ sym (ap (judgedOf list) checked) }
 
-  pub judge-fits : {b : Bool} → Told b → b ≡ true → Judges file list Checked.Accepted
+  pub judge-fits : {b : Bool} → Told b → b ≡ true → Judges file list CheckResult.Accepted
   judge-fits {b} told fits = judged true (subst Told fits told)
 
-  pub judge-bad : {b : Bool} → Told b → b ≡ false → Judges file list (Checked.Refused BadList)
+  pub judge-bad : {b : Bool} → Told b → b ≡ false → Judges file list (CheckResult.Refused BadList)
   judge-bad {b} told bad = judged false (subst Told bad told)
 
 -- Of a list of bytes.
 module _ (file list : List ℕ) (bytes : (i : ℕ) → getD list i 0 < 256) (full : Bool) where
   -- what is printed, by what stands against the list
-  abbrev printedBy : Checked → Printout
-  printedBy Checked.Accepted = printout (listText full list)
-  printedBy (Checked.Refused why) = noPrintout why
+  abbrev printedBy : CheckResult → Printout
+  printedBy CheckResult.Accepted = printout (listText full list)
+  printedBy (CheckResult.Refused why) = noPrintout why
 
-  printed-judged : (r : Checked) → Judges file list r → printoutOf file list full ≡ printedBy r
+  printed-judged : (r : CheckResult) → Judges file list r → printoutOf file list full ≡ printedBy r
   unfolding printoutOf printoutChecked
   printed-judged r judges = checked (Answers.check file) refl ∙ ap printedBy (sym (judges .answer-is))
     where
       read : (p : Program) → Answers.check file ≡ Answers.accepted p → (o : Option (List Entry)) → handed p list ≡ o
-          → onFound (noPrintout BadList) (λ es. printout (textOf full (map sayingOf es))) o ≡ printedBy (onFound (Checked.Refused BadList) (λ es. Checked.Accepted) o)
+          → onFound (noPrintout BadList) (λ es. printout (textOf full (map sayingOf es))) o ≡ printedBy (onFound (CheckResult.Refused BadList) (λ es. CheckResult.Accepted) o)
       read p accepts none e = refl
       read p accepts (some es) e = ap printout (sym (handed-text file p accepts full list es ((handed-exactly file p accepts list bytes es) .0 e)))
 
@@ -91,20 +92,20 @@ module _ (file list : List ℕ) (bytes : (i : ℕ) → getD list i 0 < 256) (ful
       checked (Answers.turnedBack why) e = refl
       checked (Answers.accepted p) e = read p e (handed p list) refl
 
-  pub measures-refused : (why : Refusal) → Judges file list (Checked.Refused why) → Measures file list full (Answer.Refused why)
+  pub measures-refused : (why : Refusal) → Judges file list (CheckResult.Refused why) → Measures file list full (TextResult.Refused why)
   unfolding lengthAnswer
-  measures-refused why judges = record { answer-is = rw (printed-judged (Checked.Refused why) judges) refl }
+  measures-refused why judges = record { answer-is = rw (printed-judged (CheckResult.Refused why) judges) refl }
 
-  pub measures-length : (n : ℕ) → Judges file list Checked.Accepted → n ≡ length (listText full list) → Measures file list full (Answer.Length n)
+  pub measures-length : (n : ℕ) → Judges file list CheckResult.Accepted → n ≡ length (listText full list) → Measures file list full (TextResult.Length n)
   unfolding lengthAnswer
-  measures-length n judges is = record { answer-is = rw (printed-judged Checked.Accepted judges) (ap Answer.Length is) }
+  measures-length n judges is = record { answer-is = rw (printed-judged CheckResult.Accepted judges) (ap TextResult.Length is) }
 
   -- the text of which the length was given
-  measured-text : (n : ℕ) → Measures file list full (Answer.Length n) → (printoutOf file list full ≡ printout (listText full list)) × (n ≡ length (listText full list))
+  measured-text : (n : ℕ) → Measures file list full (TextResult.Length n) → (printoutOf file list full ≡ printout (listText full list)) × (n ≡ length (listText full list))
   unfolding lengthAnswer
   measured-text n measures = by-printout (printoutOf file list full) refl (measures .answer-is)
     where
-      by-printout : (x : Printout) → printoutOf file list full ≡ x → Answer.Length n ≡ answerOf (lengthAnswer x)
+      by-printout : (x : Printout) → printoutOf file list full ≡ x → TextResult.Length n ≡ textResult (lengthAnswer x)
           → (printoutOf file list full ≡ printout (listText full list)) × (n ≡ length (listText full list))
       by-printout (noPrintout why) e is = absurd (clash (cc))
       by-printout (printout t) e is =
@@ -113,29 +114,29 @@ module _ (file list : List ℕ) (bytes : (i : ℕ) → getD list i 0 < 256) (ful
 
   -- the writer, with a slice that held these bytes
   module _ (text : List ℕ) where
-    pub writes-refused : (why : Refusal) → Measures file list full (Answer.Refused why) → Writes file list full text text (Answer.Refused why)
+    pub writes-refused : (why : Refusal) → Measures file list full (TextResult.Refused why) → Writes file list full text text (TextResult.Refused why)
     unfolding lengthAnswer writeAnswer textSlice
     writes-refused why measures = by-printout (printoutOf file list full) refl (measures .answer-is)
       where
-        by-printout : (x : Printout) → printoutOf file list full ≡ x → Answer.Refused why ≡ answerOf (lengthAnswer x) → Writes file list full text text (Answer.Refused why)
+        by-printout : (x : Printout) → printoutOf file list full ≡ x → TextResult.Refused why ≡ textResult (lengthAnswer x) → Writes file list full text text (TextResult.Refused why)
         by-printout (noPrintout by) e is = record { answer-is = rw e is; text-is = rw e refl }
         by-printout (printout t) e is = absurd (clash (cc))
 
-    pub writes-short : (n : ℕ) → Measures file list full (Answer.Length n) → length text < n → Writes file list full text text (Answer.Refused TextTooShort)
+    pub writes-short : (n : ℕ) → Measures file list full (TextResult.Length n) → length text < n → Writes file list full text text (TextResult.Refused TextTooShort)
     unfolding writeAnswer textSlice
     writes-short n measures short =
         let (is, long) = measured-text n measures in
         let test = lt-leb (length (listText full list)) (length text) (omega (arith, long)) in
         record { answer-is = rw (is, test) refl; text-is = rw (is, test) refl }
 
-    pub writes-text : (n m : ℕ) (text′ : List ℕ) → Measures file list full (Answer.Length n) → n ≤ length text → Fronts text (listText full list) text′ m
-        → Writes file list full text text′ (Answer.Length m)
+    pub writes-text : (n m : ℕ) (text′ : List ℕ) → Measures file list full (TextResult.Length n) → n ≤ length text → Fronts text (listText full list) text′ m
+        → Writes file list full text text′ (TextResult.Length m)
     unfolding writeAnswer textSlice fronted
     writes-text n m text′ measures room wrote =
         let (is, long) = measured-text n measures in
         let fits : length (listText full list) ≤ length text = omega (arith, long) in
         let test = le-leb (length (listText full list)) (length text) fits in
         record {
-          answer-is = rw (is, test) (ap Answer.Length (wrote .size));
+          answer-is = rw (is, test) (ap TextResult.Length (wrote .size));
           text-is = rw (is, test) (wrote .bytes ∙ ap (λ (x : List ℕ). x ++ drop (length (listText full list)) text) (take-all (length text) (listText full list) fits));
         }

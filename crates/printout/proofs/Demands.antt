@@ -24,18 +24,19 @@ use Rattle.reach.specs.Printouts.{wasCut, Printout, printout, printoutOf, TextA
 use Rattle.reach.proofs.Base.{clash}
 use Rattle.reach.proofs.Printouts.{refused-exactly, printed-exactly, printout-bytes, length-refuses, length-measures, write-refuses, write-measures, slice-text, slice-kept, text-counts, printout-searched}
 use Rattle.printing.proofs.Lengths.{text-short}
-use Rattle.printout.specs.declared.Answer.{Answer}
-use Rattle.printout.specs.declared.Answer.the-variants as Answer
-use Rattle.printout.specs.Answering.{answerOf, Measures, Writes}
+use Rattle.results.specs.declared.TextResult.{TextResult}
+use Rattle.results.specs.declared.TextResult.the-variants as TextResult
+use Rattle.results.specs.Results.{textResult}
+use Rattle.printout.specs.Answering.{Measures, Writes}
 
 -- what the enum shows is what the definition answers
-shows-refused : (a : TextAnswer) (why : Refusal) → (answerOf a ≡ Answer.Refused why) ↔ (a ≡ noText why)
-shows-refused (noText by) why = (λ e. let same : by ≡ why = cc in ap noText same, λ e. ap answerOf e)
-shows-refused (ofLength n) why = (λ e. absurd (clash (cc)), λ e. ap answerOf e)
+shows-refused : (a : TextAnswer) (why : Refusal) → (textResult a ≡ TextResult.Refused why) ↔ (a ≡ noText why)
+shows-refused (noText by) why = (λ e. let same : by ≡ why = cc in ap noText same, λ e. ap textResult e)
+shows-refused (ofLength n) why = (λ e. absurd (clash (cc)), λ e. ap textResult e)
 
-shows-length : (a : TextAnswer) (n : ℕ) → (answerOf a ≡ Answer.Length n) ↔ (a ≡ ofLength n)
-shows-length (noText by) n = (λ e. absurd (clash (cc)), λ e. ap answerOf e)
-shows-length (ofLength m) n = (λ e. let same : m ≡ n = cc in ap ofLength same, λ e. ap answerOf e)
+shows-length : (a : TextAnswer) (n : ℕ) → (textResult a ≡ TextResult.Length n) ↔ (a ≡ ofLength n)
+shows-length (noText by) n = (λ e. absurd (clash (cc)), λ e. ap textResult e)
+shows-length (ofLength m) n = (λ e. let same : m ≡ n = cc in ap ofLength same, λ e. ap textResult e)
 
 -- Of a list of bytes.
 module _ (file list : List ℕ) (bytes : (i : ℕ) → getD list i 0 < 256) (full : Bool) where
@@ -44,18 +45,18 @@ module _ (file list : List ℕ) (bytes : (i : ℕ) → getD list i 0 < 256) (ful
   shown = printoutOf file list full
 
   -- the call of the length answers so
-  refusing : (why : Refusal) → Measures file list full (Answer.Refused why) ↔ (lengthAnswer shown ≡ noText why)
-  refusing why = (λ m. (shows-refused (lengthAnswer shown) why) .0 (sym (m .answer-is)), λ e. record { answer-is = sym (ap answerOf e) })
+  refusing : (why : Refusal) → Measures file list full (TextResult.Refused why) ↔ (lengthAnswer shown ≡ noText why)
+  refusing why = (λ m. (shows-refused (lengthAnswer shown) why) .0 (sym (m .answer-is)), λ e. record { answer-is = sym (ap textResult e) })
 
-  measuring : (n : ℕ) → Measures file list full (Answer.Length n) ↔ (lengthAnswer shown ≡ ofLength n)
-  measuring n = (λ m. (shows-length (lengthAnswer shown) n) .0 (sym (m .answer-is)), λ e. record { answer-is = sym (ap answerOf e) })
+  measuring : (n : ℕ) → Measures file list full (TextResult.Length n) ↔ (lengthAnswer shown ≡ ofLength n)
+  measuring n = (λ m. (shows-length (lengthAnswer shown) n) .0 (sym (m .answer-is)), λ e. record { answer-is = sym (ap textResult e) })
 
   -- The length: "the exact length of that text in bytes from the list without writing it".
-  module _ (r : Answer) (call : Measures file list full r) where
+  module _ (r : TextResult) (call : Measures file list full r) where
     -- "14 scrap: the list has more than 16,777,216 bytes or is not whole entries of known kinds, with parameters of the rule file's types and depths [..] and
     -- at most S steps, tested [..] after the rule file's 1 to 9", and 15. No other number is given.
     pub length-refused : (why : Refusal)
-        → (r ≡ Answer.Refused why)
+        → (r ≡ TextResult.Refused why)
         ↔ ((OfFile why × (check file ≡ turnedBack why))
         ⊎ ((why ≡ BadList) × ((p : Program) × (check file ≡ accepted p) × ((es : List Entry) → ¬ IsList p list es))))
     length-refused why =
@@ -65,7 +66,7 @@ module _ (file list : List ℕ) (bytes : (i : ℕ) → getD list i 0 < 256) (ful
         (λ e. exact .0 (told .0 ((shows-refused (lengthAnswer shown) why) .0 e)), λ h. (shows-refused (lengthAnswer shown) why) .1 (told .1 (exact .1 h)))
 
     pub length-exact : (n : ℕ)
-        → (r ≡ Answer.Length n)
+        → (r ≡ TextResult.Length n)
         ↔ ((p : Program) × (es : List Entry) × (check file ≡ accepted p) × IsList p list es × (n ≡ length (textOf full (map sayingOf es))))
     length-exact n =
         let told = length-measures shown n in
@@ -80,17 +81,17 @@ module _ (file list : List ℕ) (bytes : (i : ℕ) → getD list i 0 < 256) (ful
         )
 
     -- a caller may reserve by the list alone: a text has at most four times its list's bytes, and 64 more
-    pub length-most : (n : ℕ) → r ≡ Answer.Length n → n ≤ 4 * length list + 64
+    pub length-most : (n : ℕ) → r ≡ TextResult.Length n → n ≤ 4 * length list + 64
     length-most n is =
         let (t, prints, size) = (length-measures shown n) .0 ((shows-length (lengthAnswer shown) n) .0 (sym (call .answer-is) ∙ is)) in
         omega (arith, size, ap length (printout-bytes file list bytes full t prints), text-short full list bytes)
 
   -- The writer: "a writer of the printed text into a lent slice".
-  module _ (before after : List ℕ) (r : Answer) (call : Writes file list full before after r) where
+  module _ (before after : List ℕ) (r : TextResult) (call : Writes file list full before after r) where
     -- "13 page: the text slice is shorter than that length"; 14 is "tested before 13". The length is the one that the other call gives.
     pub write-refused : (why : Refusal)
-        → (r ≡ Answer.Refused why)
-        ↔ (Measures file list full (Answer.Refused why) ⊎ ((why ≡ TextTooShort) × ((n : ℕ) × Measures file list full (Answer.Length n) × (length before < n))))
+        → (r ≡ TextResult.Refused why)
+        ↔ (Measures file list full (TextResult.Refused why) ⊎ ((why ≡ TextTooShort) × ((n : ℕ) × Measures file list full (TextResult.Length n) × (length before < n))))
     write-refused why =
         let shows = shows-refused (writeAnswer (length before) shown) why in
         let told = write-refuses shown (length before) why in
@@ -100,7 +101,7 @@ module _ (file list : List ℕ) (bytes : (i : ℕ) → getD list i 0 < 256) (ful
         )
 
     -- the two calls agree
-    pub write-exact : (n : ℕ) → (r ≡ Answer.Length n) ↔ (Measures file list full (Answer.Length n) × (n ≤ length before))
+    pub write-exact : (n : ℕ) → (r ≡ TextResult.Length n) ↔ (Measures file list full (TextResult.Length n) × (n ≤ length before))
     write-exact n =
         let shows = shows-length (writeAnswer (length before) shown) n in
         let told = write-measures shown (length before) n in
@@ -111,7 +112,7 @@ module _ (file list : List ℕ) (bytes : (i : ℕ) → getD list i 0 < 256) (ful
 
     -- The text stands at the slice's front, and behind it the slice is as before. Its lines are those of the entries that the list is, and "Counts and verdict
     -- in the text are those of the list handed in"; where the search ended in 12, "the text then closes with the refusal line".
-    pub text-stands : (n : ℕ) → r ≡ Answer.Length n
+    pub text-stands : (n : ℕ) → r ≡ TextResult.Length n
         → ((p : Program) × (es : List Entry) × (check file ≡ accepted p) × IsList p list es
         × (take n after ≡ flatMap lineSaying (map sayingOf es) ++ lastLine full (counts (kindsOf es))))
         × (drop n after ≡ drop n before) × (length after ≡ length before)
@@ -124,7 +125,7 @@ module _ (file list : List ℕ) (bytes : (i : ℕ) → getD list i 0 < 256) (ful
         rw stands ((p, es, checked, holds, slice .0 ∙ same ∙ text-counts full es), slice .1, slice .2)
 
     -- "Both leave the slice untouched", and so does a refusal of the file: "tested before a byte is written"
-    pub refused-unchanged : (why : Refusal) → r ≡ Answer.Refused why → after ≡ before
+    pub refused-unchanged : (why : Refusal) → r ≡ TextResult.Refused why → after ≡ before
     refused-unchanged why is =
         call .text-is ∙ slice-kept before shown why ((shows-refused (writeAnswer (length before) shown) why) .0 (sym (call .answer-is) ∙ is))
 
@@ -138,14 +139,14 @@ module _ (file : List ℕ) (work room : ℕ) (p : Program) (checked : check file
   measured : lengthAnswer (printoutOf file (listBytes (listed a)) (wasCut a)) ≡ ofLength (length (text a))
   measured = (length-measures (printoutOf file (listBytes (listed a)) (wasCut a)) (length (text a))) .1 (text a, prints, refl)
 
-  pub searched-length : (r : Answer) → Measures file (listBytes (listed a)) (wasCut a) r → r ≡ Answer.Length (length (text a))
-  searched-length r call = call .answer-is ∙ ap answerOf measured
+  pub searched-length : (r : TextResult) → Measures file (listBytes (listed a)) (wasCut a) r → r ≡ TextResult.Length (length (text a))
+  searched-length r call = call .answer-is ∙ ap textResult measured
 
-  pub searched-text : (before after : List ℕ) (r : Answer) → Writes file (listBytes (listed a)) (wasCut a) before after r → length (text a) ≤ length before
-      → (r ≡ Answer.Length (length (text a))) × (take (length (text a)) after ≡ text a)
+  pub searched-text : (before after : List ℕ) (r : TextResult) → Writes file (listBytes (listed a)) (wasCut a) before after r → length (text a) ≤ length before
+      → (r ≡ TextResult.Length (length (text a))) × (take (length (text a)) after ≡ text a)
   searched-text before after r call l =
       let slice = slice-text before (text a) (length (text a)) refl l in
       let stands : after ≡ textSlice before (printout (text a)) = call .text-is ∙ ap (textSlice before) prints in (
-        call .answer-is ∙ ap answerOf ((write-measures (printoutOf file (listBytes (listed a)) (wasCut a)) (length before) (length (text a))) .1 (measured, l)),
+        call .answer-is ∙ ap textResult ((write-measures (printoutOf file (listBytes (listed a)) (wasCut a)) (length before) (length (text a))) .1 (measured, l)),
         rw stands (slice .0),
       )

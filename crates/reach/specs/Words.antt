@@ -2,15 +2,42 @@
 -- 02 for the refusals from 13 on.
 -- Rests on the enums.
 use Prim.Native.Nat.{ℕ, _≤_}
+use Prim.Native.String.{String}
 use mathlib.Core.Path.{_≡_}
 use mathlib.Core.Logic.{_⊎_}
-use mathlib.Core.List.{List, [], _∷_}
+use mathlib.Core.List.{List, [], _∷_, map}
+use mathlib.Core.Option.{Option, none, some}
+use lib.ListN.{getD}
 use Rattle.reach.specs.declared.Refusal.{Refusal}
 use Rattle.reach.specs.declared.Refusal.the-variants.{Truncated, UnexpectedMark, OutOfRange, UnknownNumber, UnknownCode, TypeMismatch, TrailingBytes, EmptyType, DepthTooSmall, BadInput, WorkTooShort, ListFull, TextTooShort, BadList, BadSpelling}
 use Rattle.reach.specs.declared.Outcome.{Outcome}
 use Rattle.reach.specs.declared.Outcome.the-variants.{Reached, Ended, Unfinished, Missing}
 use Rattle.reach.specs.declared.Verdict.{Verdict}
 use Rattle.reach.specs.declared.Verdict.the-variants.{Found, Undecided, None}
+
+-- All refusals in the order of their numbers, from 1 on, each with the papers' word.
+unfoldable pub allRefusals : List (Refusal × String)
+allRefusals =
+    (Truncated, "short")
+    ∷ (UnexpectedMark, "mark")
+    ∷ (OutOfRange, "range")
+    ∷ (UnknownNumber, "stranger")
+    ∷ (UnknownCode, "code")
+    ∷ (TypeMismatch, "misfit")
+    ∷ (TrailingBytes, "tail")
+    ∷ (EmptyType, "hollow")
+    ∷ (DepthTooSmall, "shallow")
+    ∷ (BadInput, "input")
+    ∷ (WorkTooShort, "bench")
+    ∷ (ListFull, "full")
+    ∷ (TextTooShort, "page")
+    ∷ (BadList, "scrap")
+    ∷ (BadSpelling, "spelling")
+    ∷ []
+
+-- the refusal that a number names in the table; 0 names none, and so does a number that no refusal has
+unfoldable pub refusalNamed : ℕ → Option Refusal
+refusalNamed n = getD (none ∷ map (λ row. some (row .0)) allRefusals) n none
 
 -- the number that the table gives a refusal
 abbrev pub numberOf : Refusal → ℕ

@@ -15,7 +15,7 @@ use lib.ListN.{length, getD, take}
 use lib.Dec.{eqb}
 use Rattle.reach.specs.declared.Refusal.{Refusal}
 use Rattle.reach.specs.declared.Refusal.the-variants.{WorkTooShort, ListFull}
-use Rattle.reach.specs.Words.{numberOf, OfFile, stepsOf}
+use Rattle.reach.specs.Words.{allRefusals, refusalNamed, numberOf, OfFile, stepsOf}
 use Rattle.reach.specs.Syntax.{Program}
 use Rattle.reach.specs.Limits.{workWords, listLimit, stepLimit, depthLimit}
 use Rattle.reach.specs.Lists.{listBytes, roomOf, entryPart}
@@ -24,18 +24,14 @@ use Rattle.reach.specs.Text as Text
 use Rattle.reach.specs.Printouts.{wasCut, Printout, TextAnswer, noText, ofLength, printoutOf, lengthAnswer, writeAnswer}
 use Rattle.reach.proofs.Base.{clash}
 use Rattle.reach.proofs.Limits.{accepted-keeps}
+use Rattle.results.specs.declared.TextResult.the-variants as TextResult
+use Rattle.results.specs.Results.{searchResult, runResult, textResult, textLengthIn}
 use Rattle.search.proofs.Called.{listed-room, written-take, refused-when, complete-when, full-when}
-use Rattle.search.specs.Answering as Search
-use Rattle.closed.specs.Answering.{answerOf}
 use Rattle.closed.proofs.Demands.{refused-file, steps-spent, depth-within}
-use Rattle.printout.specs.declared.Answer.{Answer as Told}
-use Rattle.printout.specs.declared.Answer.the-variants as Told
-use Rattle.printout.specs.Answering as Calls
 use Rattle.printout.proofs.Demands.{searched-length, searched-text}
 use Rattle.entries.specs.Spans.{partPlace}
 use Rattle.packing.specs.Packing.{checkNumber, searchNumber, runNumber, textNumber, partNumber}
-use Rattle.packing.specs.Unpacking.{refusalBits, countBits, stepBits, depthBits, decodedCheck, checkRead, SearchRead, decodedSearch, searchRead, decodedRun, runRead, TextRead, decodedText, textRead, refusalNamed, decodedPart}
-use Rattle.remburai.specs.Answering as Answered
+use Rattle.packing.specs.Unpacking.{refusalBits, countBits, stepBits, depthBits, decodedCheck, checkRead, SearchRead, decodedSearch, searchRead, decodedRun, runRead, TextRead, decodedText, textRead, decodedPart}
 use Rattle.remburai.proofs.Answers.{length-text-small, write-text-small}
 use Rattle.remburai.specs.Answering.{Checks, Searches, Runs, Finds, Measures, Writes}
 use Rattle.packing.proofs.Unpacked.{Small, refused-parted, ran-parted, check-reads, search-reads, run-reads, read-one, text-reads, text-read-one, part-reads}
@@ -79,14 +75,14 @@ module _ (file input work work′ : List ℕ) (r : ℕ) (call : Runs file input 
   within : (a : RunAnswer) → runAnswer file input (length work) ≡ a → (c : Checked) → check file ≡ c → (stepsIn a ≤ stepLimit) × (depthIn a ≤ depthLimit)
   within (noRun why) is c checked = (omega arith, omega arith)
   within (ran o deep) is (accepted p) checked =
-      let answer = answerOf (runAnswer file input (length work)) in
+      let answer = runResult (runAnswer file input (length work)) in
       let limits = accepted-keeps file p checked in (
-        omega (arith, steps-spent file input work work′ answer (call .leaves) p checked o deep (ap answerOf is), limits .steps-limit),
-        omega (arith, depth-within file input work work′ answer (call .leaves) p checked o deep (ap answerOf is), limits .depth-limit .1),
+        omega (arith, steps-spent file input work work′ answer (call .leaves) p checked o deep (ap runResult is), limits .steps-limit),
+        omega (arith, depth-within file input work work′ answer (call .leaves) p checked o deep (ap runResult is), limits .depth-limit .1),
       )
   within (ran o deep) is (turnedBack why) checked =
-      let refused = refused-file file input work work′ (answerOf (runAnswer file input (length work))) (call .leaves) why checked in
-      let ended = ap answerOf is in
+      let refused = refused-file file input work work′ (runResult (runAnswer file input (length work))) (call .leaves) why checked in
+      let ended = ap runResult is in
       absurd (clash (cc))
 
   few : (stepsIn (runAnswer file input (length work)) ≤ stepLimit) × (depthIn (runAnswer file input (length work)) ≤ depthLimit)
@@ -139,7 +135,7 @@ text-one a b same = text-read-one a b (sym (text-reads a) ∙ ap decodedText sam
 -- the length is at most four times the 16,777,216 bytes that a list may have, and 64 more
 module _ (file list : List ℕ) (bytes : (i : ℕ) → getD list i 0 < 256) (full : Bool) (r : ℕ) where
   -- the length in an answer of the definition is that in what the call behind this one answered
-  counted : (a : TextAnswer) → textRead a .bytes ≡ Answered.lengthIn (Calls.answerOf a)
+  counted : (a : TextAnswer) → textRead a .bytes ≡ textLengthIn (textResult a)
   counted (noText why) = refl
   counted (ofLength n) = refl
 
@@ -147,13 +143,13 @@ module _ (file list : List ℕ) (bytes : (i : ℕ) → getD list i 0 < 256) (ful
   text-length-fits call =
       let a = lengthAnswer (printoutOf file list full) in
       let many : countBits r ≡ textRead a .bytes = ap (λ (t : TextRead). t .bytes) (text-length-decodes file list full r call) in
-      omega (arith, many, counted a, length-text-small file list bytes full (Calls.answerOf a) (record { answer-is = refl }))
+      omega (arith, many, counted a, length-text-small file list bytes full (textResult a) (record { answer-is = refl }))
 
   pub write-text-fits : (text text′ : List ℕ) → Writes file list full text text′ r → countBits r ≤ 4 * listLimit + 64
   write-text-fits text text′ call =
       let a = writeAnswer (length text) (printoutOf file list full) in
       let many : countBits r ≡ textRead a .bytes = ap (λ (t : TextRead). t .bytes) (write-text-decodes file list full text text′ r call) in
-      omega (arith, many, counted a, write-text-small file list bytes full text text′ (Calls.answerOf a) (record { answer-is = refl; text-is = call .text-is }))
+      omega (arith, many, counted a, write-text-small file list bytes full text text′ (textResult a) (record { answer-is = refl; text-is = call .text-is }))
 
 -- 02, Slip 2, of a caller in C: the search answered a, without a refusal or with 12. Its list, the first bytes of the slice, handed back with the same file:
 -- the calls give the length of what `reachlist` prints for that answer, and the text.
@@ -179,7 +175,7 @@ module _ (file work work′ list list′ : List ℕ) (a : ℕ) (call : Searches 
 
   -- no search is refused by 12 without a list
   never-so : ¬ (answer ≡ noSearch ListFull)
-  never-so is = by-cause ((refused-when file (length work) (length list) ListFull) .0 (ap Search.answerOf is))
+  never-so is = by-cause ((refused-when file (length work) (length list) ListFull) .0 (ap searchResult is))
     where
       by-cause : (OfFile ListFull × (check file ≡ turnedBack ListFull))
           ⊎ ((ListFull ≡ WorkTooShort) × ((p : Program) × (check file ≡ accepted p) × (length work < workWords (p .steps)))) → ⊥
@@ -187,7 +183,7 @@ module _ (file work work′ list list′ : List ℕ) (a : ℕ) (call : Searches 
       by-cause (inr (same, h)) = clash (cc)
 
   ended : (s : SearchAnswer) → answer ≡ s → Ended s
-  unfolding refusalNamed refusalOf
+  unfolding refusalNamed allRefusals refusalOf
   ended (noSearch why) is = absurd (by-number lists)
     where
       by-number : ((refusalBits a ≡ 0) ⊎ (refusalBits a ≡ numberOf ListFull)) → ⊥
@@ -197,7 +193,7 @@ module _ (file work work′ list list′ : List ℕ) (a : ℕ) (call : Searches 
     where
       by-number : ((refusalBits a ≡ 0) ⊎ (refusalBits a ≡ numberOf ListFull)) → Ended (complete es)
       by-number (inl z) =
-          let h = (complete-when file (length work) (length list) _ _) .0 (ap Search.answerOf is) in
+          let h = (complete-when file (length work) (length list) _ _) .0 (ap searchResult is) in
           record { program = h .0; checked = h .1; listing = λ why no. clash (cc); cut = rw z refl }
       by-number (inr z) = absurd (Option·none-ne-some ListFull (sym (rw z at named ∙ ap refusalOf is)))
   ended (cutShort es) is = by-number lists
@@ -205,11 +201,11 @@ module _ (file work work′ list list′ : List ℕ) (a : ℕ) (call : Searches 
       by-number : ((refusalBits a ≡ 0) ⊎ (refusalBits a ≡ numberOf ListFull)) → Ended (cutShort es)
       by-number (inl z) = absurd (Option·none-ne-some ListFull (rw z at named ∙ ap refusalOf is))
       by-number (inr z) =
-          let h = (full-when file (length work) (length list) _) .0 (ap Search.answerOf is) in
+          let h = (full-when file (length work) (length list) _) .0 (ap searchResult is) in
           record { program = h .0; checked = h .4; listing = λ why no. clash (cc); cut = rw z refl }
 
   -- the number of a length
-  told-length : (x : TextAnswer) (n : ℕ) → Calls.answerOf x ≡ Told.Length n → textRead x ≡ record { refusal = none; bytes = n }
+  told-length : (x : TextAnswer) (n : ℕ) → textResult x ≡ TextResult.Length n → textRead x ≡ record { refusal = none; bytes = n }
   told-length (noText why) n is = absurd (clash (cc))
   told-length (ofLength m) n is = let same : m ≡ n = cc in rw same refl
 
@@ -223,7 +219,7 @@ module _ (file work work′ list list′ : List ℕ) (a : ℕ) (call : Searches 
   pub searched-measured : (r : ℕ) → Measures file (take (countBits a) list′) cut r → decodedText r ≡ record { refusal = none; bytes = length (Text.text answer) }
   searched-measured r measured =
       let e = ended answer refl in
-      let is = searched-length file (length work) (length list) (e .program) (e .checked) answer refl (e .listing) (Calls.answerOf (lengthAnswer shown)) (record { answer-is = refl }) in
+      let is = searched-length file (length work) (length list) (e .program) (e .checked) answer refl (e .listing) (textResult (lengthAnswer shown)) (record { answer-is = refl }) in
       text-length-decodes file (take (countBits a) list′) cut r measured ∙ rw (list-stands, e .cut) (told-length (lengthAnswer shown) _ is)
 
   pub searched-written : (text text′ : List ℕ) (r : ℕ) → Writes file (take (countBits a) list′) cut text text′ r → length (Text.text answer) ≤ length text
@@ -231,7 +227,7 @@ module _ (file work work′ list list′ : List ℕ) (a : ℕ) (call : Searches 
   searched-written text text′ r wrote room =
       let e = ended answer refl in
       let (is, stands) =
-      searched-text file (length work) (length list) (e .program) (e .checked) answer refl (e .listing) text text′ (Calls.answerOf (writeAnswer (length text) shown))
+      searched-text file (length work) (length list) (e .program) (e .checked) answer refl (e .listing) text text′ (textResult (writeAnswer (length text) shown))
       (record { answer-is = refl; text-is = rw (list-stands, e .cut) at (wrote .text-is) }) room in
       let reads : decodedText r ≡ record { refusal = none; bytes = length (Text.text answer) } =
       write-text-decodes file (take (countBits a) list′) cut text text′ r wrote ∙ rw (list-stands, e .cut) (told-length (writeAnswer (length text) shown) _ is) in

@@ -6,11 +6,9 @@ use mathlib.Core.Bool.{Bool}
 use mathlib.Core.List.{List}
 use lib.ListN.{length}
 use Rattle.reach.specs.Answers.{check, searchAnswer, runAnswer}
-use Rattle.reach.specs.Printouts.{TextAnswer, noText, ofLength, printoutOf, lengthAnswer, writeAnswer, textSlice}
+use Rattle.reach.specs.Printouts.{printoutOf, lengthAnswer, writeAnswer, textSlice}
 use Rattle.search.specs.Answering.{Searched}
 use Rattle.closed.specs.Answering.{HasRun}
-use Rattle.printout.specs.declared.Answer.{Answer}
-use Rattle.printout.specs.declared.Answer.the-variants as Answer
 use Rattle.packing.specs.Packing.{checkNumber, searchNumber, runNumber, textNumber, partNumber, PartAt}
 
 -- `remburai_check` of this file answered r
@@ -31,18 +29,6 @@ pub record Runs (file input work work′ : List ℕ) (r : ℕ) : Type 0 where
 pub record Finds (list : List ℕ) (number r : ℕ) : Type 0 where
   pub number-is : r ≡ partNumber list number
   pub part-is : PartAt list number r
-
--- what a call about a text answered, as the definition has it, its length and its number
-abbrev pub told : Answer → TextAnswer
-told (Answer.Refused why) = noText why
-told (Answer.Length n) = ofLength n
-
-abbrev pub lengthIn : Answer → ℕ
-lengthIn (Answer.Refused why) = 0
-lengthIn (Answer.Length n) = n
-
-abbrev pub numberIn : Answer → ℕ
-numberIn r = textNumber (told r)
 
 -- `remburai_text_length` answered r for a list that was handed in with its file; `full` says that the search ended in 12
 pub record Measures (file list : List ℕ) (full : Bool) (r : ℕ) : Type 0 where

@@ -1,33 +1,29 @@
 // The calls for C and Rust: the check of a rule file, its search, a closed run, where an entry of a list stands, the printed text of a list,
-// and the names in it. Each answers with one number, which specs/Packing.antt of crate packing defines, and promises what
+// and the names in it. Each answers with one number, that of crate packing for what the call inside hands back, and promises what
 // specs/Answering.antt says; the names answer with the length of their text, and promise what crate namereport says. include/remburai.h has
-// the numbers for C. Rests on crates rulefile, search, closed, entries, printout,
-// namereport and packing.
-ghost use mathlib.Core.Path.{_≡_};
-ghost use Prim.Native.Nat.{_≤_};
+// the numbers for C. Rests on crates rulefile, search, closed, entries, printout, namereport and packing.
 ghost use Rattle.namereport.specs.Answers.{Promised};
-ghost use Rattle.remburai.specs.Answering.{Checks, Searches, Runs, Finds, Measures, Writes, lengthIn, numberIn};
-use entries::Span;
+ghost use Rattle.remburai.specs.Answering.{Checks, Searches, Runs, Finds, Measures, Writes};
+use closed::run;
 use entries::room;
 use entries::span_of;
 use namereport::names;
-use packing::outcome_number;
-use packing::steps_of;
-use packing::verdict_number;
-use reach::Refusal;
-use refusals::number;
-use rulefile::Checked;
+use packing::check_number;
+use packing::part_number;
+use packing::run_number;
+use packing::search_number;
+use packing::text_number;
+use printout::text_length;
+use printout::write_text;
 use rulefile::check;
+use search::search;
 
 // The check of a rule file: 0, or the number of its refusal.
 #[no_mangle]
 pub extern "C" fn remburai_check(file: &[u8]) -> u64
     ensures { λ r. ⌜ Checks (now (file .entry)) r ⌝ }
 {
-    match check(file) {
-        Checked::Accepted => 0,
-        Checked::Refused(why) => number(why),
-    }
+    check_number(check(file))
 }
 
 // The search of a rule file, in the lent words, its list written to the lent list slice.
@@ -35,12 +31,7 @@ pub extern "C" fn remburai_check(file: &[u8]) -> u64
 pub extern "C" fn remburai_search<'a>(file: &'a [u8], work: &mut [u32], list: &mut [u8]) -> u64
     ensures { λ r. ⌜ Searches (now (file .entry)) (now (work .entry)) (now (work .exit)) (now (list .entry)) (now (list .exit)) r ⌝ }
 {
-    match search::search(file, work, list) {
-        exploring::Answer::Refused(why) => number(why),
-        exploring::Answer::Complete(n, verdict) => 256 * verdict_number(verdict)
-            + 65536 * (n as u64),
-        exploring::Answer::Full(n) => number(Refusal::ListFull) + 65536 * (n as u64),
-    }
+    search_number(search(file, work, list))
 }
 
 // The closed run of a rule file on an input, in the lent words.
@@ -48,12 +39,7 @@ pub extern "C" fn remburai_search<'a>(file: &'a [u8], work: &mut [u32], list: &m
 pub extern "C" fn remburai_run<'a>(file: &'a [u8], input: &'a [u8], work: &mut [u32]) -> u64
     ensures { λ r. ⌜ Runs (now (file .entry)) (now (input .entry)) (now (work .entry)) (now (work .exit)) r ⌝ }
 {
-    match closed::run(file, input, work) {
-        closed::Answer::Refused(why) => number(why),
-        closed::Answer::Ran(outcome, depth) => 256 * outcome_number(outcome)
-            + 65536 * steps_of(outcome)
-            + 4294967296 * (depth as u64),
-    }
+    run_number(run(file, input, work))
 }
 
 // Where the entry of a given number stands in a list, counted from 0, and how many bytes it fills; else the list's end and none.
@@ -62,21 +48,7 @@ pub extern "C" fn remburai_entry(list: &[u8], number: usize) -> u64
     ensures { λ r. ⌜ Finds (now (list .entry)) number r ⌝ }
 {
     let end = room(list.len());
-    match span_of(&list[..end], number) {
-        Span::At(at, n) => (at as u64) + 4294967296 * (n as u64),
-        Span::NoEntry => end as u64,
-    }
-}
-
-// The number of what is said of a text.
-fn text_number(answer: printout::Answer) -> u64
-    requires { ⌜ lengthIn answer ≤ 4294967295 ⌝ }
-    ensures { λ r. ⌜ r ≡ numberIn answer ⌝ }
-{
-    match answer {
-        printout::Answer::Refused(why) => number(why),
-        printout::Answer::Length(n) => 65536 * (n as u64),
-    }
+    part_number(span_of(&list[..end], number), end)
 }
 
 // The length of the printed text of a list, which is handed in with its rule file. `full` says that the search ended in 12.
@@ -84,7 +56,7 @@ fn text_number(answer: printout::Answer) -> u64
 pub extern "C" fn remburai_text_length<'a>(file: &'a [u8], list: &'a [u8], full: bool) -> u64
     ensures { λ r. ⌜ Measures (now (file .entry)) (now (list .entry)) full r ⌝ }
 {
-    text_number(printout::text_length(file, list, full))
+    text_number(text_length(file, list, full))
 }
 
 // Writes that text to the front of a slice.
@@ -97,7 +69,7 @@ pub extern "C" fn remburai_write_text<'a>(
 ) -> u64
     ensures { λ r. ⌜ Writes (now (file .entry)) (now (list .entry)) full (now (text .entry)) (now (text .exit)) r ⌝ }
 {
-    text_number(printout::write_text(file, list, full, text))
+    text_number(write_text(file, list, full, text))
 }
 
 // The search of a rule file in the lent words and list, and the names of the entries that were listed, written to the front of a slice: the length of that

@@ -15,20 +15,20 @@ use Rattle.reach.proofs.Base.{clash}
 use Rattle.reach.proofs.Text.{textBy, text-written}
 use Rattle.writing.specs.Writing.{Fronts}
 use Rattle.printing.proofs.Lengths.{Bytes, part-bytes, text-short}
-use Rattle.exploring.specs.declared.Answer.{Answer}
-use Rattle.exploring.specs.declared.Answer.the-variants as Answer
-use Rattle.search.specs.Answering.{answerOf, lengthIn}
+use Rattle.results.specs.declared.SearchResult.{SearchResult}
+use Rattle.results.specs.declared.SearchResult.the-variants as SearchResult
+use Rattle.results.specs.Results.{searchResult, listLengthIn}
 use Rattle.exploring.proofs.Cutting.{written-length}
 use Rattle.search.proofs.Called.{length-is, listed-room, written-take, room-inside}
 use Rattle.report.specs.Answers.{reportText}
 
 -- the text by the bytes, of any answer of the definition
-refused-by : (a : SearchAnswer) (why : Refusal) → Answer.Refused why ≡ answerOf a → refusalLine why ≡ textBy a
+refused-by : (a : SearchAnswer) (why : Refusal) → SearchResult.Refused why ≡ searchResult a → refusalLine why ≡ textBy a
 refused-by (noSearch by) why is = let same : why ≡ by = cc in ap refusalLine same
 refused-by (complete es) why is = absurd (clash (cc))
 refused-by (cutShort es) why is = absurd (clash (cc))
 
-complete-by : (a : SearchAnswer) (n : ℕ) (v : Verdict) (before : List ℕ) → Answer.Complete n v ≡ answerOf a
+complete-by : (a : SearchAnswer) (n : ℕ) (v : Verdict) (before : List ℕ) → SearchResult.Complete n v ≡ searchResult a
     → listText false (take n (written (listed a) before)) ≡ textBy a
 unfolding listed
 complete-by (noSearch why) n v before is = absurd (clash (cc))
@@ -36,7 +36,7 @@ complete-by (complete es) n v before is =
     let long : n ≡ length (listBytes es) = cc in rw long (ap (listText false) (written-take es before))
 complete-by (cutShort es) n v before is = absurd (clash (cc))
 
-full-by : (a : SearchAnswer) (n : ℕ) (before : List ℕ) → Answer.Full n ≡ answerOf a → listText true (take n (written (listed a) before)) ≡ textBy a
+full-by : (a : SearchAnswer) (n : ℕ) (before : List ℕ) → SearchResult.Full n ≡ searchResult a → listText true (take n (written (listed a) before)) ≡ textBy a
 unfolding listed
 full-by (noSearch why) n before is = absurd (clash (cc))
 full-by (complete es) n before is = absurd (clash (cc))
@@ -44,20 +44,20 @@ full-by (cutShort es) n before is =
     let long : n ≡ length (listBytes es) = cc in rw long (ap (listText true) (written-take es before))
 
 -- the text of a refusal other than 12
-pub refused-text : (file : List ℕ) (work list : ℕ) (why : Refusal) → Answer.Refused why ≡ answerOf (searchAnswer file work list)
+pub refused-text : (file : List ℕ) (work list : ℕ) (why : Refusal) → SearchResult.Refused why ≡ searchResult (searchAnswer file work list)
     → refusalLine why ≡ reportText file work list
 refused-text file work list why is = refused-by (searchAnswer file work list) why is ∙ text-written file work list
 
 -- a list slice that held the bytes `before` and holds `after`
 module _ (file work before after : List ℕ) (wrote : after ≡ written (listed (searchAnswer file (length work) (length before))) before) where
   -- the text of a complete list
-  pub complete-text : (n : ℕ) (v : Verdict) → Answer.Complete n v ≡ answerOf (searchAnswer file (length work) (length before))
+  pub complete-text : (n : ℕ) (v : Verdict) → SearchResult.Complete n v ≡ searchResult (searchAnswer file (length work) (length before))
       → listText false (take n after) ≡ reportText file (length work) (length before)
   complete-text n v is =
       rw wrote (complete-by (searchAnswer file (length work) (length before)) n v before is ∙ text-written file (length work) (length before))
 
   -- and of a list cut short
-  pub full-text : (n : ℕ) → Answer.Full n ≡ answerOf (searchAnswer file (length work) (length before))
+  pub full-text : (n : ℕ) → SearchResult.Full n ≡ searchResult (searchAnswer file (length work) (length before))
       → listText true (take n after) ≡ reportText file (length work) (length before)
   full-text n is =
       rw wrote (full-by (searchAnswer file (length work) (length before)) n before is ∙ text-written file (length work) (length before))
@@ -71,14 +71,14 @@ module _ (file work before after : List ℕ) (wrote : after ≡ written (listed 
       rw wrote (omega (arith, room, inside, same))
 
   -- and so do a complete list and a list cut short
-  pub complete-inside : (n : ℕ) (v : Verdict) → Answer.Complete n v ≡ answerOf (searchAnswer file (length work) (length before)) → n ≤ length after
+  pub complete-inside : (n : ℕ) (v : Verdict) → SearchResult.Complete n v ≡ searchResult (searchAnswer file (length work) (length before)) → n ≤ length after
   complete-inside n v is =
-      let long : n ≡ _ = ap lengthIn is ∙ length-is (searchAnswer file (length work) (length before)) in
+      let long : n ≡ _ = ap listLengthIn is ∙ length-is (searchAnswer file (length work) (length before)) in
       omega (arith, long, listed-inside)
 
-  pub full-inside : (n : ℕ) → Answer.Full n ≡ answerOf (searchAnswer file (length work) (length before)) → n ≤ length after
+  pub full-inside : (n : ℕ) → SearchResult.Full n ≡ searchResult (searchAnswer file (length work) (length before)) → n ≤ length after
   full-inside n is =
-      let long : n ≡ _ = ap lengthIn is ∙ length-is (searchAnswer file (length work) (length before)) in
+      let long : n ≡ _ = ap listLengthIn is ∙ length-is (searchAnswer file (length work) (length before)) in
       omega (arith, long, listed-inside)
 
 -- The text of the first bytes of a list slice has at most four times the slice's bytes, and 64 more.

@@ -3,9 +3,9 @@
 ghost use Prim.Native.Nat.{_≤_};
 ghost use lib.ListN.{length};
 ghost use Rattle.report.specs.Answers.{Promised, programPage, Prints};
-use exploring::Answer;
 use printing::list_text;
 use printing::refusal_text;
+use results::SearchResult;
 
 // Searches a rule file in the lent words and list, writes the text of the search's answer to the front of a slice, and answers with the text's length.
 // A slice that is too short has as many bytes of the text as it holds: one with 4 times the list's bytes, and 64 more, holds it all.
@@ -13,9 +13,9 @@ pub fn report<'a>(file: &'a [u8], work: &mut [u32], list: &mut [u8], text: &mut 
     ensures { λ r. ⌜ Promised (now (file .entry)) (now (work .entry)) (now (work .exit)) (now (list .entry)) (now (list .exit)) (now (text .entry)) (now (text .exit)) r ⌝ }
 {
     match search::search(file, work, list) {
-        Answer::Refused(why) => return refusal_text(why, text),
-        Answer::Complete(n, _) => return list_text(&list[..n], false, text),
-        Answer::Full(n) => return list_text(&list[..n], true, text),
+        SearchResult::Refused(why) => return refusal_text(why, text),
+        SearchResult::Complete(n, _) => return list_text(&list[..n], false, text),
+        SearchResult::Full(n) => return list_text(&list[..n], true, text),
     }
 }
 

@@ -24,10 +24,10 @@ use Rattle.bodies.specs.declared.Judged.the-variants as Judged
 use Rattle.bodies.specs.Check.{functionsAt, bodiesOf}
 use Rattle.depths.specs.Table.{padded}
 use Rattle.depths.proofs.Rounds.{least-front}
-use Rattle.rulefile.specs.declared.Checked.{Checked}
-use Rattle.rulefile.specs.declared.Checked.the-variants as Checked
+use Rattle.results.specs.declared.CheckResult.{CheckResult}
+use Rattle.results.specs.declared.CheckResult.the-variants as CheckResult
 use Rattle.rulefile.specs.declared.Loaded.{Loaded}
-use Rattle.rulefile.specs.Answering.{checkedOf}
+use Rattle.results.specs.Results.{checkResult}
 use Rattle.rulefile.specs.Loading.{typesIn, functionsIn, Outlines, Reads, sourceShallow, namesSpelled, LoadsAs}
 use Rattle.reach.proofs.Stages.{numbers-refused, bodies-refused, empty-refused, depth-refused, spelling-refused, file-accepted}
 use Rattle.rulefile.proofs.Passes as Passes
@@ -43,9 +43,9 @@ not-false true e = refl
 not-false false e = sym e
 
 -- what a loaded file answers is what the check answers
-pub answer-is : (s : List ℕ) (r : Loaded) (a : Checked) → LoadsAs s r a → a ≡ checkedOf (check s)
-answer-is s r Checked.Accepted loads = rw (loads .1)
-answer-is s r (Checked.Refused why) loads = rw loads
+pub answer-is : (s : List ℕ) (r : Loaded) (a : CheckResult) → LoadsAs s r a → a ≡ checkResult (check s)
+answer-is s r CheckResult.Accepted loads = rw (loads .1)
+answer-is s r (CheckResult.Refused why) loads = rw loads
 
 -- what the first pass leaves
 pub outlines :
@@ -137,7 +137,7 @@ module _ (s : List ℕ) (o : Outlined) where
           abbrev loaded : Loaded
           loaded =
               record {
-                answer = Checked.Accepted;
+                answer = CheckResult.Accepted;
                 types = o .types;
                 «type_at» = o .«type_at»;
                 functions = o .functions;
@@ -147,7 +147,7 @@ module _ (s : List ℕ) (o : Outlined) where
                 least = least;
               }
 
-          pub all-passed : not w ≡ false → LoadsAs s loaded Checked.Accepted
+          pub all-passed : not w ≡ false → LoadsAs s loaded CheckResult.Accepted
           unfolding programOf declarationsAt outlineAt
           all-passed e = (
             programOf whole (reads .functions),

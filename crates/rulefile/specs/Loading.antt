@@ -18,8 +18,8 @@ use Rattle.reach.specs.Answers as Answers
 use Rattle.goal.specs.Goals.{goalOf, namedOf}
 use Rattle.outline.specs.declared.Outlined.{Outlined}
 use Rattle.depths.specs.Table.{padded}
-use Rattle.rulefile.specs.declared.Checked.{Checked}
-use Rattle.rulefile.specs.declared.Checked.the-variants.{Accepted, Refused}
+use Rattle.results.specs.declared.CheckResult.{CheckResult}
+use Rattle.results.specs.declared.CheckResult.the-variants.{Accepted, Refused}
 use Rattle.rulefile.specs.declared.Loaded.{Loaded}
 
 -- Tables of places, a named type and a goal as the three passes leave them: each pass over the records that stand there found nothing.
@@ -80,7 +80,7 @@ pub record Tabled (s : List ℕ) (r : Loaded) (p : Program) : Type 0 where
   pub program : p ≡ programOf (outlineAt s (typePlaces r) (functionPlaces r) (namedOf (r .named)) (goalOf (r .goal))) functions
   pub depths : r .least ≡ padded (leastDepths (p .types))
 
-abbrev pub LoadsAs : List ℕ → Loaded → Checked → Type 0
+abbrev pub LoadsAs : List ℕ → Loaded → CheckResult → Type 0
 LoadsAs s r Accepted = (p : Program) × (Answers.check s ≡ Answers.accepted p) × Tabled s r p
 LoadsAs s r (Refused why) = Answers.check s ≡ Answers.turnedBack why
 

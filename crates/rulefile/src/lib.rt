@@ -1,9 +1,10 @@
 // The check of a rule file: the three passes in their order, then the tests of depth and of the form of names. `check` answers accepted or
 // the one refusal of 1 to 9 or 15; `load` also hands on what later layers need of an accepted file: the places of its types and functions,
-// the type that NA names, its goal by value and the least depths. Rests on crates outline, numbers, bodies, rooms, spelling, lookups and goal.
+// the type that NA names, its goal by value and the least depths. Rests on crates outline, numbers, bodies, depths, rooms, spelling,
+// lookups, goal and results.
 ghost use mathlib.Core.Path.{_≡_};
 ghost use Rattle.goal.specs.Goals.{goalOf, namedOf};
-ghost use Rattle.rulefile.specs.Answering.{Promised};
+ghost use Rattle.rulefile.specs.Answering.{CheckPromise};
 ghost use Rattle.rulefile.specs.Loading.{Outlines, Reads, Loads, sourceShallow, namesSpelled};
 use bodies::Judged;
 use bodies::bodies;
@@ -19,21 +20,16 @@ use outline::Outlined;
 use outline::first_pass;
 use reach::Refusal;
 use records::Step;
+use results::CheckResult;
 use rooms::all_roomy;
 use spelling::spells;
 
 const FILE_LIMIT: usize = 16384;
 
-// The answer of the check.
-pub enum Checked {
-    Accepted,
-    Refused(Refusal),
-}
-
 // A file as the check leaves it. Where it is accepted: how many types and functions there are and where their records stand
 // behind their marks, the type that NA names, what the goal asks for, and the least depth of each type.
 pub struct Loaded {
-    pub answer: Checked,
+    pub answer: CheckResult,
     pub types: usize,
     pub type_at: [u16; 32],
     pub functions: usize,
@@ -45,10 +41,10 @@ pub struct Loaded {
 
 // A file that was refused.
 fn turned_back(why: Refusal) -> Loaded
-    ensures { λ r. ⌜ r .answer ≡ Checked.Refused why ⌝ }
+    ensures { λ r. ⌜ r .answer ≡ CheckResult.Refused why ⌝ }
 {
     Loaded {
-        answer: Checked::Refused(why),
+        answer: CheckResult::Refused(why),
         types: 0,
         type_at: [0; 32],
         functions: 0,
@@ -101,7 +97,7 @@ fn with_depths(file: &[u8], o: Outlined) -> Loaded
     }
     let least = table.of;
     Loaded {
-        answer: Checked::Accepted,
+        answer: CheckResult::Accepted,
         types,
         type_at,
         functions,
@@ -151,8 +147,8 @@ pub fn load(file: &[u8]) -> Loaded
     }
 }
 
-pub fn check(file: &[u8]) -> Checked
-    ensures { λ r. ⌜ Promised (now (file .entry)) r ⌝ }
+pub fn check(file: &[u8]) -> CheckResult
+    ensures { λ r. ⌜ CheckPromise (now (file .entry)) r ⌝ }
 {
     let loaded = load(file);
     loaded.answer

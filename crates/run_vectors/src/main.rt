@@ -2,10 +2,10 @@
 // `refused` and the number. tests/make_runs.py makes the container and the lines.
 ghost use Prim.Native.Nat.{_≤_};
 ghost use lib.ListN.{length};
-use closed::Answer;
 use libc::STDIN_FILENO;
 use libc::STDOUT_FILENO;
 use reach::Outcome;
+use results::RunResult;
 
 // The words of the longest work slice that a case may ask for, and the bytes of the longest input.
 const WORDS: usize = 300000;
@@ -40,14 +40,14 @@ fn print_outcome(outcome: Outcome) {
     }
 }
 
-fn print_answer(answer: Answer) {
+fn print_answer(answer: RunResult) {
     match answer {
-        Answer::Ran(outcome, depth) => {
+        RunResult::Ran(outcome, depth) => {
             print_outcome(outcome);
             io::write_all(STDOUT_FILENO, b" ");
             io::print_decimal(STDOUT_FILENO, depth as u64);
         }
-        Answer::Refused(why) => {
+        RunResult::Refused(why) => {
             io::write_all(STDOUT_FILENO, b"refused ");
             io::print_decimal(STDOUT_FILENO, refusals::number(why));
         }

@@ -16,15 +16,15 @@ use Rattle.reach.specs.Lists.{listBytes, roomOf, written}
 use Rattle.reach.specs.Answers.{check, accepted, SearchAnswer, noSearch, complete, cutShort, searchAnswer, listed}
 use Rattle.machine.specs.Cells.{Cells}
 use Rattle.machine.proofs.Cells.{kept-cells}
-use Rattle.rulefile.specs.declared.Checked.the-variants as Checked
+use Rattle.results.specs.declared.CheckResult.the-variants as CheckResult
 use Rattle.rulefile.specs.declared.Loaded.{Loaded}
 use Rattle.rulefile.specs.Loading.{typePlaces, functionPlaces, Tabled, Loads}
 use Rattle.rulefile.proofs.Tabled.{program-goal}
 use Rattle.loaded.proofs.Files.{given-file}
 use Rattle.loaded.proofs.Loaded.{loaded-accepted, loaded-refused, behind-kept}
-use Rattle.exploring.specs.declared.Answer.{Answer}
-use Rattle.exploring.specs.declared.Answer.the-variants as Answer
-use Rattle.search.specs.Answering.{Promised}
+use Rattle.results.specs.declared.SearchResult.{SearchResult}
+use Rattle.results.specs.declared.SearchResult.the-variants as SearchResult
+use Rattle.search.specs.Answering.{SearchPromise}
 use Rattle.exploring.specs.Exploring.{WholeList, FirstEntries, Explored}
 use Rattle.search.specs.Searching.{Searchable, settingOf}
 use Rattle.exploring.proofs.Cutting.{written-none, written-front, answer-complete, answer-full, answer-short, answer-refused}
@@ -34,7 +34,7 @@ refused-list : (why : Refusal) (list : List ℕ) → list ≡ written (listed (n
 unfolding listed
 refused-list why list = sym (written-none list)
 
-keeps-refused : (file work list : List ℕ) (why : Refusal) → searchAnswer file (length work) (length list) ≡ noSearch why → Promised file work work list list (Answer.Refused why)
+keeps-refused : (file work list : List ℕ) (why : Refusal) → searchAnswer file (length work) (length list) ≡ noSearch why → SearchPromise file work work list list (SearchResult.Refused why)
 keeps-refused file work list why is = record { answer-is = rw is refl; list-is = rw is (refused-list why list); words-are = refl }
 
 listed-complete : (es : List Entry) → listed (complete es) ≡ es
@@ -60,10 +60,10 @@ room-inside list is = omega arith
 
 module _ (file : List ℕ) (r : Loaded) (loads : Loads file r) where
   -- a refused file
-  pub search-refused : (work list : List ℕ) {why : Refusal} → r .answer ≡ Checked.Refused why → Promised file work work list list (Answer.Refused why)
+  pub search-refused : (work list : List ℕ) {why : Refusal} → r .answer ≡ CheckResult.Refused why → SearchPromise file work work list list (SearchResult.Refused why)
   search-refused work list {why} is = keeps-refused file work list why (answer-refused file (length work) (length list) why (loaded-refused file r loads is))
 
-  module _ (is : r .answer ≡ Checked.Accepted) {words : ℕ} (words-are : words ≡ workWords (r .goal .steps)) where
+  module _ (is : r .answer ≡ CheckResult.Accepted) {words : ℕ} (words-are : words ≡ workWords (r .goal .steps)) where
     abbrev here : (p : Program) × (check file ≡ accepted p) × Tabled file r p
     here = loaded-accepted file r loads is
 
@@ -71,7 +71,7 @@ module _ (file : List ℕ) (r : Loaded) (loads : Loads file r) where
     limit-is = program-goal (here .2) .steps-is
 
     -- too few words
-    pub search-short : (work list : List ℕ) → length work < words → Promised file work work list list (Answer.Refused WorkTooShort)
+    pub search-short : (work list : List ℕ) → length work < words → SearchPromise file work work list list (SearchResult.Refused WorkTooShort)
     search-short work list short = keeps-refused file work list WorkTooShort (answer-short file (length work) (length list) (here .0) (here .1) (omega (arith, limit-is)))
 
     -- enough of them
@@ -110,7 +110,7 @@ module _ (file : List ℕ) (r : Loaded) (loads : Loads file r) where
             subst (λ (x : Program). Cells (x .types) (sourceSlots x) work-then top (e x)) one (cells-longer (drop words work) stands)
 
         keeps-whole : (n : ℕ) (d : Rattle.reach.specs.declared.Verdict.Verdict) → WholeList (settingOf file (typePlaces r) (functionPlaces r) (r .least) (here .0)) (take room list) after v n d
-            → Promised file work work-then list list-then (Answer.Complete n d)
+            → SearchPromise file work work-then list list-then (SearchResult.Complete n d)
         keeps-whole n d whole =
             let es = entries (here .0) in
             let fits : length (listBytes es) ≤ room = omega (arith, whole .fits, whole .length-is, room-taken list room-is) in
@@ -129,7 +129,7 @@ module _ (file : List ℕ) (r : Loaded) (loads : Loads file r) where
                 subst (λ (x : Program). Cells (x .types) (sourceSlots x) work-then (length (sourceTypes x)) (openInput x)) one (cells-longer (drop words work) stands)
 
         keeps-first : (n : ℕ) → FirstEntries (settingOf file (typePlaces r) (functionPlaces r) (r .least) (here .0)) (take room list) after v n
-            → Promised file work work-then list list-then (Answer.Full n)
+            → SearchPromise file work work-then list list-then (SearchResult.Full n)
         keeps-first n first =
             let es = first .listed in
             let fits : length (listBytes es) ≤ room = omega (arith, first .fits, first .length-is, room-taken list room-is) in
@@ -155,14 +155,14 @@ module _ (file : List ℕ) (r : Loaded) (loads : Loads file r) where
             }
 
         pub search-done :
-            (a : Answer)
+            (a : SearchResult)
             → ((p : Program) → Searchable file (typePlaces r) (functionPlaces r) (r .least) (r .goal) (take words work) p
             → Explored (settingOf file (typePlaces r) (functionPlaces r) (r .least) p) (take room list) after v a)
-            → Promised file work work-then list list-then a
+            → SearchPromise file work work-then list list-then a
         unfolding search-able
         search-done a explored = let able = search-able work enough in by-answer a (explored (able .0) (able .1))
           where
-            by-answer : (b : Answer) → Explored (settingOf file (typePlaces r) (functionPlaces r) (r .least) (here .0)) (take room list) after v b → Promised file work work-then list list-then b
-            by-answer (Answer.Refused why) none = absurd none
-            by-answer (Answer.Complete n d) whole = keeps-whole n d whole
-            by-answer (Answer.Full n) first = keeps-first n first
+            by-answer : (b : SearchResult) → Explored (settingOf file (typePlaces r) (functionPlaces r) (r .least) (here .0)) (take room list) after v b → SearchPromise file work work-then list list-then b
+            by-answer (SearchResult.Refused why) none = absurd none
+            by-answer (SearchResult.Complete n d) whole = keeps-whole n d whole
+            by-answer (SearchResult.Full n) first = keeps-first n first

@@ -19,7 +19,7 @@ use Rattle.loaded.specs.Beginning.{Opened, startRegisters}
 use Rattle.loaded.proofs.Beginning as Begin
 use Rattle.choices.specs.Choices.{Setting, Given, no-choice}
 use Rattle.choices.specs.Returning.{setting}
-use Rattle.exploring.specs.declared.Answer.{Answer}
+use Rattle.results.specs.declared.SearchResult.{SearchResult}
 use Rattle.exploring.specs.Exploring.{Begins, Explores, Explored}
 use Rattle.search.specs.Searching.{Searchable, settingOf}
 
@@ -82,7 +82,7 @@ module _ {file types functions least : List ℕ} {goal : Goal} {w : List ℕ} {p
 
       -- so what is explored from there is the search of the program
       pub explored :
-          {w′ : List ℕ} {from : Registers} (w″ before after : List ℕ) (a : Answer) → from ≡ startRegisters (head .body)
+          {w′ : List ℕ} {from : Registers} (w″ before after : List ℕ) (a : SearchResult) → from ≡ startRegisters (head .body)
           → Opened file w w′ base (head .parameters) (head .count) (goal .depths)
           → Explores file types functions least (goal .label) w′ w″ (goal .steps) base stack (head .count) from before after a
           → Explored (settingOf file types functions least p) before after w″ a

@@ -24,50 +24,51 @@ use Rattle.reach.specs.Answers.{Checked, accepted, turnedBack, check, SearchAns
 use Rattle.reach.proofs.Base.{clash}
 use Rattle.reach.proofs.Answers.{Means, search-means, search-turned-back}
 use Rattle.reach.proofs.Refusals.{turned-back-by}
-use Rattle.exploring.specs.declared.Answer.{Answer}
-use Rattle.exploring.specs.declared.Answer.the-variants as Answer
-use Rattle.search.specs.Answering.{answerOf, Promised, Searched, lengthIn, refusalIn, verdictIn}
+use Rattle.results.specs.declared.SearchResult.{SearchResult}
+use Rattle.results.specs.declared.SearchResult.the-variants as SearchResult
+use Rattle.results.specs.Results.{searchResult, listLengthIn, refusalIn, verdictIn}
+use Rattle.search.specs.Answering.{SearchPromise, Searched}
 use Rattle.exploring.proofs.Cutting.{size-more, answer-complete, answer-full, answer-short, answer-refused}
 
 -- what a call promises of its own answer holds of the definition's
-pub searched-so : {file work work′ before after : List ℕ} {r : Answer} → Promised file work work′ before after r → Searched file work work′ before after
-searched-so {file} {work} {work′} {before} {after} call = subst (Promised file work work′ before after) (call .answer-is) call
+pub searched-so : {file work work′ before after : List ℕ} {r : SearchResult} → SearchPromise file work work′ before after r → Searched file work work′ before after
+searched-so {file} {work} {work′} {before} {after} call = subst (SearchPromise file work work′ before after) (call .answer-is) call
 
 -- The answer shows the length, the refusal and the verdict of the definition's.
 
-pub length-is : (a : SearchAnswer) → lengthIn (answerOf a) ≡ length (listBytes (listed a))
+pub length-is : (a : SearchAnswer) → listLengthIn (searchResult a) ≡ length (listBytes (listed a))
 unfolding listed listBytes flatMap
 length-is (noSearch why) = refl
 length-is (complete es) = refl
 length-is (cutShort es) = refl
 
-pub refusal-is : (a : SearchAnswer) → refusalIn (answerOf a) ≡ refusalOf a
+pub refusal-is : (a : SearchAnswer) → refusalIn (searchResult a) ≡ refusalOf a
 unfolding refusalOf
 refusal-is (noSearch why) = refl
 refusal-is (complete es) = refl
 refusal-is (cutShort es) = refl
 
-pub verdict-is : (a : SearchAnswer) → verdictIn (answerOf a) ≡ verdictOf a
+pub verdict-is : (a : SearchAnswer) → verdictIn (searchResult a) ≡ verdictOf a
 unfolding verdictOf
 verdict-is (noSearch why) = refl
 verdict-is (complete es) = refl
 verdict-is (cutShort es) = refl
 
 -- a refusal other than 12 is one of the definition's
-pub refused-is : (a : SearchAnswer) (why : Refusal) → Answer.Refused why ≡ answerOf a → a ≡ noSearch why
+pub refused-is : (a : SearchAnswer) (why : Refusal) → SearchResult.Refused why ≡ searchResult a → a ≡ noSearch why
 refused-is (noSearch by) why is = cc
 refused-is (complete es) why is = absurd (clash (cc))
 refused-is (cutShort es) why is = absurd (clash (cc))
 
 -- a complete list is, and its length and verdict are shown
-complete-shows : (a : SearchAnswer) (n : ℕ) (v : Verdict) → Answer.Complete n v ≡ answerOf a
+complete-shows : (a : SearchAnswer) (n : ℕ) (v : Verdict) → SearchResult.Complete n v ≡ searchResult a
     → (es : List Entry) × (a ≡ complete es) × (n ≡ length (listBytes es)) × (v ≡ verdict es)
 complete-shows (noSearch why) n v is = absurd (clash (cc))
 complete-shows (complete es) n v is = (es, refl, cc, cc)
 complete-shows (cutShort es) n v is = absurd (clash (cc))
 
 -- and a list cut short
-full-shows : (a : SearchAnswer) (n : ℕ) → Answer.Full n ≡ answerOf a → (es : List Entry) × (a ≡ cutShort es) × (n ≡ length (listBytes es))
+full-shows : (a : SearchAnswer) (n : ℕ) → SearchResult.Full n ≡ searchResult a → (es : List Entry) × (a ≡ cutShort es) × (n ≡ length (listBytes es))
 full-shows (noSearch why) n is = absurd (clash (cc))
 full-shows (complete es) n is = absurd (clash (cc))
 full-shows (cutShort es) n is = (es, refl, cc)
@@ -81,7 +82,7 @@ module _ (file : List ℕ) (work list : ℕ) where
       (OfFile why × (check file ≡ turnedBack why))
       ⊎ ((why ≡ WorkTooShort) × ((p : Program) × (check file ≡ accepted p) × (work < workWords (p .steps))))
 
-  pub refused-when : (why : Refusal) → (answerOf (searchAnswer file work list) ≡ Answer.Refused why) ↔ Refusable why
+  pub refused-when : (why : Refusal) → (searchResult (searchAnswer file work list) ≡ SearchResult.Refused why) ↔ Refusable why
   refused-when why = (λ is. from (check file) refl (refused-is (searchAnswer file work list) why (sym is)), into)
     where
       from : (c : Checked) → check file ≡ c → searchAnswer file work list ≡ noSearch why → Refusable why
@@ -91,10 +92,10 @@ module _ (file : List ℕ) (work list : ℕ) where
           let turned : check file ≡ turnedBack why = c ∙ ap turnedBack same in
           inl (turned-back-by file why turned, turned)
 
-      into : Refusable why → answerOf (searchAnswer file work list) ≡ Answer.Refused why
+      into : Refusable why → searchResult (searchAnswer file work list) ≡ SearchResult.Refused why
       into =
-          ⊎-elim (λ h. ap answerOf (answer-refused file work list why (h .1)))
-          (λ h. ap answerOf (answer-short file work list (h .1 .0) (h .1 .1) (h .1 .2)) ∙ ap Answer.Refused (sym (h .0)))
+          ⊎-elim (λ h. ap searchResult (answer-refused file work list why (h .1)))
+          (λ h. ap searchResult (answer-short file work list (h .1 .0) (h .1 .1) (h .1 .2)) ∙ ap SearchResult.Refused (sym (h .0)))
 
   -- the first entries fit the room, and the next one does not fit behind them
   abbrev Fillable : ℕ → Type 0
@@ -102,7 +103,7 @@ module _ (file : List ℕ) (work list : ℕ) where
       (p : Program) × (es : List Entry) × (next : Entry) × (rest : List Entry) × (check file ≡ accepted p) × (workWords (p .steps) ≤ work)
       × (entries p ≡ es ++ (next ∷ rest)) × (n ≡ length (listBytes es)) × (n ≤ roomOf list) × (roomOf list < n + length (entryBytes next))
 
-  pub full-when : (n : ℕ) → (answerOf (searchAnswer file work list) ≡ Answer.Full n) ↔ Fillable n
+  pub full-when : (n : ℕ) → (searchResult (searchAnswer file work list) ≡ SearchResult.Full n) ↔ Fillable n
   full-when n = (λ is. let (es, a, long) = full-shows (searchAnswer file work list) n (sym is) in from (check file) refl es a long, into)
     where
       from : (c : Checked) → check file ≡ c → (es : List Entry) → searchAnswer file work list ≡ cutShort es → n ≡ length (listBytes es) → Fillable n
@@ -112,9 +113,9 @@ module _ (file : List ℕ) (work list : ℕ) where
           (p, es, next, m .1 .1, c, m .0, m .1 .2, long, omega (arith, m .1 .3), omega (arith, m .1 .4, size-more es next))
       from (turnedBack by) c es is long = absurd (clash (cc (answer-refused file work list by c)))
 
-      into : Fillable n → answerOf (searchAnswer file work list) ≡ Answer.Full n
+      into : Fillable n → searchResult (searchAnswer file work list) ≡ SearchResult.Full n
       into (p, es, next, rest, c, enough, all, long, fits, over) =
-          ap answerOf (answer-full file work list p c enough es next rest all (omega arith) (omega arith)) ∙ ap Answer.Full (sym long)
+          ap searchResult (answer-full file work list p c enough es next rest all (omega arith) (omega arith)) ∙ ap SearchResult.Full (sym long)
 
   -- all entries fit the room
   abbrev Completable : ℕ → Verdict → Type 0
@@ -122,7 +123,7 @@ module _ (file : List ℕ) (work list : ℕ) where
       (p : Program) × (check file ≡ accepted p) × (workWords (p .steps) ≤ work) × (n ≡ length (listBytes (entries p))) × (n ≤ roomOf list)
       × (v ≡ verdict (entries p))
 
-  pub complete-when : (n : ℕ) (v : Verdict) → (answerOf (searchAnswer file work list) ≡ Answer.Complete n v) ↔ Completable n v
+  pub complete-when : (n : ℕ) (v : Verdict) → (searchResult (searchAnswer file work list) ≡ SearchResult.Complete n v) ↔ Completable n v
   complete-when n v =
       (λ is. let (es, a, long, by) = complete-shows (searchAnswer file work list) n v (sym is) in from (check file) refl es a long by, into)
     where
@@ -133,12 +134,12 @@ module _ (file : List ℕ) (work list : ℕ) where
           (p, c, m .0, long ∙ ap (λ (l : List Entry). length (listBytes l)) (m .1), omega (arith, m .2), by ∙ ap verdict (m .1))
       from (turnedBack refusal) c es is long by = absurd (clash (cc (answer-refused file work list refusal c)))
 
-      into : Completable n v → answerOf (searchAnswer file work list) ≡ Answer.Complete n v
+      into : Completable n v → searchResult (searchAnswer file work list) ≡ SearchResult.Complete n v
       into (p, c, enough, long, fits, by) =
-          ap answerOf (answer-complete file work list p c enough (omega arith)) ∙ rw (long, by)
+          ap searchResult (answer-complete file work list p c enough (omega arith)) ∙ rw (long, by)
 
   -- a complete list is the search's, entry for entry
-  pub complete-lists : (n : ℕ) (v : Verdict) → answerOf (searchAnswer file work list) ≡ Answer.Complete n v
+  pub complete-lists : (n : ℕ) (v : Verdict) → searchResult (searchAnswer file work list) ≡ SearchResult.Complete n v
       → (searchAnswer file work list ≡ complete (listed (searchAnswer file work list))) × (v ≡ verdict (listed (searchAnswer file work list)))
   unfolding listed
   complete-lists n v is =
@@ -146,13 +147,13 @@ module _ (file : List ℕ) (work list : ℕ) where
       rw a (refl, by)
 
   -- and so is a list cut short, as far as it goes
-  pub full-lists : (n : ℕ) → answerOf (searchAnswer file work list) ≡ Answer.Full n
+  pub full-lists : (n : ℕ) → searchResult (searchAnswer file work list) ≡ SearchResult.Full n
       → searchAnswer file work list ≡ cutShort (listed (searchAnswer file work list))
   unfolding listed
   full-lists n is = let (es, a, long) = full-shows (searchAnswer file work list) n (sym is) in rw a
 
   -- with any other refusal nothing is listed
-  pub refused-lists : (why : Refusal) → answerOf (searchAnswer file work list) ≡ Answer.Refused why → listed (searchAnswer file work list) ≡ []
+  pub refused-lists : (why : Refusal) → searchResult (searchAnswer file work list) ≡ SearchResult.Refused why → listed (searchAnswer file work list) ≡ []
   unfolding listed
   refused-lists why is = rw (refused-is (searchAnswer file work list) why (sym is))
 

@@ -1,39 +1,30 @@
 -- What a caller of `search` reads: the answer, the list in the caller's slice and the words afterwards, in terms of reach's definition; and what a caller
--- takes from an answer and from the bytes of its list.
--- Rests on reach's Answers, Search and Lists, on machine's Cells for what the words stand for, and on the enum of crate exploring.
+-- takes from the bytes of its list.
+-- Rests on reach's Answers, Search and Lists, on machine's Cells for what the words stand for, and on Results of crate results.
 use Prim.Native.Nat.{ℕ, _+_, _*_}
 use mathlib.Core.Path.{_≡_}
 use mathlib.Core.List.{List, [], _∷_, _++_}
-use mathlib.Core.Option.{Option, none, some}
 use lib.ListN.{length, drop}
-use Rattle.reach.specs.declared.Refusal.{Refusal}
-use Rattle.reach.specs.declared.Refusal.the-variants.{ListFull}
-use Rattle.reach.specs.declared.Verdict.{Verdict}
 use Rattle.reach.specs.Limits.{workWords}
 use Rattle.reach.specs.Syntax.{Program, sourceTypes}
 use Rattle.reach.specs.Types.{Typed, sourceSlots}
-use Rattle.reach.specs.Search.{Entry, openInput, entries, verdict}
+use Rattle.reach.specs.Search.{Entry, openInput, entries}
 use Rattle.reach.specs.Lists.{listBytes, written, entryPart, sayingOf, decoded}
-use Rattle.reach.specs.Answers.{check, accepted, SearchAnswer, noSearch, complete, cutShort, searchAnswer, listed}
+use Rattle.reach.specs.Answers.{check, accepted, searchAnswer, listed}
 use Rattle.machine.specs.Cells.{Cells}
-use Rattle.exploring.specs.declared.Answer.{Answer}
-use Rattle.exploring.specs.declared.Answer.the-variants as Answer
-
--- the answer of reach's definition, as the enum shows it: the length of the list in bytes, and the verdict where the list is complete
-abbrev pub answerOf : SearchAnswer → Answer
-answerOf (noSearch why) = Answer.Refused why
-answerOf (complete es) = Answer.Complete (length (listBytes es)) (verdict es)
-answerOf (cutShort es) = Answer.Full (length (listBytes es))
+use Rattle.results.specs.declared.SearchResult.{SearchResult}
+use Rattle.results.specs.declared.SearchResult.the-variants as SearchResult
+use Rattle.results.specs.Results.{searchResult}
 
 -- A refusal but 12 changes no word, and a search none behind its first 64 S + 1,024 words. Those first words are its own: where the list is complete,
 -- every parameter is open in its cell again; where it was cut short, the cells stand for the input of the entry that did not fit.
-abbrev pub WordsAfter : Answer → List ℕ → List ℕ → List ℕ → Type 0
-WordsAfter (Answer.Refused why) file w w′ = w′ ≡ w
-WordsAfter (Answer.Complete n v) file w w′ =
+abbrev pub WordsAfter : SearchResult → List ℕ → List ℕ → List ℕ → Type 0
+WordsAfter (SearchResult.Refused why) file w w′ = w′ ≡ w
+WordsAfter (SearchResult.Complete n v) file w w′ =
     (p : Program) → check file ≡ accepted p
     → (drop (workWords (p .steps)) w′ ≡ drop (workWords (p .steps)) w)
     × Cells (p .types) (sourceSlots p) w′ (length (sourceTypes p)) (openInput p)
-WordsAfter (Answer.Full n) file w w′ =
+WordsAfter (SearchResult.Full n) file w w′ =
     (p : Program) → check file ≡ accepted p
     → (drop (workWords (p .steps)) w′ ≡ drop (workWords (p .steps)) w)
     × ((listed : List Entry) × (next : Entry) × (rest : List Entry) × (cells : ℕ) × (entries p ≡ listed ++ (next ∷ rest)) × (n ≡ length (listBytes listed))
@@ -41,34 +32,14 @@ WordsAfter (Answer.Full n) file w w′ =
 
 -- What the call promises, and all that it promises: of its answer; of the list slice, which held the bytes `before` (the entries of the definition's
 -- answer stand at its front, and the bytes after them are as before); and of the words.
-pub record Promised (file work work′ before after : List ℕ) (r : Answer) : Type 0 where
-  pub answer-is : r ≡ answerOf (searchAnswer file (length work) (length before))
+pub record SearchPromise (file work work′ before after : List ℕ) (r : SearchResult) : Type 0 where
+  pub answer-is : r ≡ searchResult (searchAnswer file (length work) (length before))
   pub list-is : after ≡ written (listed (searchAnswer file (length work) (length before))) before
   pub words-are : WordsAfter r file work work′
 
 -- the same of a call that searches and does not hand on the search's own answer: the list and the words are as the definition's answer says
 abbrev pub Searched : List ℕ → List ℕ → List ℕ → List ℕ → List ℕ → Type 0
-Searched file work work′ before after = Promised file work work′ before after (answerOf (searchAnswer file (length work) (length before)))
-
--- What a caller takes from an answer.
-
--- the length of the list, which every answer gives but a refusal other than 12
-abbrev pub lengthIn : Answer → ℕ
-lengthIn (Answer.Refused why) = 0
-lengthIn (Answer.Complete n v) = n
-lengthIn (Answer.Full n) = n
-
--- the refusal of an answer, if it is one
-abbrev pub refusalIn : Answer → Option Refusal
-refusalIn (Answer.Refused why) = some why
-refusalIn (Answer.Complete n v) = none
-refusalIn (Answer.Full n) = some ListFull
-
--- the verdict, if one is given
-abbrev pub verdictIn : Answer → Option Verdict
-verdictIn (Answer.Refused why) = none
-verdictIn (Answer.Complete n v) = some v
-verdictIn (Answer.Full n) = none
+Searched file work work′ before after = SearchPromise file work work′ before after (searchResult (searchAnswer file (length work) (length before)))
 
 -- Entry k of these bytes of a list, read back, is e: the part that it fills is there, and says the kind and the steps of e and, in prefix form, its
 -- partial input, which has the source's types.

@@ -1,11 +1,10 @@
 // The search of a rule file for the partial inputs that reach the target, by lazy narrowing: depth first, in moves, over one path
 // with a stack of choice points, all of it in the lent words; entries are written to the lent list. Rests on crates goal, rulefile,
-// loaded, lookups, machine, skipping and exploring.
-ghost use Rattle.search.specs.Answering.{Promised};
+// loaded, lookups, machine, skipping, exploring and results.
+ghost use Rattle.search.specs.Answering.{SearchPromise};
 ghost use Rattle.search.specs.Searching.{SomeSearchable, ExploresThem};
 use depths::Depths;
 use entries::room;
-use exploring::Answer;
 use exploring::explore;
 use goal::Goal;
 use loaded::open_input;
@@ -14,7 +13,8 @@ use machine::choices_at;
 use machine::records_at;
 use machine::work_words;
 use reach::Refusal;
-use rulefile::Checked;
+use results::CheckResult;
+use results::SearchResult;
 use rulefile::load;
 use skipping::fill_ends;
 
@@ -27,7 +27,7 @@ fn search_checked<'a>(
     goal: Goal,
     work: &mut [u32],
     list: &mut [u8],
-) -> Answer
+) -> SearchResult
     requires { ⌜ SomeSearchable (now file) (now types) (now functions) (least .of) goal (now work) ⌝ }
     ensures { λ a. ⌜ ExploresThem (now (file .entry)) (now (types .entry)) (now (functions .entry)) (least .of) goal (now (work .entry)) (now (work .exit)) (now (list .entry)) (now (list .exit)) a ⌝ }
 {
@@ -56,13 +56,13 @@ fn search_checked<'a>(
 }
 
 // The search of a rule file, in the lent words, its list written to the lent list slice.
-pub fn search<'a>(file: &'a [u8], work: &mut [u32], list: &mut [u8]) -> Answer
-    ensures { λ r. ⌜ Promised (now (file .entry)) (now (work .entry)) (now (work .exit)) (now (list .entry)) (now (list .exit)) r ⌝ }
+pub fn search<'a>(file: &'a [u8], work: &mut [u32], list: &mut [u8]) -> SearchResult
+    ensures { λ r. ⌜ SearchPromise (now (file .entry)) (now (work .entry)) (now (work .exit)) (now (list .entry)) (now (list .exit)) r ⌝ }
 {
     let loaded = load(file);
     let answer = loaded.answer;
-    if let Checked::Refused(why) = answer {
-        return Answer::Refused(why);
+    if let CheckResult::Refused(why) = answer {
+        return SearchResult::Refused(why);
     }
     let types = loaded.types;
     let functions = loaded.functions;
@@ -72,7 +72,7 @@ pub fn search<'a>(file: &'a [u8], work: &mut [u32], list: &mut [u8]) -> Answer
     let least = loaded.least;
     let words = work_words(goal.steps);
     if work.len() < words {
-        return Answer::Refused(Refusal::WorkTooShort);
+        return SearchResult::Refused(Refusal::WorkTooShort);
     }
     let counted = room(list.len());
     search_checked(

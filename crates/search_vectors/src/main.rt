@@ -1,11 +1,11 @@
 // Runs the search on every case of a container and prints two lines for each: the answer, then the bytes of the list with what became
 // of the rest of the lent slices. tests/make_searches.py makes the container and the lines, and says what stands in them.
 ghost use Prim.Native.Nat.{_≤_};
-use exploring::Answer;
 use libc::STDIN_FILENO;
 use libc::STDOUT_FILENO;
 use reach::Refusal;
 use reach::Verdict;
+use results::SearchResult;
 
 // The words of the longest work slice and the bytes of the longest list slice that a case may ask for.
 const WORDS: usize = 300000;
@@ -129,17 +129,17 @@ fn print_slices<'a>(work: &'a [u32], list: &'a [u8], count: usize, spare: usize)
 fn search_case<'a>(file: &'a [u8], work: &mut [u32], list: &mut [u8]) {
     let spare = 64 * step_limit(file) + 1024;
     match search::search(file, work, list) {
-        Answer::Refused(why) => {
+        SearchResult::Refused(why) => {
             print_refused(why);
             io::write_all(STDOUT_FILENO, b"\n");
             print_slices(work, list, 0, 0);
         }
-        Answer::Complete(count, verdict) => {
+        SearchResult::Complete(count, verdict) => {
             print_verdict(verdict);
             print_count(count);
             print_slices(work, list, count, spare);
         }
-        Answer::Full(count) => {
+        SearchResult::Full(count) => {
             print_refused(Refusal::ListFull);
             io::write_all(STDOUT_FILENO, b" ");
             print_count(count);

@@ -1,14 +1,14 @@
 //! Refusals: their number, their word and what to do, with status 3, by every command.
 use crate::calling::{call, path, Scratch};
 use crate::rules::{named, stored, too_many_entries, Stored};
+use remburai::Refusal;
 
-const WORDS: [&str; 15] = [
-    "short", "mark", "range", "stranger", "code", "misfit", "tail", "hollow", "shallow", "input",
-    "bench", "full", "page", "scrap", "spelling",
-];
+fn word(number: usize) -> &'static str {
+    Refusal::ALL[number - 1].word()
+}
 
 fn see(printed: &[&str], number: usize) {
-    let begin = format!("refused {number} {}: ", WORDS[number - 1]);
+    let begin = format!("refused {number} {}: ", word(number));
     assert!(printed[0].starts_with(&begin), "{printed:?}");
     assert!(
         printed[1].starts_with("What to do: ") && printed[1].ends_with('.'),
@@ -19,7 +19,7 @@ fn see(printed: &[&str], number: usize) {
 
 #[test]
 fn of_the_check() {
-    let mut seen = [false; 16];
+    let mut seen = [false; Refusal::ALL.len() + 1];
     for case in stored().iter().filter(|case| case.whole()) {
         let Some(number) = case.last().strip_prefix("refused ") else {
             continue;
@@ -44,7 +44,7 @@ fn see_every_command(rule: &str, number: usize) {
     ] {
         let called = call(words);
         assert_eq!(called.lines(3), [format!("refused {number}")]);
-        let word = format!("remburai: refused {number} {}", WORDS[number - 1]);
+        let word = format!("remburai: refused {number} {}", word(number));
         assert!(called.said.contains(&word), "{called:?}");
     }
 }

@@ -1,9 +1,11 @@
--- `remburai::remburai_entry` meets its contract: the number packs the span that was found in the bytes that count. Rests on Answers.
-use Prim.Native.Nat.{_+_, _≤_}
+-- `remburai::remburai_entry` meets its contract: the number packs the span that was found in the bytes that count. Rests on packing's Parts.
 use native.Mathlib.Omega.{arith}
-use lib.ListN.{length-take}
+use mathlib.Core.Path.{subst, sym, _∙_}
 use borrow.Author.Needs.{needs}
-use Rattle.remburai.proofs.Answers.{end-small, no-entry-number, no-entry-part, found-inside, found-number, found-part}
+use lib.ListN.{length-take}
+use Rattle.entries.specs.Spans.{spanOf}
+use Rattle.packing.specs.Packing.{PartAt}
+use Rattle.packing.proofs.Parts.{end-small, span-ends, part-number, part-at}
 use Rattle.remburai.proofs.remburai_entry.Statement.{statement}
 use Rattle.remburai.proofs.remburai_entry.Tie as tie
 
@@ -12,35 +14,21 @@ slice-aggregate-span-of c =
     let a = c .before .before .before .args in
     omega (arith, length-take (c .before .room .result) (a .list .now), end-small (a .list .now) _ (c .before .room .ensures))
 
--- the entry lies in the bytes that count
-small : (c : tie.After-known-told) → (c .before .at .given .0 .0 + c .before .at .given .0 .1 .0 ≤ c .before .before .before .before .before .room .result) × (c .before .before .before .before .before .room .result ≤ 16777216)
-small c =
-    let found = c .before .before .before in
-    let room = found .before .before .room .ensures in
-    (found-inside (c .before .before .before .before .before .before .before .args .list .now) (c .before .before .before .before .before .before .before .args .number) _ room (found .span-of .ensures) (c .before .at .given .1), end-small (c .before .before .before .before .before .before .before .args .list .now) _ room .0)
-
-mul-result : tie.Need-mul-result
-mul-result c = omega (arith, small c .0, small c .1)
-
-add-result : tie.Need-add-result
-add-result c = omega (arith, small c .0, small c .1)
+part-number-requires : tie.Need-part-number-requires
+part-number-requires c κs =
+    let a = c .before .before .before .before .args in
+    let room = c .before .before .room .ensures in
+    (span-ends (a .list .now) (a .number) _ room (spanOf (c .span-of .result)) (c .span-of .ensures), omega (arith, end-small (a .list .now) _ room))
 
 returns : tie.Need-returns
 returns c =
-    let found = c .before .before .before in
-    let room = found .before .before .room .ensures in
+    let a = c .before .before .before .before .before .args in
+    let room = c .before .before .before .room .ensures in
+    let found = c .before .span-of in
+    let is = c .part-number .ensures in
     record {
-      number-is = found-number _ _ _ room (found .span-of .ensures) (c .before .at .given .1);
-      part-is = found-part _ _ _ room (found .span-of .ensures) (c .before .at .given .1);
-    }
-
-returns-2 : tie.Need-returns-2
-returns-2 c =
-    let found = c .before .before in
-    let room = found .before .before .room .ensures in
-    record {
-      number-is = no-entry-number _ _ _ room (found .span-of .ensures) (c .enum-told .given .1);
-      part-is = no-entry-part _ _ _ room (found .span-of .ensures) (c .enum-told .given .1);
+      number-is = is ∙ part-number (a .list .now) (a .number) _ room (spanOf (found .result)) (found .ensures);
+      part-is = subst (PartAt (a .list .now) (a .number)) (sym is) (part-at (a .list .now) (a .number) _ room (spanOf (found .result)) (found .ensures));
     }
 
 pub remburai-entry-spec : {M : Type 1} → statement M
@@ -50,9 +38,5 @@ remburai-entry-spec =
     (λ c κs. search needs)
     slice-aggregate-span-of
     (λ c κs. search needs)
-    (λ c. search needs)
-    mul-result
-    add-result
-    (λ c. search needs)
-    returns
-    returns-2)
+    part-number-requires
+    returns)

@@ -1,9 +1,8 @@
 -- `remburai::remburai_text_length` meets its contract: the number is that of the call's answer. Rests on Answers.
-use mathlib.Core.Path.{_∙_}
 use native.Mathlib.Omega.{arith}
 use borrow.Author.Needs.{needs}
 use Rattle.reach.specs.Printouts.{printoutOf, lengthAnswer}
-use Rattle.remburai.proofs.Answers.{text-number, length-text-small}
+use Rattle.remburai.proofs.Answers.{length-text-small}
 use Rattle.remburai.proofs.remburai_text_length.Statement.{statement}
 use Rattle.remburai.proofs.remburai_text_length.Tie as tie
 
@@ -16,10 +15,7 @@ text-number-requires c κs =
 returns : tie.Need-returns
 returns c =
     let args = c .before .before .before .before .args in
-    record {
-      number-is = c .text-number .ensures
-          ∙ text-number (lengthAnswer (printoutOf (args .file .now) (args .list .now) (args .full))) (c .before .text-length .result) (c .before .text-length .ensures .answer-is);
-    }
+    record { number-is = c .text-number .ensures (lengthAnswer (printoutOf (args .file .now) (args .list .now) (args .full))) (c .before .text-length .ensures .answer-is) }
 
 pub remburai-text-length-spec : {M : Type 1} → statement M
 remburai-text-length-spec =

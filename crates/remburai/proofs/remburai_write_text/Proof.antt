@@ -1,10 +1,9 @@
 -- `remburai::remburai_write_text` meets its contract: the number is that of the call's answer, and the slice is as that call leaves it. Rests on Answers.
-use mathlib.Core.Path.{_∙_}
 use native.Mathlib.Omega.{arith}
 use borrow.Author.Needs.{needs}
 use lib.ListN.{length}
 use Rattle.reach.specs.Printouts.{printoutOf, writeAnswer}
-use Rattle.remburai.proofs.Answers.{text-number, write-text-small}
+use Rattle.remburai.proofs.Answers.{write-text-small}
 use Rattle.remburai.proofs.remburai_write_text.Statement.{statement}
 use Rattle.remburai.proofs.remburai_write_text.Tie as tie
 
@@ -17,12 +16,11 @@ text-number-requires c κs =
 
 returns : tie.Need-returns
 returns c =
-    let wrote = c .before .before .before .write-text in
+    let wrote = c .before .before .before .write-text .ensures in
     let args = c .before .before .before .before .before .before .before .before .args in
     record {
-      number-is = c .text-number .ensures
-          ∙ text-number (writeAnswer (length (args .text .now)) (printoutOf (args .file .now) (args .list .now) (args .full))) (wrote .result) (wrote .ensures .answer-is);
-      text-is = wrote .ensures .text-is;
+      number-is = c .text-number .ensures (writeAnswer (length (args .text .now)) (printoutOf (args .file .now) (args .list .now) (args .full))) (wrote .answer-is);
+      text-is = wrote .text-is;
     }
 
 pub remburai-write-text-spec : {M : Type 1} → statement M

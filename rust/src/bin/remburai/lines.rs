@@ -99,7 +99,7 @@ pub fn write_refusal(form: Form, why: Refusal, out: &mut Output) -> Result<(), S
 /// Writes what a refusal says, and what to do about it.
 pub fn explain(form: Form, why: Refusal, out: &mut Output) -> Result<(), Stop> {
     tell(form, &why.to_string(), out)?;
-    tell(form, &format!("What to do: {}.", wording::advice(why)), out)
+    tell(form, &format!("What to do: {}.", why.advice()), out)
 }
 
 /// Writes a sentence that belongs to an answer for people. The other forms have no room for it, and it goes to standard error.

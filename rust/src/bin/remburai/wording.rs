@@ -1,5 +1,5 @@
 //! What an answer stands for, in sentences: never without the depth and the step limit within which it holds.
-use remburai::{Goal, Outcome, Ran, Refusal, Rule, Total, Verdict, STEP_LIMIT};
+use remburai::{Goal, Outcome, Ran, Rule, Total, Verdict, STEP_LIMIT};
 
 /// The depth and the step limit.
 pub fn limits(goal: Goal) -> String {
@@ -122,37 +122,6 @@ pub fn ran(ran: Ran, goal: Goal) -> String {
             let unknown = "whether the input reaches the target, or runs into a missing alternative, is not known";
             let more = more_steps(goal);
             format!("unfinished {}: {unknown}; {more}.", after(n))
-        }
-    }
-}
-
-/// What to do about a refusal.
-pub fn advice(why: Refusal) -> &'static str {
-    match why {
-        Refusal::Truncated => "get the file anew; it was cut off, or a length in it is wrong",
-        Refusal::UnexpectedMark => {
-            "see whether it is a rule file, which begins with TY; if so, a count before the mark is wrong"
-        }
-        Refusal::OutOfRange => "split the rule, or lower D or S",
-        Refusal::UnknownNumber | Refusal::UnknownCode | Refusal::TypeMismatch => {
-            "build the file anew from its text"
-        }
-        Refusal::TrailingBytes => {
-            "build the file anew from its text; a length is wrong, or something stands behind the end"
-        }
-        Refusal::EmptyType => "give the type a constructor that ends",
-        Refusal::DepthTooSmall => "raise D, or give a larger --depth",
-        Refusal::BadInput => {
-            "see that every constructor is one of its type, that nothing is left over, and that no value is deeper than D"
-        }
-        Refusal::WorkTooShort => "lend more words",
-        Refusal::ListFull => "lower D or S, or give a smaller --depth or --steps",
-        Refusal::TextTooShort => "lend as many bytes as the text has",
-        Refusal::BadList => {
-            "give the list that remburai list --save has stored for this rule, with the --depth and the --steps of that search"
-        }
-        Refusal::BadSpelling => {
-            "name a type of two constructors: one without fields, then one with two halves, each of a type of sixteen without fields, and the type itself"
         }
     }
 }
