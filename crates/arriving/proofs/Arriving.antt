@@ -35,7 +35,7 @@ use Rattle.choices.proofs.Weights.{power-positive, power-more, weight-kept, wei
 use Rattle.choices.proofs.Returning.{limit-few}
 use Rattle.arriving.specs.declared.Walk.{Walk}
 use Rattle.arriving.specs.declared.Moved.{Moved}
-use Rattle.arriving.specs.Moving.{endedWalk, UnderWay, EntryIn, Lists, Makes}
+use Rattle.arriving.specs.Moving.{endedWalk, UnderWay, EntryIn, PathLists, Makes}
 
 -- The model's arrival, by what comes next.
 module _ (p : Program) (table : List ℕ) (left n : ℕ) (e : Parts) (s : State) (cs : List Choice) (es : List Entry) where
@@ -153,7 +153,7 @@ module _
     -- behind the end of the path
     behind :
         (listing : PathEnd) (new : List Entry) → ((es : List Entry) → model es ≡ Model.behind cs (es ++ new))
-        → Lists g w′ (ended cells done height listing .walk) listing new → Makes g w₀ w′ bound (ended cells done height listing) first
+        → PathLists g w′ (ended cells done height listing .walk) listing new → Makes g w₀ w′ bound (ended cells done height listing) first
     behind listing new model-is lists = record {
       position = Model.over;
       choices = cs;

@@ -63,9 +63,9 @@ EntryIn g w x kind new =
     × Cells (g .program .types) (sourceSlots (g .program)) w (x .cells) e × Typed (g .program .types) (sourceTypes (g .program)) e
 
 -- the entries that a path lists at its end: none, or one
-abbrev pub Lists : Setting → List ℕ → Walk → PathEnd → List Entry → Type 0
-Lists g w x Unlisted new = new ≡ []
-Lists g w x (Listed kind) new = EntryIn g w x kind new
+abbrev pub PathLists : Setting → List ℕ → Walk → PathEnd → List Entry → Type 0
+PathLists g w x Unlisted new = new ≡ []
+PathLists g w x (Listed kind) new = EntryIn g w x kind new
 
 -- the weight of where the search stands
 abbrev pub positionWeight : ℕ → ℕ → Position → ℕ
@@ -85,12 +85,12 @@ pub record Makes (g : Setting) (w w′ : List ℕ) (bound : ℕ) (m : Moved) (mo
   pub model-is : (es : List Entry)
       → Model.moves (g .program) (leastDepths (g .program .types)) more (model es) ≡ record { position = position; choices = choices; listed = es ++ new }
   pub stands : StandsAs g w′ (m .walk) position choices
-  pub lists : Lists g w′ (m .walk) (m .listing) new
+  pub lists : PathLists g w′ (m .walk) (m .listing) new
   pub lighter : walkWeight (g .stack) (g .limit) w′ (m .walk) < bound
   pub same-length : length w′ ≡ length w
 
 -- The walk is on a path under way, at whose state the model arrives, whatever is listed already; what is left weighs no more than so much.
-pub record ComesTo (g : Setting) (w w′ : List ℕ) (bound : ℕ) (x : Walk) (model : List Entry → Model.Walk) (r : Registers) : Type 0 where
+pub record OnPath (g : Setting) (w w′ : List ℕ) (bound : ℕ) (x : Walk) (model : List Entry → Model.Walk) (r : Registers) : Type 0 where
   pub input : Parts
   pub state : State
   pub choices : List Choice
@@ -102,7 +102,7 @@ pub record ComesTo (g : Setting) (w w′ : List ℕ) (bound : ℕ) (x : Walk) (m
 
 -- or it is behind the end of the last one, and that is the model's move
 abbrev pub ResumesAt : Setting → List ℕ → List ℕ → ℕ → Walk → (List Entry → Model.Walk) → Position → Type 0
-ResumesAt g w w′ bound x model (Position.On r) = ComesTo g w w′ bound x model r
+ResumesAt g w w′ bound x model (Position.On r) = OnPath g w w′ bound x model r
 ResumesAt g w w′ bound x model Position.Over =
     Makes g w w′ bound (record { walk = endedWalk (x .cells) (x .done) (x .height); listing = Unlisted }) model
 
@@ -138,7 +138,7 @@ Takes file types functions w w′ base stack h n i k x =
     (x .going ≡ true)
     × ((least : List ℕ) (p : Program) (limit : ℕ) → Given (setting file types functions least p limit base stack)
     → (f : Forking (setting file types functions least p limit base stack) w h n i k)
-    → ComesTo (setting file types functions least p limit base stack) w w′ (weight stack limit w (suc h)) x
+    → OnPath (setting file types functions least p limit base stack) w w′ (weight stack limit w (suc h)) x
     (takeFork p (leastDepths (p .types)) (f .choice) (record { constructor = n; fields = k }) (f .next-at .rest) (f .before)) (x .registers))
 
 -- The search is not over: a path is under way, or there is a choice point.

@@ -37,7 +37,7 @@ use Rattle.choosing.specs.Entering.{AtBoundPart}
 use Rattle.registers.proofs.Waiting.{waits-control}
 use Rattle.machine.proofs.Words.{records-same}
 use Rattle.registers.proofs.Standing.{stands-after, stands-below}
-use Rattle.binding.specs.Underway.{GivenInput, Running, Underway, notedNumber, Bindable, BoundAs, Advances, AdvancesAll, ComesTo, BoundSoFar}
+use Rattle.binding.specs.Underway.{GivenInput, Running, Underway, notedNumber, Bindable, BoundAs, Advances, AdvancesAll, NextIs, BoundSoFar}
 use Rattle.binding.proofs.Bound.{head-now, first-now, no-fewer, fields-now}
 use Rattle.binding.proofs.Reached.{below-width, reached-in, reached-sound, run-goes, run-demands, run-lacks, run-stops, run-spent}
 
@@ -119,7 +119,7 @@ module _ {file types functions input : List ℕ} {p : Program} {j : Parts} (give
     }
 
     -- then the words still stand for the input that is bound so far
-    pub bound-kept : {w′ : List ℕ} → OnlyTop w w′ base (r .records) → (n : Next) → ComesTo p (now .input) s n → BoundSoFar p j done s n w′
+    pub bound-kept : {w′ : List ℕ} → OnlyTop w w′ base (r .records) → (n : Next) → NextIs p (now .input) s n → BoundSoFar p j done s n w′
     bound-kept {w′} only n comes = record {
       cells = cells;
       input = now .input;

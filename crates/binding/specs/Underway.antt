@@ -88,12 +88,12 @@ Advances file types functions input label limit w′ base done p j s cells (Next
 Advances file types functions input label limit w′ base done p j s cells (Next.Waits x) = ⊥
 
 -- what comes next on an input, where no case waits
-abbrev pub ComesTo : Program → Parts → State → Next → Type 0
-ComesTo p e s Next.Demands = Eval.next p e s ≡ Eval.demands
-ComesTo p e s Next.Lacks = Eval.next p e s ≡ Eval.lacks
-ComesTo p e s Next.Stops = (why : Eval.Stop) × (Eval.next p e s ≡ Eval.stops why)
-ComesTo p e s (Next.Goes r) = (s′ : State) × (Eval.next p e s ≡ Eval.goes s′)
-ComesTo p e s (Next.Waits x) = ⊥
+abbrev pub NextIs : Program → Parts → State → Next → Type 0
+NextIs p e s Next.Demands = Eval.next p e s ≡ Eval.demands
+NextIs p e s Next.Lacks = Eval.next p e s ≡ Eval.lacks
+NextIs p e s Next.Stops = (why : Eval.Stop) × (Eval.next p e s ≡ Eval.stops why)
+NextIs p e s (Next.Goes r) = (s′ : State) × (Eval.next p e s ≡ Eval.goes s′)
+NextIs p e s (Next.Waits x) = ⊥
 
 -- What words w stand for then: a partial input below the closed one, on which the same steps lead to state s, and what comes next does not wait.
 pub record BoundSoFar (p : Program) (j : Parts) (done : ℕ) (s : State) (n : Next) (w : List ℕ) : Type 0 where
@@ -102,7 +102,7 @@ pub record BoundSoFar (p : Program) (j : Parts) (done : ℕ) (s : State) (n : Ne
   pub stands : Cells (p .types) (sourceSlots p) w cells input
   pub below : input ⊑ j
   pub steps : Steps p input done s
-  pub comes : ComesTo p input s n
+  pub comes : NextIs p input s n
 
 -- this is said of every run that is under way in words w, and goes on in words w′
 abbrev pub AdvancesAll : List ℕ → List ℕ → List ℕ → List ℕ → ℕ → List ℕ → List ℕ → ℕ → ℕ → Registers → ℕ → Next → Type 0

@@ -1,5 +1,5 @@
 -- The bodies of the functions: one body inside its own length, and all of them in file order. One law for each answer of the code.
--- Rests on expressions' Steps, and on the answers of crate records.
+-- Rests on expressions' Passing, and on the answers of crate typerecord.
 use Prim.Native.Nat.{ℕ, suc, _+_, _≤_, _<_}
 use mathlib.Core.Path.{_≡_, refl, sym, _∙_, ap}
 use mathlib.Core.List.{List, [], _∷_, map}
@@ -15,17 +15,17 @@ use Rattle.reach.specs.Syntax.{Expr, Function}
 use Rattle.reach.specs.Reader.{Got, atEnd}
 use Rattle.reach.specs.RuleFile.{Head, Declarations, bodyOf, functionsOf}
 use Rattle.reach.specs.Places.{bytesAt, headAt}
-use Rattle.records.specs.declared.Step.{Step}
-use Rattle.records.specs.declared.Step.the-variants.{Next, Refused}
-use Rattle.records.specs.Steps.{stepOf}
-use Rattle.records.proofs.Answers.{step-got, step-refused}
+use Rattle.typerecord.specs.declared.Passed.{Passed}
+use Rattle.typerecord.specs.declared.Passed.the-variants.{Next, Refused}
+use Rattle.typerecord.specs.Passed.{passedOf}
+use Rattle.typerecord.proofs.Answers.{step-got, step-refused}
 use Rattle.lookups.specs.declared.Head as Looked
 use Rattle.lookups.specs.Heads.{headOf}
 use Rattle.lookups.proofs.Tables.{parameters-many}
 use Rattle.bodies.specs.declared.Judged.{Judged}
 use Rattle.bodies.specs.declared.Judged.the-variants as Judged
 use Rattle.expressions.specs.Readers.{declared, expressionAt, Small}
-use Rattle.expressions.proofs.Steps.{both-next}
+use Rattle.expressions.proofs.Passing.{both-next}
 use Rattle.bodies.specs.Check.{bodyAt, BodyThere, bodiesOf}
 
 -- where a body ends, and the expression in it
@@ -45,23 +45,23 @@ module _ (file : List ℕ) (place : ℕ) (h : Looked.Head) (is : headOf file h �
   pub body-length : h .body + h .size ≡ length (take (h .body + h .size) file)
   body-length = sym (length-take-le (h .body + h .size) file (omega (arith, end-is)))
 
-  module _ (types functions view : List ℕ) (v : view ≡ bytesAt file (h .parameters) (h .count)) {step : Step}
-      (told : step ≡ stepOf (expressionAt file types functions 32 view (h .result) (take (h .body + h .size) file) (h .body))) where
-    body-told : step ≡ stepOf (inside file types functions (headAt file place))
+  module _ (types functions view : List ℕ) (v : view ≡ bytesAt file (h .parameters) (h .count)) {step : Passed}
+      (told : step ≡ passedOf (expressionAt file types functions 32 view (h .result) (take (h .body + h .size) file) (h .body))) where
+    body-told : step ≡ passedOf (inside file types functions (headAt file place))
     body-told = rw (← is, ← v) told
 
-    pub body-refused : {why : Refusal} → step ≡ Refused why → step ≡ stepOf (bodyAt file types functions place)
+    pub body-refused : {why : Refusal} → step ≡ Refused why → step ≡ passedOf (bodyAt file types functions place)
     unfolding bodyOf
     body-refused e = e ∙ rw (step-refused (inside file types functions (headAt file place)) (sym body-told ∙ e))
 
     module _ {behind : ℕ} (e : step ≡ Next behind) where
-      pub body-trailing : behind < h .body + h .size → Refused TrailingBytes ≡ stepOf (bodyAt file types functions place)
+      pub body-trailing : behind < h .body + h .size → Refused TrailingBytes ≡ passedOf (bodyAt file types functions place)
       unfolding bodyOf atEnd
       body-trailing b =
           rw (step-got (inside file types functions (headAt file place)) (sym body-told ∙ e) .1, length-take-le (endOf (headAt file place)) file there)
           (rw (lt-ltb behind (endOf (headAt file place)) (omega (arith, end-is))) refl)
 
-      pub body-ends : h .body + h .size ≤ behind → Next behind ≡ stepOf (bodyAt file types functions place)
+      pub body-ends : h .body + h .size ≤ behind → Next behind ≡ passedOf (bodyAt file types functions place)
       unfolding bodyOf atEnd
       body-ends b =
           rw (step-got (inside file types functions (headAt file place)) (sym body-told ∙ e) .1, length-take-le (endOf (headAt file place)) file there)
@@ -76,10 +76,10 @@ few-parameters {file} {f = f} small more h is = omega (arith, parameters-many fi
 -- the bodies from number f on; the place behind them is left out
 abbrev pub bodiesFrom : List ℕ → List ℕ → List ℕ → ℕ → Judged
 bodiesFrom file types functions f =
-    bodiesOf (stepOf (functionsOf (declared file types functions) (map (headAt file) (drop f functions)) file 0))
+    bodiesOf (passedOf (functionsOf (declared file types functions) (map (headAt file) (drop f functions)) file 0))
 
 -- no body is read from the place behind the one before
-anywhere : (d : Declarations) (s : List ℕ) (hs : List Head) (i j : ℕ) → bodiesOf (stepOf (functionsOf d hs s i)) ≡ bodiesOf (stepOf (functionsOf d hs s j))
+anywhere : (d : Declarations) (s : List ℕ) (hs : List Head) (i j : ℕ) → bodiesOf (passedOf (functionsOf d hs s i)) ≡ bodiesOf (passedOf (functionsOf d hs s j))
 unfolding functionsOf
 anywhere d s [] i j = refl
 anywhere d s (h ∷ hs) i j = refl
@@ -95,7 +95,7 @@ module _ (file types functions : List ℕ) (f : ℕ) where
   abbrev others : List Head
   others = map (headAt file) (drop (suc f) functions)
 
-  module _ (more : f < length functions) {step : Step} (told : step ≡ stepOf (bodyOf d first file)) where
+  module _ (more : f < length functions) {step : Passed} (told : step ≡ passedOf (bodyOf d first file)) where
     pub body-next : {next : ℕ} → step ≡ Next next → bodiesFrom file types functions (f + 1) ≡ bodiesFrom file types functions f
     unfolding functionsOf
     body-next {next} e =

@@ -7,8 +7,8 @@ use Rattle.reach.specs.Syntax.{Expr, Function}
 use Rattle.reach.specs.Reader.{Got}
 use Rattle.reach.specs.RuleFile.{bodyOf, functionsOf}
 use Rattle.reach.specs.Places.{headAt}
-use Rattle.records.specs.declared.Step.{Step}
-use Rattle.records.specs.declared.Step.the-variants.{Next, Refused}
+use Rattle.typerecord.specs.declared.Passed.{Passed}
+use Rattle.typerecord.specs.declared.Passed.the-variants.{Next, Refused}
 use Rattle.expressions.specs.Readers.{declared}
 use Rattle.bodies.specs.declared.Judged.{Judged}
 use Rattle.bodies.specs.declared.Judged.the-variants as Judged
@@ -30,6 +30,6 @@ module _ (file types functions : List ℕ) where
   functionsAt = functionsOf (declared file types functions) (map (headAt file) functions) file 0
 
 -- whether all was read, the place apart
-abbrev pub bodiesOf : Step → Judged
+abbrev pub bodiesOf : Passed → Judged
 bodiesOf (Next next) = Judged.Fit
 bodiesOf (Refused why) = Judged.Refused why

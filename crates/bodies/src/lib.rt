@@ -1,9 +1,9 @@
 // The third pass over a rule file: bodies. Each is checked inside its own length, and nothing follows its expression there.
-// Rests on crates records, lookups and expressions.
+// Rests on crates typerecord, lookups and expressions.
 ghost use mathlib.Core.Path.{_≡_};
 ghost use Prim.Native.Nat.{_<_};
 ghost use lib.ListN.{length, getD};
-ghost use Rattle.records.specs.Steps.{stepOf};
+ghost use Rattle.typerecord.specs.Passed.{passedOf};
 ghost use Rattle.expressions.specs.Readers.{Small};
 ghost use Rattle.bodies.specs.Check.{BodyThere, bodyAt, BodiesThere, functionsAt, bodiesOf};
 use expressions::View;
@@ -11,7 +11,7 @@ use expressions::expression;
 use expressions::extended;
 use lookups::head_of;
 use reach::Refusal;
-use records::Step;
+use typerecord::Passed;
 
 const NESTING_LIMIT: usize = 32;
 
@@ -22,9 +22,9 @@ pub enum Judged {
 }
 
 // The body of function f, and nothing behind its expression.
-fn body_of<'a>(file: &'a [u8], types: &'a [u16], functions: &'a [u16], f: usize) -> Step
+fn body_of<'a>(file: &'a [u8], types: &'a [u16], functions: &'a [u16], f: usize) -> Passed
     requires { ⌜ Small (now file) (now types) (now functions) × (f < length (now functions)) × BodyThere (now file) (getD (now functions) f 0) ⌝ }
-    ensures { λ r. ⌜ r ≡ stepOf (bodyAt (now (file .entry)) (now (types .entry)) (now (functions .entry)) (getD (now (functions .entry)) f 0)) ⌝ }
+    ensures { λ r. ⌜ r ≡ passedOf (bodyAt (now (file .entry)) (now (types .entry)) (now (functions .entry)) (getD (now (functions .entry)) f 0)) ⌝ }
 {
     let head = head_of(file, functions, f);
     let end = head.body + head.size;
@@ -44,11 +44,11 @@ fn body_of<'a>(file: &'a [u8], types: &'a [u16], functions: &'a [u16], f: usize)
         parameters,
         head.result,
     );
-    let Step::Next(behind) = step else {
+    let Passed::Next(behind) = step else {
         return step;
     };
     if behind < end {
-        return Step::Refused(Refusal::TrailingBytes);
+        return Passed::Refused(Refusal::TrailingBytes);
     }
     step
 }
@@ -56,11 +56,11 @@ fn body_of<'a>(file: &'a [u8], types: &'a [u16], functions: &'a [u16], f: usize)
 // All bodies, in file order.
 pub fn bodies<'a>(file: &'a [u8], types: &'a [u16], functions: &'a [u16]) -> Judged
     requires { ⌜ Small (now file) (now types) (now functions) × BodiesThere (now file) (now functions) ⌝ }
-    ensures { λ r. ⌜ r ≡ bodiesOf (stepOf (functionsAt (now (file .entry)) (now (types .entry)) (now (functions .entry)))) ⌝ }
+    ensures { λ r. ⌜ r ≡ bodiesOf (passedOf (functionsAt (now (file .entry)) (now (types .entry)) (now (functions .entry)))) ⌝ }
 {
     let mut f: usize = 0;
     while f < functions.len() {
-        if let Step::Refused(why) = body_of(file, types, functions, f) {
+        if let Passed::Refused(why) = body_of(file, types, functions, f) {
             return Judged::Refused(why);
         }
         f += 1;

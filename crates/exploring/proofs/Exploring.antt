@@ -32,7 +32,7 @@ use Rattle.choices.proofs.Returning.{limit-few}
 use Rattle.arriving.specs.declared.Position.the-variants as Position
 use Rattle.arriving.specs.declared.Walk.{Walk}
 use Rattle.arriving.specs.declared.Moved.{Moved}
-use Rattle.arriving.specs.Moving.{positionOf, PositionAt, StandsAs, EntryIn, Lists, walkWeight, Makes, ActiveAt, Active, SearchStands, Moves}
+use Rattle.arriving.specs.Moving.{positionOf, PositionAt, StandsAs, EntryIn, PathLists, walkWeight, Makes, ActiveAt, Active, SearchStands, Moves}
 use Rattle.listing.specs.declared.Written.{Written}
 use Rattle.listing.specs.declared.Written.the-variants as Written
 use Rattle.listing.specs.Entry.{InputIn, Listable, entryFor, WroteFor, WroteEntry}
@@ -171,8 +171,8 @@ module _ {file types functions least : List ℕ} {label : ℕ} {w₀ : List ℕ}
       pub move-length : SomeBegins file types functions least label w₀ limit base stack parameters from → length w′ ≡ length w₀
       move-length (p, begins) = makes p begins .same-length ∙ same-length
 
-      lists : (p : Program) (begins : Begins (setting file types functions least p limit base stack) label w₀ parameters from) (listing : PathEnd) → m .listing ≡ listing → Lists (setting file types functions least p limit base stack) w′ (m .walk) listing (makes p begins .new)
-      lists p begins listing is = subst (λ y. Lists (setting file types functions least p limit base stack) w′ (m .walk) y (makes p begins .new)) is (makes p begins .lists)
+      lists : (p : Program) (begins : Begins (setting file types functions least p limit base stack) label w₀ parameters from) (listing : PathEnd) → m .listing ≡ listing → PathLists (setting file types functions least p limit base stack) w′ (m .walk) listing (makes p begins .new)
+      lists p begins listing is = subst (λ y. PathLists (setting file types functions least p limit base stack) w′ (m .walk) y (makes p begins .new)) is (makes p begins .lists)
 
       owed-after :
           (p : Program) (begins : Begins (setting file types functions least p limit base stack) label w₀ parameters from) (new : List Entry) → makes p begins .new ≡ new

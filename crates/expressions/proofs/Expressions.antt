@@ -1,6 +1,6 @@
 -- The kinds of expression: what the definition's reader gives at each place where the code answers, one law for each answer. The code's own
 -- values stand beside the definition's, with the equations that the code's calls ensure.
--- Rests on Tables, Views and Steps.
+-- Rests on Tables, Views and Passing.
 use Prim.Native.Nat.{ℕ, _-_, _≤_, _<_}
 use mathlib.Core.Path.{_≡_, sym, _∙_, ap}
 use mathlib.Core.Bool.{Bool, true, false, not}
@@ -17,10 +17,10 @@ use Rattle.reach.specs.Reader.{got, refused, _>>=_, give, byte}
 use Rattle.reach.specs.RuleFile as RuleFile
 use Rattle.reach.specs.RuleFile.{Below, operandsOf, alternatives, variableExpr, callOf, callExpr, constructOf, constructExpr, caseOf, caseExpr, letExpr, targetExpr, expressionBy}
 use Rattle.reach.specs.Places.{bytesAt, constructorsAt, typeAt, headAt, declarationsAt}
-use Rattle.records.specs.declared.Step.{Step}
-use Rattle.records.specs.declared.Step.the-variants.{Next, Refused}
-use Rattle.records.specs.Steps.{stepOf}
-use Rattle.records.proofs.Answers.{step-mapped}
+use Rattle.typerecord.specs.declared.Passed.{Passed}
+use Rattle.typerecord.specs.declared.Passed.the-variants.{Next, Refused}
+use Rattle.typerecord.specs.Passed.{passedOf}
+use Rattle.typerecord.proofs.Answers.{step-mapped}
 use Rattle.expressions.specs.declared.View.{View}
 use Rattle.lookups.specs.declared.Fields.{Fields}
 use Rattle.lookups.specs.declared.Fields.the-variants as Fields
@@ -31,12 +31,12 @@ use Rattle.lookups.specs.Heads.{headOf}
 use Rattle.expressions.specs.Readers.{viewOf, Limits, declared, expressionAt, variableAt, callAt, constructAt, caseAt, letAt, targetAt}
 use Rattle.lookups.proofs.Tables.{found, missing, parameters-are}
 use Rattle.expressions.proofs.Views.{limits-over, limits-kept, limits-nested}
-use Rattle.expressions.proofs.Steps.{both-next, first-refused, below-is, expression-is}
+use Rattle.expressions.proofs.Passing.{both-next, first-refused, below-is, expression-is}
 
 -- A variable: its byte b is the variable's number, n to the code.
 module _ (left : ℕ) (view : View) (expected : ℕ) (s : List ℕ) (at : ℕ) where
-  abbrev variableStep : Step
-  variableStep = stepOf (variableAt left (viewOf view) expected s at)
+  abbrev variableStep : Passed
+  variableStep = passedOf (variableAt left (viewOf view) expected s at)
 
   pub variable-short : byte s at ≡ refused Truncated → Refused Truncated ≡ variableStep
   unfolding variableExpr
@@ -74,20 +74,20 @@ module _ (file types functions : List ℕ) (left : ℕ) (view : View) (expected 
   abbrev inner : Below
   inner = expressionAt file types functions (left - 1)
 
-  abbrev callStep : Step
-  callStep = stepOf (callAt file types functions left (viewOf view) expected s at)
+  abbrev callStep : Passed
+  callStep = passedOf (callAt file types functions left (viewOf view) expected s at)
 
-  abbrev constructStep : Step
-  constructStep = stepOf (constructAt file types functions left (viewOf view) expected s at)
+  abbrev constructStep : Passed
+  constructStep = passedOf (constructAt file types functions left (viewOf view) expected s at)
 
-  abbrev caseStep : Step
-  caseStep = stepOf (caseAt file types functions left (viewOf view) expected s at)
+  abbrev caseStep : Passed
+  caseStep = passedOf (caseAt file types functions left (viewOf view) expected s at)
 
-  abbrev letStep : Step
-  letStep = stepOf (letAt file types functions left (viewOf view) expected s at)
+  abbrev letStep : Passed
+  letStep = passedOf (letAt file types functions left (viewOf view) expected s at)
 
-  abbrev targetStep : Step
-  targetStep = stepOf (targetAt file types functions left (viewOf view) expected s at)
+  abbrev targetStep : Passed
+  targetStep = passedOf (targetAt file types functions left (viewOf view) expected s at)
 
   -- A call: its byte b is the function's number, f to the code.
   pub call-short : byte s at ≡ refused Truncated → Refused Truncated ≡ callStep
@@ -120,7 +120,7 @@ module _ (file types functions : List ℕ) (left : ℕ) (view : View) (expected 
             rw (read, found (headAt file) functions 0 b (omega arith), limits-kept l kept, ne-eqb _ _ (λ x. e (call-result ∙ x)))
 
         pub call-goes : h .result ≡ expected
-            → {end : Step} → end ≡ stepOf (operandsOf inner (viewOf view) (bytesAt file (h .parameters) (h .count)) s next) → end ≡ callStep
+            → {end : Passed} → end ≡ passedOf (operandsOf inner (viewOf view) (bytesAt file (h .parameters) (h .count)) s next) → end ≡ callStep
         unfolding callExpr callOf declarationsAt
         call-goes e ends =
             ends
@@ -159,7 +159,7 @@ module _ (file types functions : List ℕ) (left : ℕ) (view : View) (expected 
               rw (read, again, fields-are, e, limits-kept l kept, ne-eqb b expected (λ y. x (same ∙ y)))
 
           pub construct-goes : t ≡ expected
-              → {end : Step} → end ≡ stepOf (operandsOf inner (viewOf view) (bytesAt file first n) s next) → end ≡ constructStep
+              → {end : Passed} → end ≡ passedOf (operandsOf inner (viewOf view) (bytesAt file first n) s next) → end ≡ constructStep
           unfolding constructExpr constructOf declarationsAt
           construct-goes x ends =
               ends
@@ -182,8 +182,8 @@ module _ (file types functions : List ℕ) (left : ℕ) (view : View) (expected 
       unfolding caseExpr caseOf declarationsAt
       case-over e = rw (read, found (typeAt file) types 0 b (omega arith), limits-over l e)
 
-      module _ (kept : not r ≡ false) {step : Step} (told : step ≡ stepOf (inner (viewOf view) t s next)) where
-        subject : step ≡ stepOf (inner (viewOf view) b s next)
+      module _ (kept : not r ≡ false) {step : Passed} (told : step ≡ passedOf (inner (viewOf view) t s next)) where
+        subject : step ≡ passedOf (inner (viewOf view) b s next)
         subject = rw (← same) told
 
         pub case-refused : {why : Refusal} → step ≡ Refused why → step ≡ caseStep
@@ -197,7 +197,7 @@ module _ (file types functions : List ℕ) (left : ℕ) (view : View) (expected 
             s next (sym subject ∙ e)))
 
         pub case-goes : {first : ℕ} → step ≡ Next first → (all : Constructors) → constructorsAt file (all .at) (all .count) ≡ typeAt file (getD types t 0)
-            → {end : Step} → end ≡ stepOf (alternatives inner (viewOf view) expected (constructorsAt file (all .at) (all .count)) s first) → end ≡ caseStep
+            → {end : Passed} → end ≡ passedOf (alternatives inner (viewOf view) expected (constructorsAt file (all .at) (all .count)) s first) → end ≡ caseStep
         unfolding caseExpr caseOf declarationsAt
         case-goes e all is ends =
             ends
@@ -224,8 +224,8 @@ module _ (file types functions : List ℕ) (left : ℕ) (view : View) (expected 
       unfolding letExpr declarationsAt
       let-over e = rw (read, many, lt-ltb b (length types) (omega arith), limits-over l e)
 
-      module _ (kept : not r ≡ false) {step : Step} (told : step ≡ stepOf (inner (viewOf view) t s next)) where
-        bound : step ≡ stepOf (inner (viewOf view) b s next)
+      module _ (kept : not r ≡ false) {step : Passed} (told : step ≡ passedOf (inner (viewOf view) t s next)) where
+        bound : step ≡ passedOf (inner (viewOf view) b s next)
         bound = rw (← same) told
 
         pub let-refused : {why : Refusal} → step ≡ Refused why → step ≡ letStep
@@ -239,7 +239,7 @@ module _ (file types functions : List ℕ) (left : ℕ) (view : View) (expected 
             s next (sym bound ∙ e)))
 
         pub let-goes : {behind : ℕ} → step ≡ Next behind → (wider : View) → viewOf wider ≡ viewOf view ++ (t ∷ [])
-            → {end : Step} → end ≡ stepOf (inner (viewOf wider) expected s behind) → end ≡ letStep
+            → {end : Passed} → end ≡ passedOf (inner (viewOf wider) expected s behind) → end ≡ letStep
         unfolding letExpr declarationsAt
         let-goes e wider w ends =
             ends
@@ -256,7 +256,7 @@ module _ (file types functions : List ℕ) (left : ℕ) (view : View) (expected 
     unfolding targetExpr
     target-over e = rw (read, limits-over l e)
 
-    pub target-goes : not r ≡ false → {end : Step} → end ≡ stepOf (inner (viewOf view) expected s next) → end ≡ targetStep
+    pub target-goes : not r ≡ false → {end : Passed} → end ≡ passedOf (inner (viewOf view) expected s next) → end ≡ targetStep
     unfolding targetExpr
     target-goes e ends =
         ends
@@ -265,8 +265,8 @@ module _ (file types functions : List ℕ) (left : ℕ) (view : View) (expected 
 
 -- An expression: its code b, and what the kind of that code reads behind it.
 module _ (file types functions : List ℕ) (left : ℕ) (view : List ℕ) (expected : ℕ) (s : List ℕ) (at : ℕ) where
-  abbrev expressionStep : Step
-  expressionStep = stepOf (expressionAt file types functions left view expected s at)
+  abbrev expressionStep : Passed
+  expressionStep = passedOf (expressionAt file types functions left view expected s at)
 
   pub expression-short : byte s at ≡ refused Truncated → Refused Truncated ≡ expressionStep
   unfolding expressionBy
@@ -274,32 +274,32 @@ module _ (file types functions : List ℕ) (left : ℕ) (view : List ℕ) (expec
 
   module _ {b next : ℕ} (read : byte s at ≡ got b next) where
     pub expression-variable : b ≡ 0
-        → {end : Step} → end ≡ stepOf (variableAt left view expected s next) → end ≡ expressionStep
+        → {end : Passed} → end ≡ passedOf (variableAt left view expected s next) → end ≡ expressionStep
     unfolding expressionBy variableExpr
     expression-variable e ends = ends ∙ rw (expression-is (declared file types functions) left, read, e)
 
     pub expression-call : b ≡ 1
-        → {end : Step} → end ≡ stepOf (callAt file types functions left view expected s next) → end ≡ expressionStep
+        → {end : Passed} → end ≡ passedOf (callAt file types functions left view expected s next) → end ≡ expressionStep
     unfolding expressionBy
     expression-call e ends = ends ∙ rw (expression-is (declared file types functions) left, read, e)
 
     pub expression-construct : b ≡ 2
-        → {end : Step} → end ≡ stepOf (constructAt file types functions left view expected s next) → end ≡ expressionStep
+        → {end : Passed} → end ≡ passedOf (constructAt file types functions left view expected s next) → end ≡ expressionStep
     unfolding expressionBy
     expression-construct e ends = ends ∙ rw (expression-is (declared file types functions) left, read, e)
 
     pub expression-case : b ≡ 3
-        → {end : Step} → end ≡ stepOf (caseAt file types functions left view expected s next) → end ≡ expressionStep
+        → {end : Passed} → end ≡ passedOf (caseAt file types functions left view expected s next) → end ≡ expressionStep
     unfolding expressionBy
     expression-case e ends = ends ∙ rw (expression-is (declared file types functions) left, read, e)
 
     pub expression-let : b ≡ 4
-        → {end : Step} → end ≡ stepOf (letAt file types functions left view expected s next) → end ≡ expressionStep
+        → {end : Passed} → end ≡ passedOf (letAt file types functions left view expected s next) → end ≡ expressionStep
     unfolding expressionBy
     expression-let e ends = ends ∙ rw (expression-is (declared file types functions) left, read, e)
 
     pub expression-target : b ≡ 5
-        → {end : Step} → end ≡ stepOf (targetAt file types functions left view expected s next) → end ≡ expressionStep
+        → {end : Passed} → end ≡ passedOf (targetAt file types functions left view expected s next) → end ≡ expressionStep
     unfolding expressionBy
     expression-target e ends = ends ∙ rw (expression-is (declared file types functions) left, read, e)
 

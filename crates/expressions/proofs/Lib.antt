@@ -1,5 +1,5 @@
 pub mod Tables
 pub mod Views
-pub mod Steps
+pub mod Passing
 pub mod Expressions
 pub mod Sequences

@@ -1,6 +1,6 @@
 -- Operands and alternatives: an expression for each of the types that stand in the file, and a byte with or without an expression for each of the
 -- constructors. Each law says what the definition gives where the code's loop goes on, is refused, or ends.
--- Rests on Tables and Steps.
+-- Rests on Tables and Passing.
 use Prim.Native.Nat.{ℕ, _+_, _-_, _≤_, _<_}
 use mathlib.Core.Path.{_≡_, refl, sym, _∙_}
 use mathlib.Core.Bool.{Bool, true, false}
@@ -16,16 +16,16 @@ use Rattle.reach.specs.Syntax.{Expr, _∷ₑ_, Alternatives, absent, present}
 use Rattle.reach.specs.Reader.{Got, got, refused, onGot, Reader, _>>=_, _>>_, give, demand, byte}
 use Rattle.reach.specs.RuleFile.{Below, operandsOf, alternatives}
 use Rattle.reach.specs.Places.{bytesAt, constructorsAt}
-use Rattle.records.specs.declared.Step.{Step}
-use Rattle.records.specs.declared.Step.the-variants.{Next, Refused}
-use Rattle.records.specs.Steps.{stepOf}
-use Rattle.records.proofs.Answers.{step-mapped}
+use Rattle.typerecord.specs.declared.Passed.{Passed}
+use Rattle.typerecord.specs.declared.Passed.the-variants.{Next, Refused}
+use Rattle.typerecord.specs.Passed.{passedOf}
+use Rattle.typerecord.proofs.Answers.{step-mapped}
 use Rattle.expressions.specs.Readers.{expressionAt, operandsAt, alternativesAt, alternativeAt}
 use Rattle.lookups.proofs.Tables.{bytes-more, bytes-none, constructors-more, constructors-none}
-use Rattle.expressions.proofs.Steps.{both-next, first-refused}
+use Rattle.expressions.proofs.Passing.{both-next, first-refused}
 
 -- a step that goes on from the place behind another one
-abbrev after : Step → (ℕ → Step) → Step
+abbrev after : Passed → (ℕ → Passed) → Passed
 after (Next next) go = go next
 after (Refused why) go = Refused why
 
@@ -34,12 +34,12 @@ module _ (file types functions : List ℕ) (left : ℕ) (view s : List ℕ) wher
   reader = expressionAt file types functions left
 
   -- The operands for the n types from place i on.
-  abbrev operandsStep : ℕ → ℕ → ℕ → Step
-  operandsStep at i n = stepOf (operandsAt file types functions left view (bytesAt file i n) s at)
+  abbrev operandsStep : ℕ → ℕ → ℕ → Passed
+  operandsStep at i n = passedOf (operandsAt file types functions left view (bytesAt file i n) s at)
 
   -- one of more than none: its step is known to the code, which took its type from the file
-  module _ (at i n : ℕ) (more : 0 < n) {t : ℕ} (same : t ≡ getD file i 0) {step : Step} (told : step ≡ stepOf (reader view t s at)) where
-    operand : step ≡ stepOf (reader view (getD file i 0) s at)
+  module _ (at i n : ℕ) (more : 0 < n) {t : ℕ} (same : t ≡ getD file i 0) {step : Passed} (told : step ≡ passedOf (reader view t s at)) where
+    operand : step ≡ passedOf (reader view (getD file i 0) s at)
     operand = rw (← same) told
 
     pub operand-next : {next : ℕ} → step ≡ Next next → operandsStep next (i + 1) (n - 1) ≡ operandsStep at i n
@@ -65,8 +65,8 @@ module _ (file types functions : List ℕ) (left : ℕ) (view s : List ℕ) wher
   module _ (expected : ℕ) where
     module _ (us : List ℕ) (at : ℕ) where
       -- One alternative, for a constructor with these fields: a byte b, and behind a 1 an expression that sees the fields too.
-      abbrev alternativeStep : Step
-      alternativeStep = stepOf (alternativeAt file types functions left view expected us s at)
+      abbrev alternativeStep : Passed
+      alternativeStep = passedOf (alternativeAt file types functions left view expected us s at)
 
       pub alternative-short : byte s at ≡ refused Truncated → Refused Truncated ≡ alternativeStep
       unfolding alternativeAt
@@ -82,7 +82,7 @@ module _ (file types functions : List ℕ) (left : ℕ) (view s : List ℕ) wher
         alternative-none e = rw (read, e)
 
         pub alternative-goes : b ≤ 1 → (b ≡ 0 → ⊥) → (wider : List ℕ) → wider ≡ view ++ us
-            → {end : Step} → end ≡ stepOf (reader wider expected s next) → end ≡ alternativeStep
+            → {end : Passed} → end ≡ passedOf (reader wider expected s next) → end ≡ alternativeStep
         unfolding alternativeAt
         alternative-goes h e wider w ends =
             ends
@@ -102,42 +102,42 @@ module _ (file types functions : List ℕ) (left : ℕ) (view s : List ℕ) wher
         alone nothing = pick nothing (give none) (reader (view ++ us) expected >>= λ e. give (some e))
 
         chosen-steps : (nothing : Bool) (next : ℕ)
-            → stepOf (chosen nothing s next)
-            ≡ after (stepOf (alone nothing s next)) (λ behind. stepOf (rest s behind))
+            → passedOf (chosen nothing s next)
+            ≡ after (passedOf (alone nothing s next)) (λ behind. passedOf (rest s behind))
         chosen-steps true next = step-mapped absent (rest s next)
         chosen-steps false next = by (reader (view ++ us) expected s next)
           where
             by : (g : Got Expr)
-                → stepOf (onGot {B = Got Alternatives} (λ e behind. (rest >>= λ xs. give (present e xs)) s behind) (λ why. refused why) g)
-                ≡ after (stepOf (onGot {B = Got (Option Expr)} (λ e behind. got (some e) behind) (λ why. refused why) g))
-                (λ behind. stepOf (rest s behind))
+                → passedOf (onGot {B = Got Alternatives} (λ e behind. (rest >>= λ xs. give (present e xs)) s behind) (λ why. refused why) g)
+                ≡ after (passedOf (onGot {B = Got (Option Expr)} (λ e behind. got (some e) behind) (λ why. refused why) g))
+                (λ behind. passedOf (rest s behind))
             by (got e behind) = step-mapped (present e) (rest s behind)
             by (refused why) = refl
 
         tested-steps : (known nothing : Bool) (next : ℕ)
-            → stepOf ((demand known UnknownCode >> chosen nothing) s next)
-            ≡ after (stepOf ((demand known UnknownCode >> alone nothing) s next)) (λ behind. stepOf (rest s behind))
+            → passedOf ((demand known UnknownCode >> chosen nothing) s next)
+            ≡ after (passedOf ((demand known UnknownCode >> alone nothing) s next)) (λ behind. passedOf (rest s behind))
         tested-steps true nothing next = chosen-steps nothing next
         tested-steps false nothing next = refl
 
-        alternatives-steps : stepOf (alternatives reader view expected (us ∷ cs) s at) ≡ after alternativeStep (λ behind. stepOf (rest s behind))
+        alternatives-steps : passedOf (alternatives reader view expected (us ∷ cs) s at) ≡ after alternativeStep (λ behind. passedOf (rest s behind))
         unfolding alternatives alternativeAt
         alternatives-steps = by (byte s at)
           where
             by : (g : Got ℕ)
-                → stepOf (onGot {B = Got Alternatives} (λ b next. (demand (leb b 1) UnknownCode >> chosen (eqb b 0)) s next) (λ why. refused why) g)
-                ≡ after (stepOf (onGot {B = Got (Option Expr)} (λ b next. (demand (leb b 1) UnknownCode >> alone (eqb b 0)) s next) (λ why. refused why) g))
-                (λ behind. stepOf (rest s behind))
+                → passedOf (onGot {B = Got Alternatives} (λ b next. (demand (leb b 1) UnknownCode >> chosen (eqb b 0)) s next) (λ why. refused why) g)
+                ≡ after (passedOf (onGot {B = Got (Option Expr)} (λ b next. (demand (leb b 1) UnknownCode >> alone (eqb b 0)) s next) (λ why. refused why) g))
+                (λ behind. passedOf (rest s behind))
             by (got b next) = tested-steps (leb b 1) (eqb b 0) next
             by (refused why) = refl
 
     -- The alternatives for the n constructors from place i on.
-    abbrev alternativesStep : ℕ → ℕ → ℕ → Step
-    alternativesStep at i n = stepOf (alternativesAt file types functions left view expected (constructorsAt file i n) s at)
+    abbrev alternativesStep : ℕ → ℕ → ℕ → Passed
+    alternativesStep at i n = passedOf (alternativesAt file types functions left view expected (constructorsAt file i n) s at)
 
     -- one of more than none: its step is known to the code, which took its number of fields from the file
     module _ (at i n : ℕ) (more : 0 < n) {fields : ℕ} (same : fields ≡ getD file i 0)
-        {step : Step} (told : step ≡ alternativeStep (bytesAt file (i + 1) fields) at) where
+        {step : Passed} (told : step ≡ alternativeStep (bytesAt file (i + 1) fields) at) where
       alternatives-step : alternativesStep at i n ≡ after step (λ next. alternativesStep next (i + 1 + fields) (n - 1))
       alternatives-step =
           rw (constructors-more file i n more, ← same, told)

@@ -1,10 +1,10 @@
 // The check of an expression, that of its operands and that of its alternatives, which call each other; the nesting that is left falls. Records of types
-// and functions are looked at where the first pass found them. Rests on crates marks, records and lookups.
+// and functions are looked at where the first pass found them. Rests on crates marks, typerecord and lookups.
 ghost use mathlib.Core.Path.{_≡_};
 ghost use mathlib.Core.List.{[], _∷_, _++_};
 ghost use Prim.Native.Nat.{_+_, _≤_};
 ghost use Rattle.reach.specs.Places.{bytesAt, constructorsAt};
-ghost use Rattle.records.specs.Steps.{stepOf};
+ghost use Rattle.typerecord.specs.Passed.{passedOf};
 ghost use Rattle.expressions.specs.Readers.{viewOf, Limits, Small, Narrow, variableAt, callAt, constructAt, caseAt, letAt, targetAt, expressionAt, operandsAt, alternativeAt, alternativesAt};
 use lookups::Fields;
 use lookups::constructors_of;
@@ -15,7 +15,7 @@ use marks::byte_or_zero;
 use marks::take_byte;
 use marks::wide;
 use reach::Refusal;
-use records::Step;
+use typerecord::Passed;
 
 const VIEW_LIMIT: usize = 32;
 
@@ -67,24 +67,24 @@ fn in_limits(left: usize, view: View) -> bool
 }
 
 // A variable: its number; its type is that of the view.
-fn variable(body: &[u8], at: usize, left: usize, view: View, expected: usize) -> Step
+fn variable(body: &[u8], at: usize, left: usize, view: View, expected: usize) -> Passed
     requires { ⌜ view .count ≤ 38 ⌝ }
-    ensures { λ r. ⌜ r ≡ stepOf (variableAt left (viewOf view) expected (now (body .entry)) at) ⌝ }
+    ensures { λ r. ⌜ r ≡ passedOf (variableAt left (viewOf view) expected (now (body .entry)) at) ⌝ }
 {
     let Taken::Byte(number, next) = take_byte(body, at) else {
-        return Step::Refused(Refusal::Truncated);
+        return Passed::Refused(Refusal::Truncated);
     };
     let n = wide(number);
     if view.count <= n {
-        return Step::Refused(Refusal::UnknownNumber);
+        return Passed::Refused(Refusal::UnknownNumber);
     }
     if !in_limits(left, view) {
-        return Step::Refused(Refusal::OutOfRange);
+        return Passed::Refused(Refusal::OutOfRange);
     }
     if wide(view.types[n]) != expected {
-        return Step::Refused(Refusal::TypeMismatch);
+        return Passed::Refused(Refusal::TypeMismatch);
     }
-    Step::Next(next)
+    Passed::Next(next)
 }
 
 // An expression, which may nest so many deep: its code, and what its kind reads behind it.
@@ -97,12 +97,12 @@ pub fn expression<'a>(
     left: usize,
     view: View,
     expected: usize,
-) -> Step
+) -> Passed
     requires { ⌜ Small (now file) (now types) (now functions) × (view .count ≤ 38) ⌝ }
-    ensures { λ r. ⌜ r ≡ stepOf (expressionAt (now (file .entry)) (now (types .entry)) (now (functions .entry)) left (viewOf view) expected (now (body .entry)) at) ⌝ }
+    ensures { λ r. ⌜ r ≡ passedOf (expressionAt (now (file .entry)) (now (types .entry)) (now (functions .entry)) left (viewOf view) expected (now (body .entry)) at) ⌝ }
 {
     let Taken::Byte(code, next) = take_byte(body, at) else {
-        return Step::Refused(Refusal::Truncated);
+        return Passed::Refused(Refusal::Truncated);
     };
     match code {
         0 => variable(body, next, left, view, expected),
@@ -111,7 +111,7 @@ pub fn expression<'a>(
         3 => case(file, body, types, functions, next, left, view, expected),
         4 => let_expression(file, body, types, functions, next, left, view, expected),
         5 => target(file, body, types, functions, next, left, view, expected),
-        _ => Step::Refused(Refusal::UnknownCode),
+        _ => Passed::Refused(Refusal::UnknownCode),
     }
 }
 
@@ -125,23 +125,23 @@ fn call<'a>(
     left: usize,
     view: View,
     expected: usize,
-) -> Step
+) -> Passed
     requires { ⌜ Small (now file) (now types) (now functions) × (view .count ≤ 38) ⌝ }
-    ensures { λ r. ⌜ r ≡ stepOf (callAt (now (file .entry)) (now (types .entry)) (now (functions .entry)) left (viewOf view) expected (now (body .entry)) at) ⌝ }
+    ensures { λ r. ⌜ r ≡ passedOf (callAt (now (file .entry)) (now (types .entry)) (now (functions .entry)) left (viewOf view) expected (now (body .entry)) at) ⌝ }
 {
     let Taken::Byte(number, next) = take_byte(body, at) else {
-        return Step::Refused(Refusal::Truncated);
+        return Passed::Refused(Refusal::Truncated);
     };
     let f = wide(number);
     if functions.len() <= f {
-        return Step::Refused(Refusal::UnknownNumber);
+        return Passed::Refused(Refusal::UnknownNumber);
     }
     if !in_limits(left, view) {
-        return Step::Refused(Refusal::OutOfRange);
+        return Passed::Refused(Refusal::OutOfRange);
     }
     let head = head_of(file, functions, f);
     if head.result != expected {
-        return Step::Refused(Refusal::TypeMismatch);
+        return Passed::Refused(Refusal::TypeMismatch);
     }
     operands(
         file,
@@ -166,25 +166,25 @@ fn construct<'a>(
     left: usize,
     view: View,
     expected: usize,
-) -> Step
+) -> Passed
     requires { ⌜ Small (now file) (now types) (now functions) × (view .count ≤ 38) ⌝ }
-    ensures { λ r. ⌜ r ≡ stepOf (constructAt (now (file .entry)) (now (types .entry)) (now (functions .entry)) left (viewOf view) expected (now (body .entry)) at) ⌝ }
+    ensures { λ r. ⌜ r ≡ passedOf (constructAt (now (file .entry)) (now (types .entry)) (now (functions .entry)) left (viewOf view) expected (now (body .entry)) at) ⌝ }
 {
     let Taken::Byte(number, middle) = take_byte(body, at) else {
-        return Step::Refused(Refusal::Truncated);
+        return Passed::Refused(Refusal::Truncated);
     };
     let Taken::Byte(c, next) = take_byte(body, middle) else {
-        return Step::Refused(Refusal::Truncated);
+        return Passed::Refused(Refusal::Truncated);
     };
     let t = wide(number);
     let Fields::At(fields, n) = fields_of(file, types, t, wide(c)) else {
-        return Step::Refused(Refusal::UnknownNumber);
+        return Passed::Refused(Refusal::UnknownNumber);
     };
     if !in_limits(left, view) {
-        return Step::Refused(Refusal::OutOfRange);
+        return Passed::Refused(Refusal::OutOfRange);
     }
     if t != expected {
-        return Step::Refused(Refusal::TypeMismatch);
+        return Passed::Refused(Refusal::TypeMismatch);
     }
     operands(
         file,
@@ -209,22 +209,22 @@ fn case<'a>(
     left: usize,
     view: View,
     expected: usize,
-) -> Step
+) -> Passed
     requires { ⌜ Small (now file) (now types) (now functions) × (view .count ≤ 38) ⌝ }
-    ensures { λ r. ⌜ r ≡ stepOf (caseAt (now (file .entry)) (now (types .entry)) (now (functions .entry)) left (viewOf view) expected (now (body .entry)) at) ⌝ }
+    ensures { λ r. ⌜ r ≡ passedOf (caseAt (now (file .entry)) (now (types .entry)) (now (functions .entry)) left (viewOf view) expected (now (body .entry)) at) ⌝ }
 {
     let Taken::Byte(number, next) = take_byte(body, at) else {
-        return Step::Refused(Refusal::Truncated);
+        return Passed::Refused(Refusal::Truncated);
     };
     let t = wide(number);
     if types.len() <= t {
-        return Step::Refused(Refusal::UnknownNumber);
+        return Passed::Refused(Refusal::UnknownNumber);
     }
     if !in_limits(left, view) {
-        return Step::Refused(Refusal::OutOfRange);
+        return Passed::Refused(Refusal::OutOfRange);
     }
     let step = expression(file, body, types, functions, next, left - 1, view, t);
-    let Step::Next(first) = step else {
+    let Passed::Next(first) = step else {
         return step;
     };
     let all = constructors_of(file, types, t);
@@ -252,22 +252,22 @@ fn let_expression<'a>(
     left: usize,
     view: View,
     expected: usize,
-) -> Step
+) -> Passed
     requires { ⌜ Small (now file) (now types) (now functions) × (view .count ≤ 38) ⌝ }
-    ensures { λ r. ⌜ r ≡ stepOf (letAt (now (file .entry)) (now (types .entry)) (now (functions .entry)) left (viewOf view) expected (now (body .entry)) at) ⌝ }
+    ensures { λ r. ⌜ r ≡ passedOf (letAt (now (file .entry)) (now (types .entry)) (now (functions .entry)) left (viewOf view) expected (now (body .entry)) at) ⌝ }
 {
     let Taken::Byte(number, next) = take_byte(body, at) else {
-        return Step::Refused(Refusal::Truncated);
+        return Passed::Refused(Refusal::Truncated);
     };
     let t = wide(number);
     if types.len() <= t {
-        return Step::Refused(Refusal::UnknownNumber);
+        return Passed::Refused(Refusal::UnknownNumber);
     }
     if !in_limits(left, view) {
-        return Step::Refused(Refusal::OutOfRange);
+        return Passed::Refused(Refusal::OutOfRange);
     }
     let step = expression(file, body, types, functions, next, left - 1, view, t);
-    let Step::Next(behind) = step else {
+    let Passed::Next(behind) = step else {
         return step;
     };
     expression(
@@ -292,15 +292,15 @@ fn target<'a>(
     left: usize,
     view: View,
     expected: usize,
-) -> Step
+) -> Passed
     requires { ⌜ Small (now file) (now types) (now functions) × (view .count ≤ 38) ⌝ }
-    ensures { λ r. ⌜ r ≡ stepOf (targetAt (now (file .entry)) (now (types .entry)) (now (functions .entry)) left (viewOf view) expected (now (body .entry)) at) ⌝ }
+    ensures { λ r. ⌜ r ≡ passedOf (targetAt (now (file .entry)) (now (types .entry)) (now (functions .entry)) left (viewOf view) expected (now (body .entry)) at) ⌝ }
 {
     let Taken::Byte(_, next) = take_byte(body, at) else {
-        return Step::Refused(Refusal::Truncated);
+        return Passed::Refused(Refusal::Truncated);
     };
     if !in_limits(left, view) {
-        return Step::Refused(Refusal::OutOfRange);
+        return Passed::Refused(Refusal::OutOfRange);
     }
     expression(file, body, types, functions, next, left - 1, view, expected)
 }
@@ -316,9 +316,9 @@ fn operands<'a>(
     view: View,
     first: usize,
     n: usize,
-) -> Step
+) -> Passed
     requires { ⌜ Small (now file) (now types) (now functions) × (view .count ≤ 38) × (first ≤ 1000000) × (n ≤ 255) ⌝ }
-    ensures { λ r. ⌜ r ≡ stepOf (operandsAt (now (file .entry)) (now (types .entry)) (now (functions .entry)) left (viewOf view) (bytesAt (now (file .entry)) first n) (now (body .entry)) at) ⌝ }
+    ensures { λ r. ⌜ r ≡ passedOf (operandsAt (now (file .entry)) (now (types .entry)) (now (functions .entry)) left (viewOf view) (bytesAt (now (file .entry)) first n) (now (body .entry)) at) ⌝ }
 {
     let mut place = at;
     let mut t = first;
@@ -334,14 +334,14 @@ fn operands<'a>(
             view,
             byte_or_zero(file, t),
         );
-        let Step::Next(next) = step else {
+        let Passed::Next(next) = step else {
             return step;
         };
         place = next;
         t += 1;
         more -= 1;
     }
-    Step::Next(place)
+    Passed::Next(place)
 }
 
 // An alternative or none for each of the n constructors whose records stand from a place of the file on.
@@ -356,9 +356,9 @@ fn alternatives<'a>(
     constructors: usize,
     n: usize,
     expected: usize,
-) -> Step
+) -> Passed
     requires { ⌜ Small (now file) (now types) (now functions) × (view .count ≤ 32) × (constructors ≤ 65536) × (n ≤ 255) × Narrow (constructorsAt (now file) constructors n) ⌝ }
-    ensures { λ r. ⌜ r ≡ stepOf (alternativesAt (now (file .entry)) (now (types .entry)) (now (functions .entry)) left (viewOf view) expected (constructorsAt (now (file .entry)) constructors n) (now (body .entry)) at) ⌝ }
+    ensures { λ r. ⌜ r ≡ passedOf (alternativesAt (now (file .entry)) (now (types .entry)) (now (functions .entry)) left (viewOf view) expected (constructorsAt (now (file .entry)) constructors n) (now (body .entry)) at) ⌝ }
 {
     let mut place = at;
     let mut constructor = constructors;
@@ -377,14 +377,14 @@ fn alternatives<'a>(
             fields,
             expected,
         );
-        let Step::Next(next) = step else {
+        let Passed::Next(next) = step else {
             return step;
         };
         place = next;
         constructor = constructor + 1 + fields;
         more -= 1;
     }
-    Step::Next(place)
+    Passed::Next(place)
 }
 
 // A byte: 0 for no alternative, or 1 and an expression that sees the n fields too.
@@ -399,18 +399,18 @@ fn alternative<'a>(
     fields: usize,
     n: usize,
     expected: usize,
-) -> Step
+) -> Passed
     requires { ⌜ Small (now file) (now types) (now functions) × (view .count ≤ 32) × (fields ≤ 1000000) × (n ≤ 6) ⌝ }
-    ensures { λ r. ⌜ r ≡ stepOf (alternativeAt (now (file .entry)) (now (types .entry)) (now (functions .entry)) left (viewOf view) expected (bytesAt (now (file .entry)) fields n) (now (body .entry)) at) ⌝ }
+    ensures { λ r. ⌜ r ≡ passedOf (alternativeAt (now (file .entry)) (now (types .entry)) (now (functions .entry)) left (viewOf view) expected (bytesAt (now (file .entry)) fields n) (now (body .entry)) at) ⌝ }
 {
     let Taken::Byte(b, next) = take_byte(body, at) else {
-        return Step::Refused(Refusal::Truncated);
+        return Passed::Refused(Refusal::Truncated);
     };
     if 1 < b {
-        return Step::Refused(Refusal::UnknownCode);
+        return Passed::Refused(Refusal::UnknownCode);
     }
     if b == 0 {
-        return Step::Next(next);
+        return Passed::Next(next);
     }
     expression(
         file,

@@ -27,7 +27,7 @@ use Rattle.goal.specs.declared.Goal.{Goal}
 use Rattle.goal.specs.Goals.{Asks}
 use Rattle.machine.specs.Layout.{recordsAt}
 use Rattle.machine.specs.Cells.{Cells, cellOf}
-use Rattle.machine.specs.Records.{Code, Holds, Wrote, EnvAt, empty-at, parts-at, none-at, evaluating-at}
+use Rattle.machine.specs.Records.{Code, RecordIs, Wrote, EnvAt, empty-at, parts-at, none-at, evaluating-at}
 use Rattle.machine.proofs.Cells.{walk-part, kept-cells}
 use Rattle.machine.proofs.Records.{holds-kept}
 use Rattle.machine.proofs.Words.{records-same}
@@ -76,7 +76,7 @@ stands-start {file} {types} {functions} {w₁} {w₂} {w₃} p base i n g source
     kept : (x : ℕ) → x < 5 * n → getD w₃ x 0 ≡ getD w₁ x 0
     kept x below = group .only-top .elsewhere x (λ h. absurd (omega arith)) ∙ zeros .only-top .elsewhere x (λ h. absurd (omega arith))
 
-    kept-zeros : Holds w₃ base 0 0 0 0 0
+    kept-zeros : RecordIs w₃ base 0 0 0 0 0
     kept-zeros = holds-kept w₂ w₃ base 1 (records-same (group .only-top)) (omega arith) (zeros .holds)
 
     environment : EnvAt file (declarationsOf file types functions) w₃ base (cellOf w₃) 1 (inputParts empty parameters (length (g .parameters)))

@@ -17,7 +17,7 @@ use Rattle.reach.specs.RuleFile.{Declarations}
 use Rattle.reach.specs.Eval.{Row, partOf, Env, empty, operands, inputParts, size, Closure, suspended, inputPart, suspend, lookup, Frame, waiting, State}
 use Rattle.reach.proofs.Base.{clash}
 use Rattle.reach.specs.States.{EnvIn, FramesIn, StateIn}
-use Rattle.machine.specs.Records.{recordWord, Holds, CodeAll, CodeAlternatives, Control, environmentOf, EnvAt, empty-at, operands-at, parts-at, FramesAt, none-at, waiting-at, StateAt, evaluating-at, inspecting-at, missing-at}
+use Rattle.machine.specs.Records.{recordWord, RecordIs, CodeAll, CodeAlternatives, Control, environmentOf, EnvAt, empty-at, operands-at, parts-at, FramesAt, none-at, waiting-at, StateAt, evaluating-at, inspecting-at, missing-at}
 use Rattle.machine.specs.Walks.{OperandAt, outsideOf, VariableAt, outside, in-parts, in-operands}
 use Rattle.machine.proofs.Codes.{operand-at}
 
@@ -25,7 +25,7 @@ use Rattle.machine.proofs.Codes.{operand-at}
 abbrev pub Same : List ℕ → List ℕ → ℕ → ℕ → Type 0
 Same w w′ base t = (i : ℕ) → base ≤ i → i < base + 4 * t → getD w′ i 0 ≡ getD w i 0
 
-pub holds-kept : (w w′ : List ℕ) (base t : ℕ) → Same w w′ base t → {r a b c d : ℕ} → r < t → Holds w base r a b c d → Holds w′ base r a b c d
+pub holds-kept : (w w′ : List ℕ) (base t : ℕ) → Same w w′ base t → {r a b c d : ℕ} → r < t → RecordIs w base r a b c d → RecordIs w′ base r a b c d
 holds-kept w w′ base t same {r} below holds =
     record {
       word-0 = same (base + 4 * r + 0) (omega arith) (omega arith) ∙ holds .word-0;
@@ -61,20 +61,20 @@ module _
 
     -- Adding: record t is written behind them, as operands, as input parts, or as a waiting case.
     pub operands-added :
-        {a b i n : ℕ} {outer inner : Env} {es : Exprs} → Holds w′ base t a n i (suc b) → a < t → b < t → n ≡ size outer + count es
+        {a b i n : ℕ} {outer inner : Env} {es : Exprs} → RecordIs w′ base t a n i (suc b) → a < t → b < t → n ≡ size outer + count es
         → EnvAt file o w base cell a outer → EnvIn e outer → EnvAt file o w base cell b inner → EnvIn e inner → CodeAll file o i es
         → EnvAt file o w′ base cell′ t (operands outer es inner)
     operands-added holds a<t b<t n outer outer-in inner inner-in code =
         operands-at holds a<t b<t n (env-kept a<t outer outer-in) (env-kept b<t inner inner-in) code
 
     pub parts-added :
-        {a x n k : ℕ} {outer : Env} {row : Row} → Holds w′ base t a n x 0 → a < t → n ≡ size outer + k
+        {a x n k : ℕ} {outer : Env} {row : Row} → RecordIs w′ base t a n x 0 → a < t → n ≡ size outer + k
         → EnvAt file o w base cell a outer → EnvIn e outer → ((j : ℕ) → j < k → cell′ (partOf row j) ≡ x + j)
         → EnvAt file o w′ base cell′ t (inputParts outer row k)
     parts-added holds a<t n outer outer-in parts = parts-at holds a<t n (env-kept a<t outer outer-in) parts
 
     pub waiting-added :
-        {i a f : ℕ} {alts : Alternatives} {env : Env} {fs : List Frame} → Holds w′ base t i 0 a f → a < t → f < t
+        {i a f : ℕ} {alts : Alternatives} {env : Env} {fs : List Frame} → RecordIs w′ base t i 0 a f → a < t → f < t
         → CodeAlternatives file o i alts → EnvAt file o w base cell a env → EnvIn e env → FramesAt file o w base cell f fs → FramesIn e fs
         → FramesAt file o w′ base cell′ t (waiting alts env ∷ fs)
     waiting-added holds a<t f<t code env env-in frames frames-in =
@@ -119,7 +119,7 @@ part-some : (j k : ℕ) (row : Row) (x : Closure) → pick (ltb j k) (some (inpu
 part-some j k row x is = by-group j k (λ below. (below, cc (lt-ltb j k below))) (λ past. absurd (clash (cc (le-ltb j k past))))
 
 module _ (file : List ℕ) (o : Declarations) (w : List ℕ) (base : ℕ) (cell : Place → ℕ) where
-  found-outside : {r a m i d : ℕ} {x : Closure} → Holds w base r a m i d → a < r → (n : ℕ) → n < recordWord w base a 1 → VariableAt file o w base cell n a x → VariableAt file o w base cell n r x
+  found-outside : {r a m i d : ℕ} {x : Closure} → RecordIs w base r a m i d → a < r → (n : ℕ) → n < recordWord w base a 1 → VariableAt file o w base cell n a x → VariableAt file o w base cell n r x
   found-outside {r} {x = x} holds a<r n below rest = outside {r = r} {x = x} (rw (holds .word-0) a<r) (rw (holds .word-0) below) (rw (holds .word-0) rest)
 
   -- One step of the walk, by the words that it looks at. The record outside is an earlier one.
@@ -151,7 +151,7 @@ module _ (file : List ℕ) (o : Declarations) (w : List ℕ) (base : ℕ) (cell 
       (e, env, refl, omega arith, rw z inner, operand)
 
   -- where record 0 is empty, the count word of each environment is its number of variables in view
-  module _ (zeros : Holds w base 0 0 0 0 0) where
+  module _ (zeros : RecordIs w base 0 0 0 0 0) where
     pub count-word : {r : ℕ} {env : Env} → EnvAt file o w base cell r env → recordWord w base r 1 ≡ size env
     unfolding size
     count-word empty-at = zeros .word-1

@@ -16,7 +16,7 @@ abbrev pub recordWord : List ℕ → ℕ → ℕ → ℕ → ℕ
 recordWord w base r k = getD w (base + 4 * r + k) 0
 
 -- record r holds these four words
-pub record Holds (w : List ℕ) (base r a b c d : ℕ) : Type 0 where
+pub record RecordIs (w : List ℕ) (base r a b c d : ℕ) : Type 0 where
   pub word-0 : recordWord w base r 0 ≡ a
   pub word-1 : recordWord w base r 1 ≡ b
   pub word-2 : recordWord w base r 2 ≡ c
@@ -30,7 +30,7 @@ pub record OnlyTop (w w′ : List ℕ) (base records : ℕ) : Type 0 where
 -- the record at the top was written
 pub record Wrote (w w′ : List ℕ) (base top a b c d : ℕ) : Type 0 where
   pub only-top : OnlyTop w w′ base top
-  pub holds : Holds w′ base top a b c d
+  pub holds : RecordIs w′ base top a b c d
 
 -- An expression of the file, at the place where its bytes stand; operands; alternatives.
 abbrev pub Code : List ℕ → Declarations → ℕ → Expr → Type 0
@@ -61,15 +61,15 @@ module _ (file : List ℕ) (o : Declarations) (w : List ℕ) (base : ℕ) (cell 
   -- parts or 1 more than the record of the environment in which the operands stand. Record 0 is the empty environment.
   pub data EnvAt : ℕ → Env → Type 0 where
     empty-at : EnvAt 0 empty
-    operands-at : {r a b i n : ℕ} {outer inner : Env} {es : Exprs} → Holds w base r a n i (suc b) → a < r → b < r → n ≡ size outer + count es
+    operands-at : {r a b i n : ℕ} {outer inner : Env} {es : Exprs} → RecordIs w base r a n i (suc b) → a < r → b < r → n ≡ size outer + count es
         → EnvAt a outer → EnvAt b inner → CodeAll file o i es → EnvAt r (operands outer es inner)
-    parts-at : {r a x n k : ℕ} {outer : Env} {row : Row} → Holds w base r a n x 0 → a < r → n ≡ size outer + k
+    parts-at : {r a x n k : ℕ} {outer : Env} {row : Row} → RecordIs w base r a n x 0 → a < r → n ≡ size outer + k
         → EnvAt a outer → ((j : ℕ) → j < k → cell (partOf row j) ≡ x + j) → EnvAt r (inputParts outer row k)
 
   -- A waiting case is a record: where its alternatives stand, 0, its environment, and the record of the next frame. Record 0 is no frame.
   pub data FramesAt : ℕ → List Frame → Type 0 where
     none-at : FramesAt 0 []
-    waiting-at : {r i a f : ℕ} {alts : Alternatives} {env : Env} {fs : List Frame} → Holds w base r i 0 a f → a < r → f < r
+    waiting-at : {r i a f : ℕ} {alts : Alternatives} {env : Env} {fs : List Frame} → RecordIs w base r i 0 a f → a < r → f < r
         → CodeAlternatives file o i alts → EnvAt a env → FramesAt f fs → FramesAt r (waiting alts env ∷ fs)
 
   -- A state is what is being evaluated and the record of the innermost frame. No numbers stand for `stuck`.

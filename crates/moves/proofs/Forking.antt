@@ -37,7 +37,7 @@ use Rattle.choices.proofs.Keeping.{reopened-other, there, cell-below, choices-k
 use Rattle.choices.proofs.Taking.{path-taken, goes-taken, choices-taken, step-kept, path-goes}
 use Rattle.choices.proofs.Weights.{weight-kept, weight-taken}
 use Rattle.choices.proofs.Returning.{height-small, long, cells-small}
-use Rattle.arriving.specs.Moving.{UnderWay, ComesTo, Forking, Takes}
+use Rattle.arriving.specs.Moving.{UnderWay, OnPath, Forking, Takes}
 use Rattle.arriving.proofs.Arriving.{step-standing}
 
 -- the model's fork, where the choice point's numbers are known
@@ -170,7 +170,7 @@ module _ {g : Setting} (given : Given g) {w : List ℕ} {h n i k : ℕ} (f : For
 
         -- where the walk is, the model's fork arrives
         pub taken :
-            ComesTo g w w₂ (weight (g .stack) (g .limit) w (suc h)) (record { going = true; registers = to; cells = choiceWord (g .stack) w h 4 + k; done = d + 1; height = h + 1 })
+            OnPath g w w₂ (weight (g .stack) (g .limit) w (suc h)) (record { going = true; registers = to; cells = choiceWord (g .stack) w h 4 + k; done = d + 1; height = h + 1 })
             (takeFork (g .program) (leastDepths (g .program .types)) c (record { constructor = n; fields = k }) (f .next-at .rest) (f .before)) to
         taken =
             let one : suc d ≡ d + 1 = omega arith in
@@ -222,7 +222,7 @@ module _
             taken-there :
                 (least : List ℕ) (p : Program) (limit : ℕ) → (given : Given (setting file types functions least p limit base stack))
                 → (f : Forking (setting file types functions least p limit base stack) w h n i k)
-                → ComesTo (setting file types functions least p limit base stack) w w₂ (weight stack limit w (suc h))
+                → OnPath (setting file types functions least p limit base stack) w w₂ (weight stack limit w (suc h))
                 (record { going = true; registers = to; cells = cells + k; done = done + 1; height = h + 1 })
                 (takeFork p (leastDepths (p .types)) (f .choice) (record { constructor = n; fields = k }) (f .next-at .rest) (f .before)) to
             taken-there least p limit given f =

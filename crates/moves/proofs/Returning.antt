@@ -24,7 +24,7 @@ use Rattle.arriving.specs.declared.Position.{Position}
 use Rattle.arriving.specs.declared.Position.the-variants as Position
 use Rattle.arriving.specs.declared.Walk.{Walk}
 use Rattle.arriving.specs.declared.Moved.{Moved}
-use Rattle.arriving.specs.Moving.{positionOf, endedWalk, PositionAt, StandsAs, positionWeight, walkWeight, ComesTo, ResumesAt, SomeUnderWay, Arrives, SomeForking, Takes, ActiveAt, Active, Resumable, Resumes, SearchStands, Moves}
+use Rattle.arriving.specs.Moving.{positionOf, endedWalk, PositionAt, StandsAs, positionWeight, walkWeight, OnPath, ResumesAt, SomeUnderWay, Arrives, SomeForking, Takes, ActiveAt, Active, Resumable, Resumes, SearchStands, Moves}
 use Rattle.arriving.proofs.Arriving.{ended, moves-none}
 
 move-over : (p : Program) (table : List ℕ) (cs : List Choice) (es : List Entry) → moveFrom p table Model.over cs es ≡ return p table cs es
@@ -135,7 +135,7 @@ module _ (file types functions least : List ℕ) (w : List ℕ) (base stack : �
 
       by-position :
           (y : Model.Position) → PositionAt (setting file types functions least p limit base stack) w (x .cells) (x .done) (x .height) (Position.On (x .registers)) y cs
-          → ComesTo (setting file types functions least p limit base stack) w w (walkWeight stack limit w x) x (moveFrom p (leastDepths (p .types)) y cs) (x .registers)
+          → OnPath (setting file types functions least p limit base stack) w w (walkWeight stack limit w x) x (moveFrom p (leastDepths (p .types)) y cs) (x .registers)
       by-position (Model.on z) (done-is, left-is, under) =
           let heavy : positionWeight limit (x .done) position ≡ power (limit - x .done) = ap (positionWeight limit (x .done)) is-on in
           record {

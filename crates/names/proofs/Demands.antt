@@ -1,7 +1,7 @@
 -- What 02, Slip 4, asks of names, as theorems about the definitions. A reviewer reads this file first: the sentence that a theorem answers stands above
 -- it, and its statement uses definitions of specs/ only. `check file ≡ accepted p` says that the file is accepted and p is its program; `listed
 -- (searchAnswer file work list)` are the entries that a search lists, with slices of those lengths. What is proved of the calls stands in the Demands of
--- crate namereport, and the table of UTF-8 in crate encodings.
+-- crate namereport, and the table of UTF-8 in crate utf8.
 -- Rests on the other files of this folder.
 use Prim.Native.Nat.{ℕ, suc, _≤_, _<_}
 use mathlib.Core.Path.{_≡_, refl, ap, subst, _∙_}

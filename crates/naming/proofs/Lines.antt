@@ -14,7 +14,7 @@ use Rattle.names.specs.NameList.{utf8, nameLine}
 use Rattle.writing.specs.Writing.{Puts}
 use Rattle.writing.proofs.Writing.{puts-none, puts-then, Left, left-next, left-none}
 use Rattle.writing.proofs.Digits.{digits-three}
-use Rattle.encodings.specs.Encodings.{encodingBytes}
+use Rattle.utf8.specs.Encodings.{encodingBytes}
 use Rattle.naming.specs.Letters.{letters, Spelt, letterHere, letterAt}
 use Rattle.naming.proofs.Letters.{letters-count, letter-first, no-letter}
 

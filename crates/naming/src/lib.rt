@@ -1,5 +1,5 @@
 // The line of a name, written into a lent slice: its Latin-1 bytes, then its UTF-8 bytes, in decimal. The name stands in prefix form in a list, and what is
-// open in it is filled with constructor 0. Rests on crates marks, writing and encodings.
+// open in it is filled with constructor 0. Rests on crates marks, writing and utf8.
 ghost use mathlib.Core.Path.{_≡_};
 ghost use mathlib.Core.List.{map, flatMap};
 ghost use Prim.Native.Nat.{_≤_, _<_};
@@ -8,7 +8,7 @@ ghost use Rattle.reach.specs.Text.{spaced, decimal};
 ghost use Rattle.names.specs.NameList.{utf8, nameLine};
 ghost use Rattle.writing.specs.Writing.{Puts};
 ghost use Rattle.naming.specs.Letters.{half, letters, Spelt, letterHere, letterAt};
-use encodings::encoding;
+use utf8::encoding;
 use marks::byte_or_zero;
 use writing::put_byte;
 use writing::put_decimal;

@@ -14,9 +14,9 @@ use Rattle.reach.specs.Reader.{Got, got, refused, onGot}
 use Rattle.reach.specs.RuleFile.{Head, typeRecord, moreTypes, functionRecord, moreFunctions}
 use Rattle.reach.specs.Places.{typeAt, headAt}
 use Rattle.reach.proofs.Places.{Read, type-read, head-read}
-use Rattle.records.specs.declared.Step.{Step}
-use Rattle.records.specs.Steps.{stepOf}
-use Rattle.records.proofs.Answers.{step-got, step-refused}
+use Rattle.typerecord.specs.declared.Passed.{Passed}
+use Rattle.typerecord.specs.Passed.{passedOf}
+use Rattle.typerecord.proofs.Answers.{step-got, step-refused}
 use Rattle.turns.specs.declared.Turn.{Turn}
 use Rattle.turns.specs.Turns.{typesFrom, functionsFrom, onTurn, Room}
 
@@ -97,18 +97,18 @@ module _ {s : List ℕ} {A : Type 0} (K : Kind s A) where
   abbrev pub Turning : ℕ → ℕ → Turn → Type 0
   Turning count behind t = K .more (K .limit - (count + 1)) behind ≡ onTurn (λ next. K .from (pred (K .limit - (count + 1))) next) t
 
-  module _ {i : ℕ} {r : Step} (told : r ≡ stepOf (K .one i)) where
+  module _ {i : ℕ} {r : Passed} (told : r ≡ passedOf (K .one i)) where
     -- a record that was read begins within the bytes
-    pub row-begins : {behind : ℕ} → r ≡ Step.Next behind → i < length s
+    pub row-begins : {behind : ℕ} → r ≡ Passed.Next behind → i < length s
     row-begins found = (K .stands i (step-got (K .one i) (sym told ∙ found) .1)) .begins
 
     module _ {whole : Got (List A)} {places : List ℕ} {count : ℕ} (rows : Rows whole places count i) where
       -- a record that is refused
-      pub rows-stop : {why : Refusal} → r ≡ Step.Refused why → whole ≡ refused why
+      pub rows-stop : {why : Refusal} → r ≡ Passed.Refused why → whole ≡ refused why
       rows-stop found = rows .rest ∙ rw (K .first (K .limit - (count + 1)) i, step-refused (K .one i) (sym told ∙ found))
 
       -- a record that is read, and its place kept
-      pub rows-read : {behind : ℕ} → r ≡ Step.Next behind
+      pub rows-read : {behind : ℕ} → r ≡ Passed.Next behind
           → whole ≡ before (map (K .look) (take (count + 1) (set places count i))) (K .more (K .limit - (count + 1)) behind)
       rows-read {behind} found =
           let (a, e) = step-got (K .one i) (sym told ∙ found) in
@@ -117,12 +117,12 @@ module _ {s : List ℕ} {A : Type 0} (K : Kind s A) where
           (before-one (map (K .look) (take count places)) a (K .more (K .limit - (count + 1)) behind))
 
       -- a record that is read, and the turn behind it
-      after : {behind : ℕ} → r ≡ Step.Next behind → (t : Turn) → Turning count behind t
+      after : {behind : ℕ} → r ≡ Passed.Next behind → (t : Turn) → Turning count behind t
           → whole ≡ before (map (K .look) (take (count + 1) (set places count i))) (onTurn (λ next. K .from (pred (K .limit - (count + 1))) next) t)
       after found t turn = rows-read found ∙ ap (before (map (K .look) (take (count + 1) (set places count i)))) turn
 
       -- the turn leads to one more record
-      pub rows-again : {behind next : ℕ} {t : Turn} → r ≡ Step.Next behind → t ≡ Turn.Again next → Turning count behind t → Room (K .limit - (count + 1)) t
+      pub rows-again : {behind next : ℕ} {t : Turn} → r ≡ Passed.Next behind → t ≡ Turn.Again next → Turning count behind t → Room (K .limit - (count + 1)) t
           → Rows whole (set places count i) (count + 1) next
       rows-again {next = next} {t = t} found is turn room =
           let more : 0 < K .limit - (count + 1) = rw is at room in
@@ -130,10 +130,10 @@ module _ {s : List ℕ} {A : Type 0} (K : Kind s A) where
           record { room = omega arith; size = length-set places count i ∙ rows .size; rest = after found t turn ∙ rw (is, left) }
 
       -- it leads to the end of the records
-      pub rows-done : {behind next : ℕ} {t : Turn} → r ≡ Step.Next behind → t ≡ Turn.Done next → Turning count behind t
+      pub rows-done : {behind next : ℕ} {t : Turn} → r ≡ Passed.Next behind → t ≡ Turn.Done next → Turning count behind t
           → whole ≡ got (map (K .look) (take (count + 1) (set places count i))) next
       rows-done {t = t} found is turn = after found t turn ∙ rw (is, append-nil)
 
       -- it is a refusal
-      pub rows-refused : {behind : ℕ} {why : Refusal} {t : Turn} → r ≡ Step.Next behind → t ≡ Turn.Refused why → Turning count behind t → whole ≡ refused why
+      pub rows-refused : {behind : ℕ} {why : Refusal} {t : Turn} → r ≡ Passed.Next behind → t ≡ Turn.Refused why → Turning count behind t → whole ≡ refused why
       rows-refused {t = t} found is turn = after found t turn ∙ rw is

@@ -1,5 +1,5 @@
 -- The outline of a file as first_pass reads it: the first mark, the types, the functions, what NA names, and the goal with the end of the file.
--- Rests on Tables, on reach's RuleFile and Places, and on the laws of crate records about steps.
+-- Rests on Tables, on reach's RuleFile and Places, and on the laws of crate typerecord about steps.
 use Prim.Native.Nat.{ℕ}
 use mathlib.Core.Path.{_≡_, refl, sym, _∙_}
 use mathlib.Core.Bool.{Bool, true, false}
@@ -14,9 +14,9 @@ use Rattle.reach.specs.RuleFile.{Mark, TY, sameMark, inTurn, mark, typeRecord, 
 use Rattle.reach.specs.Places.{goalAt}
 use Rattle.reach.proofs.Partial.{then-same}
 use Rattle.reach.proofs.Places.{goal-read}
-use Rattle.records.specs.declared.Step.{Step}
-use Rattle.records.specs.Steps.{stepOf}
-use Rattle.records.proofs.Answers.{step-got, step-refused, on-got}
+use Rattle.typerecord.specs.declared.Passed.{Passed}
+use Rattle.typerecord.specs.Passed.{passedOf}
+use Rattle.typerecord.proofs.Answers.{step-got, step-refused, on-got}
 use Rattle.outline.specs.Tables.{onStep, lastRecord}
 use Rattle.turns.specs.Turns.{typesFrom, functionsFrom, firstMark}
 
@@ -41,11 +41,11 @@ first-marked {A} {C} one f g s i e m = by (sameMark TY m)
     by false = refl
 
 -- the type that NA names, where the step behind it tells of the mark GO
-pub name-then : (s : List ℕ) (i : ℕ) {t next : ℕ} {r : Step} → byte s i ≡ got t next → r ≡ stepOf (goalMark s next) → nameRecord s i ≡ onStep (some t) r
+pub name-then : (s : List ℕ) (i : ℕ) {t next : ℕ} {r : Passed} → byte s i ≡ got t next → r ≡ passedOf (goalMark s next) → nameRecord s i ≡ onStep (some t) r
 unfolding nameRecord
 name-then s i {t} {next} {r} here told = rw (here, told) (by-mark (goalMark s next))
   where
-    by-mark : (g : Got (Unit {0})) → onGot {B = Got (Option ℕ)} (λ u k. got (some t) k) (λ why. refused why) g ≡ onStep (some t) (stepOf g)
+    by-mark : (g : Got (Unit {0})) → onGot {B = Got (Option ℕ)} (λ u k. got (some t) k) (λ why. refused why) g ≡ onStep (some t) (passedOf g)
     by-mark (got u k) = refl
     by-mark (refused why) = refl
 
@@ -84,11 +84,11 @@ module _ (s : List ℕ) where
       cc (goal-read s i is .value)
 
   -- The answer r to the first mark: there is none of a type, or one.
-  module _ {r : Step} (told : r ≡ stepOf (firstMark s 0)) where
-    pub no-type : {why : Refusal} → r ≡ Step.Refused why → outline s 0 ≡ refused why
+  module _ {r : Passed} (told : r ≡ passedOf (firstMark s 0)) where
+    pub no-type : {why : Refusal} → r ≡ Passed.Refused why → outline s 0 ≡ refused why
     no-type found = in-parts 0 ∙ rw (step-refused (firstMark s 0) (sym told ∙ found))
 
-    module _ {i : ℕ} (found : r ≡ Step.Next i) where
+    module _ {i : ℕ} (found : r ≡ Passed.Next i) where
       marked : outline s 0 ≡ behindMark s i
       marked = in-parts 0 ∙ rw (step-got (firstMark s 0) (sym told ∙ found) .1)
 
@@ -104,11 +104,11 @@ module _ (s : List ℕ) where
         names-refused e = marked ∙ rw (types, functions, e)
 
         -- The answer to the last record, where all before it were read.
-        module _ {named : Option ℕ} {l : ℕ} (names : naming s k ≡ got named l) {last : Step} (ended : last ≡ stepOf (lastRecord s l)) where
-          pub goal-refused : {why : Refusal} → last ≡ Step.Refused why → outline s 0 ≡ refused why
+        module _ {named : Option ℕ} {l : ℕ} (names : naming s k ≡ got named l) {last : Passed} (ended : last ≡ passedOf (lastRecord s l)) where
+          pub goal-refused : {why : Refusal} → last ≡ Passed.Refused why → outline s 0 ≡ refused why
           goal-refused e = marked ∙ rw (types, functions, names, step-refused (lastRecord s l) (sym ended ∙ e))
 
-          pub outlined : {next : ℕ} → last ≡ Step.Next next
+          pub outlined : {next : ℕ} → last ≡ Passed.Next next
               → outline s 0 ≡ got (record { declared = record { types = ts; heads = fs }; named = named; goal = goalAt s l }) next
           outlined e =
               let (g, read) = step-got (lastRecord s l) (sym ended ∙ e) in

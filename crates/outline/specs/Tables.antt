@@ -10,8 +10,8 @@ use Rattle.reach.specs.declared.Refusal.the-variants.{TrailingBytes}
 use Rattle.reach.specs.Reader.{Got, got, refused, Reader, _>>=_, _>>_, give, atEnd}
 use Rattle.reach.specs.RuleFile.{Head, Goal, goalRecord, Outline}
 use Rattle.reach.specs.Places.{typeAt, headAt, outlineAt}
-use Rattle.records.specs.declared.Step.{Step}
-use Rattle.records.specs.declared.Step.the-variants.{Next, Refused}
+use Rattle.typerecord.specs.declared.Passed.{Passed}
+use Rattle.typerecord.specs.declared.Passed.the-variants.{Next, Refused}
 use Rattle.goal.specs.declared.Goal as Goal
 use Rattle.goal.specs.Goals.{goalOf, namedOf}
 use Rattle.outline.specs.declared.TypeTable.{TypeTable}
@@ -19,7 +19,7 @@ use Rattle.outline.specs.declared.FunctionTable.{FunctionTable}
 use Rattle.outline.specs.declared.Naming.{Naming}
 use Rattle.outline.specs.declared.Outlined.{Outlined}
 
-abbrev pub onStep : {A : Type 0} → A → Step → Got A
+abbrev pub onStep : {A : Type 0} → A → Passed → Got A
 onStep a (Next next) = got a next
 onStep a (Refused why) = refused why
 
@@ -38,7 +38,7 @@ abbrev pub namingOf : Naming → Got (Option ℕ)
 namingOf r = onStep (namedOf (r .named)) (r .step)
 
 -- what was read, put together
-abbrev pub outlineOf : Step → TypeTable → FunctionTable → Naming → Goal.Goal → Outlined
+abbrev pub outlineOf : Passed → TypeTable → FunctionTable → Naming → Goal.Goal → Outlined
 outlineOf step types functions naming goal =
     record {
       step = step;

@@ -1,13 +1,13 @@
 // The first pass over a rule file: marks, counts, lengths, D and S, bodies passed over. What it leaves is the places where the
 // records of types and functions stand, the type that NA names, and the goal. Every mark is read through the cursor: the first where
 // the file begins, each other one where the record before it ends; the one behind the last function, NA or GO, is left by the
-// functions and read again. Rests on crates marks, cursor, records and goal.
+// functions and read again. Rests on crates marks, cursor, typerecord, functionrecord, goalrecord and goal.
 ghost use mathlib.Core.Path.{_≡_};
 ghost use Prim.Native.Nat.{ℕ, _≤_};
 ghost use lib.ListN.{length};
 ghost use Rattle.reach.specs.Limits.{typeLimit, functionLimit};
 ghost use Rattle.reach.specs.RuleFile.{nameRecord, naming, outline};
-ghost use Rattle.records.specs.Steps.{stepOf};
+ghost use Rattle.typerecord.specs.Passed.{passedOf};
 ghost use Rattle.outline.specs.Tables.{typesOf, functionsOf, outlinedOf, namingOf, outlineOf, InLimits, lastRecord};
 ghost use Rattle.turns.specs.Turns.{typesFrom, functionsFrom};
 use cursor::mark_at;
@@ -16,7 +16,7 @@ use goal::Named;
 use goal::goal_of;
 use goal::no_goal;
 use goalrecord::skip_goal;
-use heads::skip_function;
+use functionrecord::skip_function;
 use marks::Mark;
 use marks::Marked;
 use marks::Taken;
@@ -24,8 +24,8 @@ use marks::same_mark;
 use marks::take_byte;
 use marks::wide;
 use reach::Refusal;
-use records::Step;
-use records::skip_type;
+use typerecord::Passed;
+use typerecord::skip_type;
 use turns::Turn;
 use turns::first_mark;
 use turns::goal_mark;
@@ -38,27 +38,27 @@ const FUNCTION_LIMIT: usize = 64;
 
 // The types: how far they go, how many there are, and where each one's record stands behind its mark.
 pub struct TypeTable {
-    pub step: Step,
+    pub step: Passed,
     pub count: usize,
     pub places: [u16; 32],
 }
 
 // The functions, likewise.
 pub struct FunctionTable {
-    pub step: Step,
+    pub step: Passed,
     pub count: usize,
     pub places: [u16; 64],
 }
 
 // What stands between the functions and the goal: how far it goes, and the type that NA names.
 pub struct Naming {
-    pub step: Step,
+    pub step: Passed,
     pub named: Named,
 }
 
 // A file as the first pass leaves it.
 pub struct Outlined {
-    pub step: Step,
+    pub step: Passed,
     pub types: usize,
     pub type_at: [u16; 32],
     pub functions: usize,
@@ -78,7 +78,7 @@ fn read_types(s: &[u8], first: usize) -> TypeTable
     let mut at = first;
     loop {
         let step = skip_type(s, at);
-        let Step::Next(behind) = step else {
+        let Passed::Next(behind) = step else {
             return TypeTable {
                 step,
                 count,
@@ -91,14 +91,14 @@ fn read_types(s: &[u8], first: usize) -> TypeTable
             Turn::Again(next) => at = next,
             Turn::Done(next) => {
                 return TypeTable {
-                    step: Step::Next(next),
+                    step: Passed::Next(next),
                     count,
                     places,
                 };
             }
             Turn::Refused(why) => {
                 return TypeTable {
-                    step: Step::Refused(why),
+                    step: Passed::Refused(why),
                     count,
                     places,
                 };
@@ -118,7 +118,7 @@ fn read_functions(s: &[u8], first: usize) -> FunctionTable
     let mut at = first;
     loop {
         let step = skip_function(s, at);
-        let Step::Next(behind) = step else {
+        let Passed::Next(behind) = step else {
             return FunctionTable {
                 step,
                 count,
@@ -131,14 +131,14 @@ fn read_functions(s: &[u8], first: usize) -> FunctionTable
             Turn::Again(next) => at = next,
             Turn::Done(next) => {
                 return FunctionTable {
-                    step: Step::Next(next),
+                    step: Passed::Next(next),
                     count,
                     places,
                 };
             }
             Turn::Refused(why) => {
                 return FunctionTable {
-                    step: Step::Refused(why),
+                    step: Passed::Refused(why),
                     count,
                     places,
                 };
@@ -148,7 +148,7 @@ fn read_functions(s: &[u8], first: usize) -> FunctionTable
 }
 
 // An outline that was not read.
-fn not_read(step: Step) -> Outlined
+fn not_read(step: Passed) -> Outlined
     ensures { λ r. ⌜ r .step ≡ step ⌝ }
     ensures nothing { λ r. ⌜ (r .types ≡ 0) × (r .functions ≡ 0) ⌝ }
 {
@@ -164,7 +164,7 @@ fn not_read(step: Step) -> Outlined
 }
 
 // Nothing that NA names, and how far it goes.
-fn not_named(step: Step) -> Naming
+fn not_named(step: Passed) -> Naming
     ensures { λ r. ⌜ (r .step ≡ step) × (r .named ≡ Named.Nothing) ⌝ }
 {
     Naming {
@@ -178,7 +178,7 @@ fn name_record(s: &[u8], at: usize) -> Naming
     ensures { λ r. ⌜ nameRecord (now (s .entry)) at ≡ namingOf r ⌝ }
 {
     let Taken::Byte(t, behind) = take_byte(s, at) else {
-        return not_named(Step::Refused(Refusal::Truncated));
+        return not_named(Passed::Refused(Refusal::Truncated));
     };
     let step = goal_mark(s, at, behind);
     Naming {
@@ -192,34 +192,34 @@ fn read_naming(s: &[u8], at: usize) -> Naming
     ensures { λ r. ⌜ naming (now (s .entry)) at ≡ namingOf r ⌝ }
 {
     let Marked::Mark(mark, next) = mark_at(s, at) else {
-        return not_named(Step::Refused(Refusal::Truncated));
+        return not_named(Passed::Refused(Refusal::Truncated));
     };
     if same_mark(mark, Mark::Name) {
         return name_record(s, next);
     }
     if same_mark(mark, Mark::Goal) {
-        return not_named(Step::Next(next));
+        return not_named(Passed::Next(next));
     }
-    not_named(Step::Refused(Refusal::UnexpectedMark))
+    not_named(Passed::Refused(Refusal::UnexpectedMark))
 }
 
 // The goal and the end of the file.
-fn last_record(s: &[u8], at: usize) -> Step
-    ensures { λ r. ⌜ r ≡ stepOf (lastRecord (now (s .entry)) at) ⌝ }
+fn last_record(s: &[u8], at: usize) -> Passed
+    ensures { λ r. ⌜ r ≡ passedOf (lastRecord (now (s .entry)) at) ⌝ }
 {
     let step = skip_goal(s, at);
-    let Step::Next(behind) = step else {
+    let Passed::Next(behind) = step else {
         return step;
     };
     if behind < s.len() {
-        return Step::Refused(Refusal::TrailingBytes);
+        return Passed::Refused(Refusal::TrailingBytes);
     }
     step
 }
 
 // What was read, put together.
 fn all_read(
-    step: Step,
+    step: Passed,
     types: TypeTable,
     functions: FunctionTable,
     naming: Naming,
@@ -248,26 +248,26 @@ pub fn first_pass(s: &[u8]) -> Outlined
     ensures limits { λ r. ⌜ InLimits r ⌝ }
 {
     let begin = first_mark(s);
-    let Step::Next(first_type) = begin else {
+    let Passed::Next(first_type) = begin else {
         return not_read(begin);
     };
     let types = read_types(s, first_type);
     let typed = types.step;
-    let Step::Next(first_function) = typed else {
+    let Passed::Next(first_function) = typed else {
         return not_read(typed);
     };
     let functions = read_functions(s, first_function);
     let defined = functions.step;
-    let Step::Next(names_at) = defined else {
+    let Passed::Next(names_at) = defined else {
         return not_read(defined);
     };
     let naming = read_naming(s, names_at);
     let told = naming.step;
-    let Step::Next(goal_at) = told else {
+    let Passed::Next(goal_at) = told else {
         return not_read(told);
     };
     let last = last_record(s, goal_at);
-    let Step::Next(_) = last else {
+    let Passed::Next(_) = last else {
         return not_read(last);
     };
     all_read(last, types, functions, naming, goal_of(s, goal_at))

@@ -47,12 +47,12 @@ module _ (p : Program) (table : List ℕ) where
   owed w = owedFrom (w .position) (w .choices)
 
   -- the entries listed and still to come are es, and k moves are still to come
-  abbrev Holds : Walk → List Entry → ℕ → Type 0
-  Holds w es k = (w .listed ++ owed w ≡ es) × (owedMoves p table w ≡ k)
+  abbrev Yields : Walk → List Entry → ℕ → Type 0
+  Yields w es k = (w .listed ++ owed w ≡ es) × (owedMoves p table w ≡ k)
 
   -- over these choice points, with es listed, w has the entries ys and m moves more to come
   abbrev Adds : List Choice → List Entry → Walk → List Entry → ℕ → Type 0
-  Adds cs es w ys m = Holds w (es ++ (ys ++ choicesOwed cs)) (m + choicesMoves p table cs)
+  Adds cs es w ys m = Yields w (es ++ (ys ++ choicesOwed cs)) (m + choicesMoves p table cs)
 
   -- `settle` adds what `gather` gathers, if what the path goes on to does
   settle-adds :
@@ -81,7 +81,7 @@ module _ (p : Program) (table : List ℕ) where
 
   -- behind the end of a path: the entries are kept, and one of the moves that the choice points owe is made, if there is one
   abbrev Returns : List Choice → List Entry → Type 0
-  Returns cs es = Holds (return p table cs es) (es ++ choicesOwed cs) (pred (choicesMoves p table cs))
+  Returns cs es = Yields (return p table cs es) (es ++ choicesOwed cs) (pred (choicesMoves p table cs))
 
   -- the last choice point goes on to its next constructor, or, if none is left, hands over to the one before it
   return-choice : (c : Choice) (untried : List Fork) (cs : List Choice) (es : List Entry) → Returns cs es → Returns (withUntried c untried ∷ cs) es
@@ -97,12 +97,12 @@ module _ (p : Program) (table : List ℕ) where
   returns (c ∷ cs) es = return-choice c (c .untried) cs es (returns cs es)
 
   -- a move keeps the entries, and makes one of the moves to come, if there is one
-  move-holds : (w : Walk) → Holds (move p table w) (w .listed ++ owed w) (pred (owedMoves p table w))
+  move-holds : (w : Walk) → Yields (move p table w) (w .listed ++ owed w) (pred (owedMoves p table w))
   unfolding move moveFrom owed owedFrom owedMoves owedMovesFrom
   move-holds w = from (w .position)
     where
       from : (x : Position)
-          → Holds (moveFrom p table x (w .choices) (w .listed)) (w .listed ++ owedFrom x (w .choices)) (pred (owedMovesFrom p table x (w .choices)))
+          → Yields (moveFrom p table x (w .choices) (w .listed)) (w .listed ++ owedFrom x (w .choices)) (pred (owedMovesFrom p table x (w .choices)))
       from (on g) =
           let a = arrive-adds (g .left) (g .done) (g .input) (g .state) (w .choices) (w .listed) in
           (a .0, a .1 ∙ omega arith)

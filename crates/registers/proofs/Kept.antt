@@ -11,7 +11,7 @@ use Rattle.reach.specs.Eval as Eval
 use Rattle.reach.specs.Eval.{Env, operands, size, Frame, waiting, State}
 use Rattle.reach.specs.States.{EnvIn, FramesIn, StateIn, Sound}
 use Rattle.machine.specs.Cells.{cellOf}
-use Rattle.machine.specs.Records.{Holds, Code, CodeAll, CodeAlternatives, Control, expressionAt, environmentOf, EnvAt, FramesAt, StateAt, OnlyTop, Wrote}
+use Rattle.machine.specs.Records.{RecordIs, Code, CodeAll, CodeAlternatives, Control, expressionAt, environmentOf, EnvAt, FramesAt, StateAt, OnlyTop, Wrote}
 use Rattle.machine.proofs.Codes.{Coded, coded-known, code-kind}
 use Rattle.machine.proofs.Records.{env-kept, frames-kept, operands-added, waiting-added}
 use Rattle.registers.specs.declared.Registers.{Registers}
@@ -110,18 +110,18 @@ module _
 
     -- the record at the top is a group of operands
     pub operands-there :
-        {a b i n : ℕ} {outer inner : Env} {es : Exprs} → Holds w′ base (r .records) a n i (b + 1) → a < r .records → b < r .records → n ≡ size outer + count es
+        {a b i n : ℕ} {outer inner : Env} {es : Exprs} → RecordIs w′ base (r .records) a n i (b + 1) → a < r .records → b < r .records → n ≡ size outer + count es
         → EnvAt file (declarationsOf file types functions) w base (cellOf w) a outer → EnvIn e outer
         → EnvAt file (declarationsOf file types functions) w base (cellOf w) b inner → EnvIn e inner → CodeAll file (declarationsOf file types functions) i es
         → EnvAt file (declarationsOf file types functions) w′ base (cellOf w′) (r .records) (operands outer es inner)
     operands-there {a} {b} {i} {n} holds a<t b<t many outer outer-in inner inner-in code =
         let z : b + 1 ≡ suc b = omega arith in
         operands-added file (declarationsOf file types functions) w w′ base (r .records) (cellOf w) (cellOf w′) e (records-same only) ((cells-same only stands) .0)
-        (subst (λ (k : ℕ). Holds w′ base (r .records) a n i k) z holds) a<t b<t many outer outer-in inner inner-in code
+        (subst (λ (k : ℕ). RecordIs w′ base (r .records) a n i k) z holds) a<t b<t many outer outer-in inner inner-in code
 
     -- or a waiting case
     pub waiting-there :
-        {i a f : ℕ} {alts : Alternatives} {env : Env} {fs : List Frame} → Holds w′ base (r .records) i 0 a f → a < r .records → f < r .records
+        {i a f : ℕ} {alts : Alternatives} {env : Env} {fs : List Frame} → RecordIs w′ base (r .records) i 0 a f → a < r .records → f < r .records
         → CodeAlternatives file (declarationsOf file types functions) i alts
         → EnvAt file (declarationsOf file types functions) w base (cellOf w) a env → EnvIn e env
         → FramesAt file (declarationsOf file types functions) w base (cellOf w) f fs → FramesIn e fs

@@ -14,7 +14,7 @@ use Rattle.reach.specs.RuleFile.{Declarations}
 use Rattle.reach.specs.Places.{typeAt, headAt, declarationsAt}
 use Rattle.reach.specs.States.{StateIn, Sound}
 use Rattle.machine.specs.Cells.{Cells, cellOf}
-use Rattle.machine.specs.Records.{Code, Holds, OnlyTop, Wrote, recordWord, Control, environmentOf, StateAt, expressionAt, partIn, nothingLeft}
+use Rattle.machine.specs.Records.{Code, RecordIs, OnlyTop, Wrote, recordWord, Control, environmentOf, StateAt, expressionAt, partIn, nothingLeft}
 use Rattle.skipping.specs.Ends.{Ends}
 use Rattle.machine.specs.Walks.{Behind, OperandAt, ChosenAt, VariableAt, outsideOf}
 use Rattle.registers.specs.declared.Registers.{Registers}
@@ -71,7 +71,7 @@ pub record Space (w : List ℕ) (base : ℕ) (r : Registers) : Type 0 where
 pub record StandsFor (file types functions : List ℕ) (p : Program) (w : List ℕ) (base cells : ℕ) (r : Registers) (e : Parts) (s : State) : Type 0 where
   pub input : Cells (p .types) (sourceSlots p) w cells e
   pub apart : 5 * cells ≤ base
-  pub zeros : Holds w base 0 0 0 0 0
+  pub zeros : RecordIs w base 0 0 0 0 0
   pub state : StateAt file (declarationsOf file types functions) w base (cellOf w) (controlIn r) (r .frame) s
   pub there : StateIn e s
   pub sound : Sound p e s
@@ -114,18 +114,18 @@ module _ (file types functions : List ℕ) (w w′ : List ℕ) (base : ℕ) (r :
   StepMeans e s (Next.Waits x) = (q : Question) × (Eval.next p e s ≡ Eval.waits q) × (cellOf w (q .place) ≡ x)
 
   -- and it says so of every input and state that they stood for
-  abbrev pub Steps : Next → Type 0
-  Steps n = (cells : ℕ) (e : Parts) (s : State) → FileOf file types functions p → StandsFor file types functions p w base cells r e s → StepMeans e s n
+  abbrev pub StepMeansAll : Next → Type 0
+  StepMeansAll n = (cells : ℕ) (e : Parts) (s : State) → FileOf file types functions p → StandsFor file types functions p w base cells r e s → StepMeans e s n
 
 -- A step that leads to registers r′, whatever the program.
 pub record Leads (file types functions w w′ : List ℕ) (base : ℕ) (r r′ : Registers) : Type 0 where
   pub only-top : OnlyTop w w′ base (r .records)
-  pub steps : (p : Program) → Steps file types functions w w′ base r p (Next.Goes r′)
+  pub steps : (p : Program) → StepMeansAll file types functions w w′ base r p (Next.Goes r′)
 
 -- A step with any outcome, for programs of the sought label.
 pub record Stepped (file types functions w w′ : List ℕ) (base label : ℕ) (r : Registers) (n : Next) : Type 0 where
   pub only-top : OnlyTop w w′ base (r .records)
-  pub steps : (p : Program) → label ≡ p .label → Steps file types functions w w′ base r p n
+  pub steps : (p : Program) → label ≡ p .label → StepMeansAll file types functions w w′ base r p n
 
 -- The same by a table of the ends of expressions, for every program whose file has these ends.
 

@@ -14,8 +14,8 @@ use Rattle.reach.specs.Types.{leastDepths}
 use Rattle.reach.specs.RuleFile.{Outline, outline, numbersExist, programOf, noEmptyType, deepEnough, wellSpelled}
 use Rattle.reach.specs.Places.{typeAt, declarationsAt, outlineAt}
 use Rattle.reach.specs.Answers.{turnedBack, check}
-use Rattle.records.specs.declared.Step.the-variants.{Next}
-use Rattle.records.specs.Steps.{stepOf}
+use Rattle.typerecord.specs.declared.Passed.the-variants.{Next}
+use Rattle.typerecord.specs.Passed.{passedOf}
 use Rattle.goal.specs.Goals.{goalOf, namedOf}
 use Rattle.outline.specs.declared.Outlined.{Outlined}
 use Rattle.outline.specs.Tables.{outlinedOf, InLimits}
@@ -82,7 +82,7 @@ module _ (s : List ℕ) (o : Outlined) where
     exist : not r ≡ false → numbersExist whole ≡ true
     exist e = sym tested ∙ not-false r e
 
-    module _ (passed : not r ≡ false) {b : Judged} (told : b ≡ bodiesOf (stepOf (functionsAt s (typesIn o) (functionsIn o)))) where
+    module _ (passed : not r ≡ false) {b : Judged} (told : b ≡ bodiesOf (passedOf (functionsAt s (typesIn o) (functionsIn o)))) where
       pub body-refused : {why : Refusal} → b ≡ Judged.Refused why → check s ≡ turnedBack why
       unfolding outlineAt
       body-refused e =

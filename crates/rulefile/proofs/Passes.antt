@@ -15,7 +15,7 @@ use Rattle.reach.specs.Base.{Each}
 use Rattle.reach.proofs.Base.{clash, nth-member, each-member}
 use Rattle.reach.proofs.Limits.{IfFound, ConstructorKept, TypeKept, HeadKept, OutlineKept, outline-kept}
 use Rattle.codes.proofs.Encoding.{BodyInside, outline-inside}
-use Rattle.records.specs.Steps.{stepOf}
+use Rattle.typerecord.specs.Passed.{passedOf}
 use Rattle.lookups.proofs.Tables.{found}
 use Rattle.bodies.specs.declared.Judged.{Judged}
 use Rattle.bodies.specs.declared.Judged.the-variants as Judged
@@ -65,11 +65,11 @@ module _ (d : Declarations) (s : List ℕ) (i j : ℕ) where
   got-anywhere (h ∷ hs) {m = m} e = (m, e)
 
 -- what the answer of the third pass tells
-step-got : {A : Type 0} (g : Got A) {r : Judged} → r ≡ bodiesOf (stepOf g) → r ≡ Judged.Fit → (a : A) × (m : ℕ) × (g ≡ got a m)
+step-got : {A : Type 0} (g : Got A) {r : Judged} → r ≡ bodiesOf (passedOf g) → r ≡ Judged.Fit → (a : A) × (m : ℕ) × (g ≡ got a m)
 step-got (got a m) told e = (a, m, refl)
 step-got (refused why) told e = absurd (clash (let z = rw e at told in cc))
 
-step-refused : {A : Type 0} (g : Got A) {r : Judged} {why : Refusal} → r ≡ bodiesOf (stepOf g) → r ≡ Judged.Refused why → g ≡ refused why
+step-refused : {A : Type 0} (g : Got A) {r : Judged} {why : Refusal} → r ≡ bodiesOf (passedOf g) → r ≡ Judged.Refused why → g ≡ refused why
 step-refused (got a m) told e = absurd (clash (let z = rw e at told in cc))
 step-refused (refused w) told e = let z = rw e at told in cc
 
@@ -77,7 +77,7 @@ module _ (s types functions : List ℕ) (i : ℕ) where
   abbrev bodiesRead : Got (List Function)
   bodiesRead = functionsOf (declarationsAt s types functions) ((declarationsAt s types functions) .heads) s i
 
-  module _ {r : Judged} (told : r ≡ bodiesOf (stepOf (functionsAt s types functions))) where
+  module _ {r : Judged} (told : r ≡ bodiesOf (passedOf (functionsAt s types functions))) where
     pub bodies-got : r ≡ Judged.Fit → (fs : List Function) × (m : ℕ) × (bodiesRead ≡ got fs m)
     unfolding declarationsAt
     bodies-got e =

@@ -19,7 +19,7 @@ use numbers::numbers_exist;
 use outline::Outlined;
 use outline::first_pass;
 use reach::Refusal;
-use records::Step;
+use typerecord::Passed;
 use results::CheckResult;
 use rooms::all_roomy;
 use spelling::spells;
@@ -142,8 +142,8 @@ pub fn load(file: &[u8]) -> Loaded
     let o = first_pass(file);
     let step = o.step;
     match step {
-        Step::Next(_) => with_outline(file, o),
-        Step::Refused(why) => turned_back(why),
+        Passed::Next(_) => with_outline(file, o),
+        Passed::Refused(why) => turned_back(why),
     }
 }
 

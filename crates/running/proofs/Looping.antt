@@ -21,7 +21,7 @@ use Rattle.steps.specs.declared.Ran.{Ran}
 use Rattle.registers.specs.Stepping.{Standing, Stepped}
 use Rattle.steps.specs.Running.{StepsTo, no-step, one-more, Onward, ComesToHalt, RunsOn}
 use Rattle.skipping.specs.Ends.{Ends}
-use Rattle.binding.specs.Underway.{GivenInput, Underway, Advances, ComesTo, AdvancesAll, SomeWaiting, Enters}
+use Rattle.binding.specs.Underway.{GivenInput, Underway, Advances, NextIs, AdvancesAll, SomeWaiting, Enters}
 use Rattle.binding.proofs.Reached.{same-demands, same-lacks, same-stops, same-spent}
 use Rattle.binding.proofs.Advancing.{within, went}
 use Rattle.running.specs.Looked.{LookedAt}
@@ -38,7 +38,7 @@ Last (Next.Waits x) spent = ⊥
 -- there the evaluation on the input that is bound so far is at the same end
 same-end :
     {file types functions input : List ℕ} {p : Program} {j e : Parts} {limit done : ℕ} {s : State} (n : Next) → Last n (limit ≤ done)
-    → GivenInput file types functions input p j → done ≤ limit → e ⊑ j → Steps p e done s → ComesTo p e s n
+    → GivenInput file types functions input p j → done ≤ limit → e ⊑ j → Steps p e done s → NextIs p e s n
     → eval p e limit 0 (start p) ≡ eval p j limit 0 (start p)
 same-end {file} {p = p} {j} {limit = limit} Next.Demands over given in-time below steps on =
     same-demands file p (given .of-file .checked) j (within given) below steps limit in-time on

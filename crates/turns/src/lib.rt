@@ -1,7 +1,7 @@
-// The turns of the first pass: what the mark behind a record calls for. Every mark is read through the cursor. Rests on crates marks, cursor and records.
+// The turns of the first pass: what the mark behind a record calls for. Every mark is read through the cursor. Rests on crates marks, cursor and typerecord.
 ghost use mathlib.Core.Path.{_≡_};
 ghost use Rattle.reach.specs.RuleFile.{moreTypes, moreFunctions, goalMark};
-ghost use Rattle.records.specs.Steps.{stepOf};
+ghost use Rattle.typerecord.specs.Passed.{passedOf};
 ghost use Rattle.turns.specs.Turns.{typesTurn, functionsTurn, Room, firstMark};
 use cursor::mark_at;
 use cursor::mark_behind;
@@ -9,7 +9,7 @@ use marks::Mark;
 use marks::Marked;
 use marks::same_mark;
 use reach::Refusal;
-use records::Step;
+use typerecord::Passed;
 
 // What the mark behind a record calls for: one more record of its kind, the next kind, or a refusal.
 pub enum Turn {
@@ -70,27 +70,27 @@ pub fn turn_after_function(s: &[u8], from: usize, behind: usize, more: usize) ->
 }
 
 // The place behind the first mark, which must be that of a type.
-pub fn first_mark(s: &[u8]) -> Step
-    ensures { λ r. ⌜ r ≡ stepOf (firstMark (now (s .entry)) 0) ⌝ }
+pub fn first_mark(s: &[u8]) -> Passed
+    ensures { λ r. ⌜ r ≡ passedOf (firstMark (now (s .entry)) 0) ⌝ }
 {
     let Marked::Mark(first, next) = mark_at(s, 0) else {
-        return Step::Refused(Refusal::Truncated);
+        return Passed::Refused(Refusal::Truncated);
     };
     if same_mark(first, Mark::Type) {
-        return Step::Next(next);
+        return Passed::Next(next);
     }
-    Step::Refused(Refusal::UnexpectedMark)
+    Passed::Refused(Refusal::UnexpectedMark)
 }
 
 // The place behind the mark GO, which must come behind NA's type number; `from` is where that number stands.
-pub fn goal_mark(s: &[u8], from: usize, behind: usize) -> Step
-    ensures { λ r. ⌜ r ≡ stepOf (goalMark (now (s .entry)) behind) ⌝ }
+pub fn goal_mark(s: &[u8], from: usize, behind: usize) -> Passed
+    ensures { λ r. ⌜ r ≡ passedOf (goalMark (now (s .entry)) behind) ⌝ }
 {
     let Marked::Mark(last, next) = mark_behind(s, from, behind) else {
-        return Step::Refused(Refusal::Truncated);
+        return Passed::Refused(Refusal::Truncated);
     };
     if same_mark(last, Mark::Goal) {
-        return Step::Next(next);
+        return Passed::Next(next);
     }
-    Step::Refused(Refusal::UnexpectedMark)
+    Passed::Refused(Refusal::UnexpectedMark)
 }

@@ -4,7 +4,7 @@ use mathlib.Core.Path.{sym, _∙_}
 use borrow.Author.Needs.{needs}
 use Rattle.reach.specs.RuleFile.{goalRecord}
 use Rattle.marks.proofs.Answers.{byte-got, byte-short}
-use Rattle.records.proofs.Tails.{goal-tail}
+use Rattle.typerecord.proofs.Tails.{goal-tail}
 use Rattle.goalrecord.proofs.skip_goal.Statement.{statement}
 use Rattle.goalrecord.proofs.skip_goal.Tie as tie
 

@@ -8,9 +8,9 @@ use borrow.Author.Needs.{needs}
 use Rattle.reach.specs.Limits.{depthLimit, stepLimit}
 use Rattle.reach.specs.Reader.{got}
 use Rattle.reach.specs.RuleFile.{counted}
-use Rattle.records.specs.Steps.{limitsPart}
+use Rattle.typerecord.specs.Passed.{limitsPart}
 use Rattle.marks.proofs.Answers.{byte-got, byte-short, word-got, word-short}
-use Rattle.records.proofs.Counts.{counted-got, counted-short, counted-under, counted-over}
+use Rattle.typerecord.proofs.Counts.{counted-got, counted-short, counted-under, counted-over}
 use Rattle.goalrecord.proofs.skip_limits.Statement.{statement}
 use Rattle.goalrecord.proofs.skip_limits.Tie as tie
 

@@ -1,5 +1,5 @@
 -- `outline::last_record` meets its contract: the goal is read, and then the end of the bytes is asked for, as in `lastRecord`.
--- Rests on the laws of crate records about steps.
+-- Rests on the laws of crate typerecord about steps.
 use mathlib.Core.Path.{sym, _∙_}
 use lib.ListN.{length}
 use native.Mathlib.Omega.{arith}
@@ -8,7 +8,7 @@ use borrow.Author.Needs.{needs}
 use borrow.Author.Tests.{lt-ltb, le-ltb}
 use Rattle.reach.specs.Reader.{atEnd}
 use Rattle.reach.specs.RuleFile.{goalRecord}
-use Rattle.records.proofs.Answers.{step-got, step-refused}
+use Rattle.typerecord.proofs.Answers.{step-got, step-refused}
 use Rattle.outline.specs.Tables.{lastRecord}
 use Rattle.outline.proofs.last_record.Statement.{statement}
 use Rattle.outline.proofs.last_record.Tie as tie

@@ -6,7 +6,7 @@ use mathlib.Core.Path.{_≡_, refl, _∙_}
 use native.Mathlib.Omega.{arith}
 use borrow.Author.Needs.{needs}
 use Rattle.reach.specs.Places.{constructorsAt}
-use Rattle.records.specs.Steps.{stepOf}
+use Rattle.typerecord.specs.Passed.{passedOf}
 use Rattle.expressions.specs.Readers.{viewOf, Narrow, alternativesAt}
 use Rattle.expressions.proofs.Tables.{narrow-first, narrow-rest}
 use Rattle.expressions.proofs.Sequences.{alternative-next, alternative-refused, alternatives-done}
@@ -16,8 +16,8 @@ use Rattle.expressions.proofs.+alternative+alternatives+call+case+const
 
 abbrev Inv-loop : lts.InvT-loop
 Inv-loop file body types functions at left view constructors n expected place₀ constructor₀ more₀ place constructor more =
-    (stepOf (alternativesAt file types functions left (viewOf view) expected (constructorsAt file constructor more) body place)
-    ≡ stepOf (alternativesAt file types functions left (viewOf view) expected (constructorsAt file constructors n) body at))
+    (passedOf (alternativesAt file types functions left (viewOf view) expected (constructorsAt file constructor more) body place)
+    ≡ passedOf (alternativesAt file types functions left (viewOf view) expected (constructorsAt file constructors n) body at))
     × (constructor + 7 * more ≤ constructors + 7 * n)
     × Narrow (constructorsAt file constructor more)
 

@@ -6,7 +6,7 @@ use mathlib.Core.Path.{_≡_, refl, _∙_}
 use native.Mathlib.Omega.{arith}
 use borrow.Author.Needs.{needs}
 use Rattle.reach.specs.Places.{bytesAt}
-use Rattle.records.specs.Steps.{stepOf}
+use Rattle.typerecord.specs.Passed.{passedOf}
 use Rattle.expressions.specs.Readers.{viewOf, operandsAt}
 use Rattle.expressions.proofs.Sequences.{operand-next, operand-refused, operands-done}
 use Rattle.expressions.proofs.operands.Reads as reads
@@ -15,8 +15,8 @@ use Rattle.expressions.proofs.+alternative+alternatives+call+case+const
 
 abbrev Inv-loop : lts.InvT-loop
 Inv-loop file body types functions at left view first n place₀ t₀ more₀ place t more =
-    (stepOf (operandsAt file types functions left (viewOf view) (bytesAt file t more) body place)
-    ≡ stepOf (operandsAt file types functions left (viewOf view) (bytesAt file first n) body at))
+    (passedOf (operandsAt file types functions left (viewOf view) (bytesAt file t more) body place)
+    ≡ passedOf (operandsAt file types functions left (viewOf view) (bytesAt file first n) body at))
     × (t + more ≡ first + n)
 
 abbrev μ-loop : lts.MeasureT-loop
