@@ -34,6 +34,7 @@ pub fn no_goal() -> Goal {
 // The byte so far behind a place, or 0 past the end.
 fn byte_behind(s: &[u8], at: usize, far: usize) -> usize
     ensures { λ r. ⌜ r ≡ getD (now (s .entry)) (at + far) 0 ⌝ }
+    ensures small { λ r. ⌜ r ≤ 255 ⌝ }
 {
     if s.len() <= at {
         return 0;

@@ -7,6 +7,7 @@ use Prim.Native.Nat.{ℕ, suc, _≤_, _<_}
 use mathlib.Core.Path.{_≡_, refl, ap, subst, _∙_}
 use mathlib.Core.List.{List, [], _∷_, _++_, flatMap, zipWith, append-nil}
 use mathlib.Core.Option.{none, some}
+use native.Mathlib.Nat.{le-refl}
 use native.Mathlib.Omega.{arith}
 use lib.ListN.{length, getD, replicate}
 use Rattle.reach.specs.declared.Refusal.{Refusal}
@@ -17,7 +18,7 @@ use Rattle.reach.specs.declared.Kind.the-variants.{RE}
 use Rattle.reach.specs.Syntax.{variable, Types, Program, fieldTypes, functionAt, sourceTypes}
 use Rattle.reach.specs.Parts.{Parts, end, opened, bound, Closed, Completes, depth, _⊑_}
 use Rattle.reach.specs.Partial.{deepest}
-use Rattle.reach.specs.Types.{depthOf, Typed, ClosedInput, ValueOf, LeastDepth, known, inhabited, round, rounds, leastDepths, shallow}
+use Rattle.reach.specs.Types.{Slot, sourceSlots, depthOf, Typed, ClosedInput, ValueOf, LeastDepth, known, inhabited, round, rounds, leastDepths, shallow}
 use Rattle.reach.specs.Eval.{run}
 use Rattle.reach.specs.Search.{Entry, says}
 use Rattle.reach.specs.Names.{Spells}
@@ -25,7 +26,8 @@ use Rattle.reach.specs.Answers.{Checked, check, accepted, turnedBack, noSearch,
 use Rattle.reach.specs.Text.{lineFeed, spaced, lineFrom, digitsBy, decimal, refusalLine}
 use Rattle.reach.proofs.Base.{each-member}
 use Rattle.reach.proofs.Answers.{search-turned-back, listed-in}
-use Rattle.reach.proofs.Limits.{accepted-keeps, accepted-even}
+use Rattle.reach.proofs.Limits.{accepted-keeps, accepted-even, accepted-rooms}
+use Rattle.reach.proofs.Slots.{even-each, source-types}
 use Rattle.reach.proofs.WellTyped.{accepted-typed}
 use Rattle.reach.proofs.Spelling.{spells-form}
 use Rattle.reach.proofs.Handed.{listed-handed}
@@ -69,9 +71,23 @@ module _ (file : List ℕ) (p : Program) (checked : check file ≡ accepted p) (
       let fits = each-member _ (listed-handed file p checked work list .each-fits) m in
       let typed = accepted-typed file p checked in
       let kept = accepted-keeps file p checked in
-      Entries.names-filled (p .types) depthLimit (depthOf (p .depths)) named (kept .depth-limit .1) (e .input) (sourceTypes p) (fits .typed)
-      (Entries.fillable p typed (kept .no-empty) (e .input) (sourceTypes p) (Entries.source-there p typed (kept .no-empty)) (fits .typed))
-      (rw (accepted-even file p checked) at (fits .deep))
+      let rooms = accepted-even file p checked in
+      let fillable = Entries.fillable p typed (kept .no-empty) (e .input) (sourceTypes p) (Entries.source-there p typed (kept .no-empty)) (fits .typed) in
+      let fit = Entries.names-fit (p .types) depthLimit named (e .input) (sourceSlots p) (accepted-rooms file p checked) (rw (source-types p) (fits .typed))
+      (rw (source-types p) fillable) (fits .deep) in
+      rw (source-types p) at (Entries.names-within (p .types) depthLimit named (depthOf (p .depths)) _ (sourceSlots p)
+      (rw rooms (even-each _ (sourceTypes p) (depthOf (p .depths)) (λ t. le-refl (depthOf (p .depths))))) fit)
+
+  -- That it goes below 64 constructors at most, the largest D, changes nothing: as many as the deepest parameter has give the same.
+  pub levels-enough : (e : Entry) → e ∈ listed (searchAnswer file work list) → (levels : ℕ) → levels ≤ depthLimit → deepest (p .types) (sourceTypes p) (e .input) ≤ levels
+      → filled p named (e .input) ≡ fillNamed (p .types) (leastDepths (p .types)) levels named (sourceTypes p) (e .input)
+  unfolding filled
+  levels-enough e m levels few deep =
+      let fits = each-member _ (listed-handed file p checked work list .each-fits) m in
+      let typed = accepted-typed file p checked in
+      let no-empty = accepted-keeps file p checked .no-empty in
+      Filling.named-same (p .types) levels depthLimit named few (e .input) (sourceTypes p) (fits .typed)
+      (Entries.fillable p typed no-empty (e .input) (sourceTypes p) (Entries.source-there p typed no-empty) (fits .typed)) deep
 
   -- what is filled binds at least what the entry binds
   pub filled-binds : (e : Entry) → e .input ⊑ filled p named (e .input)

@@ -8,11 +8,11 @@ use mathlib.Core.Option.{Option, none, some, Option·some-injective}
 use native.Mathlib.Omega.{arith}
 use lib.ListN.{length, getD}
 use lib.Dec.{eqb, ltb}
-use borrow.Author.Tests.{eqb-true}
+use borrow.Author.Tests.{eqb-true, eqb-false, ne-eqb}
 use Rattle.reach.specs.Base.{Each, pick}
 use Rattle.reach.specs.Syntax.{Types, Function, Program, fieldTypes, functionAt, parametersOf, sourceTypes}
 use Rattle.reach.specs.Parts.{Parts, end, opened, bound, depth}
-use Rattle.reach.specs.Types.{slots, evenSlots, Typed, ValueOf, leastDepths}
+use Rattle.reach.specs.Types.{Slot, slotTypes, Typed, ValueOf, leastDepths}
 use Rattle.reach.specs.Typing.{Exists, WellTyped}
 use Rattle.reach.specs.RuleFile.{noEmptyType}
 use Rattle.reach.specs.Partial.{fieldsIn, deepest, Keeps}
@@ -62,58 +62,82 @@ module _ (p : Program) (typed : WellTyped p) (no-empty : noEmptyType (leastDepth
 
 -- ---- the names of a filled row
 
-module _ (types : Types) (levels most named : ℕ) (enough : most ≤ levels) where
+module _ (types : Types) (levels named : ℕ) where
   abbrev table : List ℕ
   table = leastDepths types
 
-  -- a closed value of the named type that fits
-  abbrev pub IsFilledName : Parts → Type 0
-  IsFilledName v = ValueOf types named v × (depth v ≤ most)
+  -- a closed value of the named type that is at most so deep
+  abbrev pub IsFilledName : ℕ → Parts → Type 0
+  IsFilledName room v = ValueOf types named v × (depth v ≤ room)
 
-  -- one that was filled is
-  one-filled : (t : ℕ) (e v : Parts) → t ≡ named → IsFilled types (t ∷ []) e v → deepest types (t ∷ []) e ≤ most → IsFilledName v
-  one-filled t e v same filled fits = ((filled .closed, subst (λ (u : ℕ). Typed types (u ∷ []) v) same (filled .typed)), omega (arith, filled .deep, fits))
+  -- in every slot of the named type there is one that fits it
+  abbrev pub NamesFit : List Slot → Parts → Type 0
+  NamesFit [] r = Unit {0}
+  NamesFit (s ∷ ss) end = Unit {0}
+  NamesFit (s ∷ ss) (opened r) = ¬ (s .type ≡ named) × NamesFit ss r
+  NamesFit (s ∷ ss) (bound c fs r) = (s .type ≡ named → IsFilledName (s .room) (bound c fs end)) × NamesFit ss r
+
+  -- a value that was filled is one
+  one-filled : (s : Slot) (e v : Parts) → s .type ≡ named → IsFilled types (s .type ∷ []) e v → deepest types (s .type ∷ []) e ≤ s .room → IsFilledName (s .room) v
+  one-filled s e v same filled fits = ((filled .closed, subst (λ (u : ℕ). Typed types (u ∷ []) v) same (filled .typed)), omega (arith, filled .deep, fits))
 
   -- an open part at the front of a row, the rest of which is filled
-  open-filled : (t : ℕ) (ts : List ℕ) (r : Parts) → Fillable types (t ∷ []) (opened end) → deepest types (t ∷ []) (opened end) ≤ most
-      → Each IsFilledName (namesIn named ts r)
-      → Each IsFilledName (namesIn named (t ∷ ts) (pick (isNamed named (some t)) (builtBy (leastRow types table levels) (firstLeast types table (some t)) r) (opened r)))
-  unfolding namesIn fill builtBy isNamed
-  open-filled t ts r k fits rest = by-name (eqb t named) refl
+  open-filled : (s : Slot) (ss : List Slot) (r : Parts) → s .room ≤ levels → Fillable types (s .type ∷ []) (opened end)
+      → deepest types (s .type ∷ []) (opened end) ≤ s .room → NamesFit ss r
+      → NamesFit (s ∷ ss) (pick (isNamed named (some (s .type))) (builtBy (leastRow types table levels) (firstLeast types table (some (s .type))) r) (opened r))
+  unfolding fill builtBy isNamed
+  open-filled s ss r below k fits rest = by-name (eqb (s .type) named) refl
     where
-      by-name : (b : Bool) → eqb t named ≡ b
-          → Each IsFilledName (namesIn named (t ∷ ts) (pick b (builtBy (leastRow types table levels) (firstLeast types table (some t)) r) (opened r)))
+      by-name : (b : Bool) → eqb (s .type) named ≡ b
+          → NamesFit (s ∷ ss) (pick b (builtBy (leastRow types table levels) (firstLeast types table (some (s .type))) r) (opened r))
       by-name true is =
           let (u, e, same, least) = k .0 in
-          let here : t ≡ u = Option·some-injective t u same in
-          let (c, us, first, has, will) = has-first types t e (ap (λ (x : ℕ). getD table x 0) here ∙ least) in
-          let whole = fill-filled types levels (opened end) (t ∷ []) tt k (omega (arith, fits, enough)) in
-          rw (first, is) (one-filled t (opened end) (bound c (leastRow types table levels us) end) (eqb-true t named is) (rw first at whole) fits, rest)
-      by-name false is = rw is rest
+          let here : s .type ≡ u = Option·some-injective (s .type) u same in
+          let (c, us, first, has, will) = has-first types (s .type) e (ap (λ (x : ℕ). getD table x 0) here ∙ least) in
+          let whole = fill-filled types levels (opened end) (s .type ∷ []) tt k (omega (arith, fits, below)) in
+          rw first (λ same-type. one-filled s (opened end) (bound c (leastRow types table levels us) end) same-type (rw first at whole) fits, rest)
+      by-name false is = (eqb-false (s .type) named is, rest)
 
   -- a bound part
-  bound-filled : (t c : ℕ) (ts : List ℕ) (fs r : Parts) → Typed types (t ∷ []) (bound c fs end) → Fillable types (t ∷ []) (bound c fs end)
-      → deepest types (t ∷ []) (bound c fs end) ≤ most → Each IsFilledName (namesIn named ts r)
-      → Each IsFilledName (namesIn named (t ∷ ts) (bound c (pick (isNamed named (some t)) (fill types table levels (fieldsIn types (some t) c) fs) fs) r))
-  unfolding namesIn fill isNamed
-  bound-filled t c ts fs r h k fits rest = by-name (eqb t named) refl
+  bound-filled : (s : Slot) (c : ℕ) (ss : List Slot) (fs r : Parts) → s .room ≤ levels → Typed types (s .type ∷ []) (bound c fs end)
+      → Fillable types (s .type ∷ []) (bound c fs end) → deepest types (s .type ∷ []) (bound c fs end) ≤ s .room → NamesFit ss r
+      → NamesFit (s ∷ ss) (bound c (pick (isNamed named (some (s .type))) (fill types table levels (fieldsIn types (some (s .type)) c) fs) fs) r)
+  unfolding fill isNamed
+  bound-filled s c ss fs r below h k fits rest = by-name (eqb (s .type) named) refl
     where
-      by-name : (b : Bool) → eqb t named ≡ b
-          → Each IsFilledName (namesIn named (t ∷ ts) (bound c (pick b (fill types table levels (fieldsIn types (some t) c) fs) fs) r))
+      by-name : (b : Bool) → eqb (s .type) named ≡ b
+          → NamesFit (s ∷ ss) (bound c (pick b (fill types table levels (fieldsIn types (some (s .type)) c) fs) fs) r)
       by-name true is =
-          rw is (one-filled t (bound c fs end) _ (eqb-true t named is) (fill-filled types levels (bound c fs end) (t ∷ []) h k (omega (arith, fits, enough))) fits, rest)
-      by-name false is = rw is rest
+          (λ same. one-filled s (bound c fs end) _ same (fill-filled types levels (bound c fs end) (s .type ∷ []) h k (omega (arith, fits, below))) fits, rest)
+      by-name false is = (λ same. absurd (eqb-false (s .type) named is same), rest)
 
-  -- every name of a row is filled
-  pub names-filled : (e : Parts) (ts : List ℕ) → Typed types ts e → Fillable types ts e → Keeps types (evenSlots ts most) e
-      → Each IsFilledName (namesIn named ts (fillNamed types table levels named ts e))
-  unfolding namesIn fillNamed evenSlots slots
-  names-filled end ts h k keeps = tt
-  names-filled (opened r) [] h k keeps = absurd h
-  names-filled (opened r) (t ∷ ts) h (here, k) (fits, keeps) = open-filled t ts (fillNamed types table levels named ts r) (here, tt) fits (names-filled r ts h k keeps)
-  names-filled (bound c fs r) [] h k keeps = absurd h
-  names-filled (bound c fs r) (t ∷ ts) (us, has, inner, others) (k, m) (fits, keeps) =
-      bound-filled t c ts fs (fillNamed types table levels named ts r) (us, has, inner, tt) (k, tt) fits (names-filled r ts others m keeps)
+  -- every name of a row is filled, and fits its slot
+  pub names-fit : (e : Parts) (ss : List Slot) → Each (λ (s : Slot). s .room ≤ levels) ss → Typed types (slotTypes ss) e → Fillable types (slotTypes ss) e
+      → Keeps types ss e → NamesFit ss (fillNamed types table levels named (slotTypes ss) e)
+  unfolding fillNamed slotTypes
+  names-fit end [] below h k keeps = tt
+  names-fit end (s ∷ ss) below h k keeps = tt
+  names-fit (opened r) [] below h k keeps = absurd h
+  names-fit (opened r) (s ∷ ss) below h (here, k) (fits, keeps) =
+      open-filled s ss (fillNamed types table levels named (slotTypes ss) r) (below .0) (here, tt) fits (names-fit r ss (below .1) h k keeps)
+  names-fit (bound c fs r) [] below h k keeps = absurd h
+  names-fit (bound c fs r) (s ∷ ss) below (us, has, inner, others) (k, m) (fits, keeps) =
+      bound-filled s c ss fs (fillNamed types table levels named (slotTypes ss) r) (below .0) (us, has, inner, tt) (k, tt) fits (names-fit r ss (below .1) others m keeps)
+
+  -- so each is at most as deep as no slot exceeds
+  pub names-within : (most : ℕ) (row : Parts) (ss : List Slot) → Each (λ (s : Slot). s .room ≤ most) ss → NamesFit ss row
+      → Each (IsFilledName most) (namesIn named (slotTypes ss) row)
+  unfolding namesIn isNamed slotTypes
+  names-within most end ss below fit = tt
+  names-within most (opened r) [] below fit = names-within most r [] below tt
+  names-within most (bound c fs r) [] below fit = names-within most r [] below tt
+  names-within most (opened r) (s ∷ ss) below (other, fit) = rw (ne-eqb (s .type) named other) (names-within most r ss (below .1) fit)
+  names-within most (bound c fs r) (s ∷ ss) below (here, fit) = by-name (eqb (s .type) named) refl (names-within most r ss (below .1) fit)
+    where
+      by-name : (b : Bool) → eqb (s .type) named ≡ b → Each (IsFilledName most) (namesIn named (slotTypes ss) r)
+          → Each (IsFilledName most) (pick b (bound c fs end ∷ namesIn named (slotTypes ss) r) (namesIn named (slotTypes ss) r))
+      by-name true is rest = let (value, deep) = here (eqb-true (s .type) named is) in ((value, omega (arith, deep, below .0)), rest)
+      by-name false is rest = rest
 
 -- ---- the values of other types
 

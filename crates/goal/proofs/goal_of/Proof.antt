@@ -8,22 +8,6 @@ use Rattle.reach.specs.Places.{goalAt, wordAt}
 use Rattle.goal.proofs.goal_of.Statement.{statement}
 use Rattle.goal.proofs.goal_of.Tie as tie
 
-cast-depths : tie.Need-cast-depths
-cast-depths c =
-    let start = c .before .before .before in
-    omega (arith, c .byte-behind2 .ensures, start .shared-slice-known .given (start .before .args .at + 2))
-
-mul-steps : tie.Need-mul-steps
-mul-steps c =
-    let start = c .before .before .before .before .before in
-    omega (arith, start .shared-slice-known .given (start .before .args .at + 4))
-
-add-steps : tie.Need-add-steps
-add-steps c =
-    let start = c .before .before .before .before .before in
-    let known = start .shared-slice-known .given in
-    omega (arith, known (start .before .args .at + 3), known (start .before .args .at + 4))
-
 returns : tie.Need-returns
 unfolding goalAt wordAt
 returns c =
@@ -33,10 +17,10 @@ returns c =
     rw (
       next,
       ← third .before .before .byte-or-zero .ensures,
-      ← third .before .byte-behind .ensures,
-      ← third .byte-behind2 .ensures,
-      ← c .before .byte-behind3 .ensures,
-      ← c .byte-behind4 .ensures,
+      ← third .before .byte-behind .ensures .0,
+      ← third .byte-behind2 .ensures .0,
+      ← c .before .byte-behind3 .ensures .0,
+      ← c .byte-behind4 .ensures .0,
     )
 
 pub goal-of-spec : {M : Type 1} → statement M
@@ -46,9 +30,9 @@ goal-of-spec =
     (λ c κs. search needs)
     (λ c κs. search needs)
     (λ c κs. search needs)
-    cast-depths
+    (λ c. search needs)
     (λ c κs. search needs)
     (λ c κs. search needs)
-    mul-steps
-    add-steps
+    (λ c. search needs)
+    (λ c. search needs)
     returns)
