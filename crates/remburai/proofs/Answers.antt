@@ -30,6 +30,7 @@ use Rattle.closed.specs.Answering as Closed
 use Rattle.entries.specs.declared.Span.{Span}
 use Rattle.entries.specs.declared.Span.the-variants as span
 use Rattle.entries.specs.Spans.{spanOf}
+use Rattle.printing.specs.Bound.{textBound}
 use Rattle.printout.specs.declared.Answer.{Answer as Told}
 use Rattle.printout.specs.declared.Answer.the-variants as Told
 use Rattle.printout.specs.Answering as Printout
@@ -158,15 +159,15 @@ pub text-number : (a : TextAnswer) (r : Told) → r ≡ Printout.answerOf a → 
 text-number (noText why) r is = ap numberIn is
 text-number (ofLength n) r is = ap numberIn is
 
--- a text has at most four times the bytes of a list, of which there are at most 16,777,216, and 64 more
+-- no text is longer than that of a list of the 16,777,216 bytes that count may be
 module _ (file list : List ℕ) (bytes : (i : ℕ) → getD list i 0 < 256) (full : Bool) where
-  pub length-text-small : (r : Told) → Printout.Measures file list full r → Calls.lengthIn r ≤ 4 * listLimit + 64
+  pub length-text-small : (r : Told) → Printout.Measures file list full r → Calls.lengthIn r ≤ textBound listLimit
   length-text-small (Told.Refused why) call = omega arith
   length-text-small (Told.Length n) call =
       let fits = (length-exact file list bytes full (Told.Length n) call n) .0 refl in
       omega (arith, length-most file list bytes full (Told.Length n) call n refl, fits .3 .in-limit)
 
-  pub write-text-small : (before after : List ℕ) (r : Told) → Printout.Writes file list full before after r → Calls.lengthIn r ≤ 4 * listLimit + 64
+  pub write-text-small : (before after : List ℕ) (r : Told) → Printout.Writes file list full before after r → Calls.lengthIn r ≤ textBound listLimit
   write-text-small before after (Told.Refused why) call = omega arith
   write-text-small before after (Told.Length n) call =
       length-text-small (Told.Length n) ((write-exact file list bytes full before after (Told.Length n) call n) .0 refl .0)
