@@ -88,13 +88,14 @@ extern "C" {
 #define REMBURAI_UNFINISHED 3        /* S steps are done and it is none of the others */
 #define REMBURAI_MISSING 4           /* it stops off target at a case that has no alternative for the constructor */
 
-/* The longest rule file, in bytes; the largest step limit S; the words of work slice that a step limit asks for; and how many bytes of a
- * list slice count, which is also the most bytes of a list that has a text. */
+/* The longest rule file, in bytes; the largest step limit S; the words of work slice that a step limit asks for; how many bytes of a
+ * list slice count, which is also the most bytes of a list that has a text; and the most bytes of a text, by those of the list. */
 #define REMBURAI_FILE_LIMIT 16384u
 #define REMBURAI_STEP_LIMIT 4096u
 #define REMBURAI_WORK_WORDS(s) (64u * (size_t)(s) + 1024u)
 #define REMBURAI_WORK_MOST REMBURAI_WORK_WORDS(REMBURAI_STEP_LIMIT)
 #define REMBURAI_LIST_LIMIT 16777216u
+#define REMBURAI_TEXT_BOUND(list_length) (4u * (size_t)(list_length) + 64u)
 
 /* 0 where the file is accepted, else its refusal, 1 to 9 or 15. */
 uint64_t remburai_check(const uint8_t *file, size_t file_length);
@@ -140,7 +141,7 @@ uint64_t remburai_text_length(const uint8_t *file, size_t file_length,
                               const uint8_t *list, size_t list_length, bool full);
 
 /* The same text, written to the front of `text`. The refusals are those of remburai_text_length, and behind them 13: text_length is below
- * the length of the text, which is never above 4 times list_length and 64 more. With a refusal no byte is written, and without one those
+ * the length of the text, which is never above REMBURAI_TEXT_BOUND(list_length). With a refusal no byte is written, and without one those
  * behind the text are as before. There is no 0 at its end: the answer says how long it is. */
 uint64_t remburai_write_text(const uint8_t *file, size_t file_length,
                              const uint8_t *list, size_t list_length, bool full,
@@ -156,7 +157,7 @@ uint64_t remburai_write_text(const uint8_t *file, size_t file_length,
  * behind the names of the entries that are listed. Without NA, and where no source parameter is of the named type, there is no other line.
  *
  * The answer is the length of this text, in bytes, also where text_length is less: `text` then has as many bytes of it as it holds. The
- * bytes behind the text are as before. 4 times list_length and 64 more bytes always hold all of it. There is no 0 at its end. */
+ * bytes behind the text are as before. REMBURAI_TEXT_BOUND(list_length) bytes always hold all of it. There is no 0 at its end. */
 uint64_t remburai_names(const uint8_t *file, size_t file_length,
                         uint32_t *work, size_t work_length,
                         uint8_t *list, size_t list_length,

@@ -119,7 +119,7 @@ NAMES = """
 #include <stdio.h>
 #include <string.h>
 #include "remburai.h"
-static uint8_t file[REMBURAI_FILE_LIMIT], list[2][4096], text[4 * 4096], before[sizeof text];
+static uint8_t file[REMBURAI_FILE_LIMIT], list[2][4096], text[REMBURAI_TEXT_BOUND(4096)], before[sizeof text];
 static uint32_t work[2][16384];
 static size_t read_number(void) {
     size_t number = 0;

@@ -7,7 +7,7 @@ use crate::problems::{steps_of, Problem, Stored};
 use crate::program::Program;
 use crate::search::search;
 use crate::text::{text_length, write_text};
-use remburai::{work_words, Kind, Listed, Outcome, Refusal, SearchError, Verdict};
+use remburai::{text_bound, work_words, Kind, Listed, Outcome, Refusal, SearchError, Verdict};
 
 /// The library's list of an accepted rule file, in a work slice and a list slice that are large enough.
 pub fn library_list(file: &[u8]) -> Result<(Vec<u8>, Verdict), SearchError> {
@@ -126,7 +126,7 @@ pub fn compare_names(file: &[u8], room: usize) -> Result<Vec<u8>, String> {
     write_list(&program, &list, &mut plain);
     plain.extend(last);
     let (mut work, mut slice) = (vec![0; work_words(steps_of(file))], vec![0; room]);
-    let mut text = vec![0; 4 * room + 64];
+    let mut text = vec![0; text_bound(room)];
     let length = remburai::names(file, &mut work, &mut slice, &mut text);
     text.truncate(length);
     if length != plain.len() || text != plain {

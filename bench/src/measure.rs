@@ -7,7 +7,7 @@ use crate::problems::steps_of;
 use crate::program::Program;
 use crate::search::search;
 use crate::text::{text_length, write_text};
-use remburai::{work_words, Ran, LIST_LIMIT, STEP_LIMIT};
+use remburai::{text_bound, work_words, Ran, LIST_LIMIT, STEP_LIMIT};
 use std::hint::black_box;
 use std::time::Instant;
 
@@ -97,7 +97,7 @@ pub fn measure_runs(runs: &[ClosedRun]) -> Vec<Times> {
 /// Measures the names of rule files: in each round every file, and for each the library, its check alone and the plain side.
 pub fn measure_names(files: &[&[u8]]) -> Vec<Times> {
     let mut library = Library::new();
-    let mut text = vec![1; 4 * LIST_LIMIT + 64];
+    let mut text = vec![1; text_bound(LIST_LIMIT)];
     let mut plain = vec![];
     let mut repeated = vec![];
     for file in files {
@@ -121,7 +121,7 @@ struct Slices {
 /// Measures long lists: in each round every one, and for each the length of its text, then the text, by the library, its check alone, and
 /// plainly.
 pub fn measure_texts(lists: &[LongList]) -> Vec<[Times; 2]> {
-    let most = 4 * LIST_LIMIT + 64;
+    let most = text_bound(LIST_LIMIT);
     let mut slices = Slices {
         library: vec![1; most],
         plain: Vec::with_capacity(most),

@@ -24,7 +24,7 @@
 static uint8_t file[REMBURAI_FILE_LIMIT + 1]; /* one byte more, so that a file that is too long is seen to be */
 static uint32_t work[WORK_WORDS];
 static uint8_t list[LIST_BYTES];
-static uint8_t text[4 * LIST_BYTES + 64]; /* holds every text of such a list */
+static uint8_t text[REMBURAI_TEXT_BOUND(LIST_BYTES)]; /* holds every text of such a list */
 
 int main(void) {
     size_t file_length = fread(file, 1, sizeof file, stdin);

@@ -1,6 +1,6 @@
 //! The names that the entries of a list stand for, where the rule file names a type: their text, written to a lent slice, and the names as
 //! values, read off that text.
-use crate::{entries, search, Refusal, Rule, SearchError, LIST_LIMIT};
+use crate::{entries, search, text_bound, Refusal, Rule, SearchError, LIST_LIMIT};
 use std::fmt;
 
 extern "C" {
@@ -27,17 +27,17 @@ extern "C" {
 /// behind the names of the entries that are listed.
 ///
 /// The result is the length of the whole text. A slice that is shorter has as many bytes of it as it holds, and bytes behind the text are as
-/// before. The text never has more than 4 times the bytes of the list slice and 64 more.
+/// before. The text never has more bytes than [`text_bound`] says of the list slice.
 ///
 /// ```
-/// use remburai::{names, work_words};
+/// use remburai::{names, text_bound, work_words};
 ///
 /// // Halves of a byte and names. The target is where a name is not empty, whatever its first byte is.
 /// let types = b"TY\x10\0\0\0\0\0\0\0\0\0\0\0\0\0\0\0\0TY\x02\x00\x03\x00\x00\x01";
 /// let function = b"FN\x01\x01\x01\x0C\x00\x03\x01\x00\x00\x01\x00\x00\x01\x05\x07\x00\x00";
 /// let file = [&types[..], function, b"NA\x01", b"GO\x00\x07\x02\x14\x00"].concat();
 ///
-/// let (mut work, mut list, mut text) = (vec![0; work_words(20)], [0; 100], [0; 464]);
+/// let (mut work, mut list, mut text) = (vec![0; work_words(20)], [0; 100], [0; text_bound(100)]);
 /// let length = names(&file, &mut work, &mut list, &mut text);
 /// assert_eq!(&text[..length], b"0 0\n");
 /// assert_eq!(names(b"FN", &mut [], &mut [], &mut text[..7]), "refused 2\n".len());
@@ -106,7 +106,7 @@ pub fn list_names(
         return search(file, work, list).map(|_| vec![]);
     }
     let counted = list.len().min(LIST_LIMIT);
-    let mut text = vec![0; 4 * counted + 64];
+    let mut text = vec![0; text_bound(counted)];
     let length = names(file, work, &mut list[..counted], &mut text);
     let text = std::str::from_utf8(&text[..length]).expect("letters, digits, spaces, line feeds");
     let lines = text.lines().filter(|line| !line.starts_with("refused"));

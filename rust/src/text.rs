@@ -52,7 +52,7 @@ pub fn text_length(file: &[u8], list: &[u8], full: bool) -> Result<usize, Refusa
 
 /// Writes the printed text of a list to the front of `text`. The result is its length: that of [`text_length`], whose refusals are given
 /// here too, and behind them [`Refusal::TextTooShort`], where `text` is shorter than that. With a refusal no byte of `text` is changed, and
-/// without one those behind the text are as before. The text never has more than 4 times the list's bytes and 64 more.
+/// without one those behind the text are as before. The text never has more bytes than [`text_bound`](crate::text_bound) says.
 ///
 /// ```
 /// use remburai::{text_length, write_text, Refusal};

@@ -3,7 +3,7 @@
 use Prim.Native.Nat.{ℕ, suc, _+_, _*_, _/_, _≤_, _<_}
 use mathlib.Core.Bool.{Bool, true, false}
 use mathlib.Core.List.{List, [], _∷_, map, flatMap}
-use native.Mathlib.Nat.{div-le-self}
+use native.Mathlib.Nat.{div-le-of-le-mul}
 use native.Mathlib.Omega.{arith}
 use native.Mathlib.Numerals.{add-one}
 use lib.ListN.{length, getD, drop, drop-of-length-le}
@@ -74,13 +74,13 @@ verdict-few Found = omega arith
 verdict-few Undecided = omega arith
 verdict-few None = omega arith
 
-pub share-few : (a b : ℕ) → share a b ≤ 100 * b
+pub share-most : (a b : ℕ) → share a b ≤ 100
 unfolding share
-share-few a b = go (eqb (a + b) 0)
+share-most a b = go (eqb (a + b) 0)
   where
-    go : (t : Bool) → pick t 0 (100 * b / (a + b)) ≤ 100 * b
+    go : (t : Bool) → pick t 0 (100 * b / (a + b)) ≤ 100
     go true = omega arith
-    go false = div-le-self (100 * b) (a + b)
+    go false = div-le-of-le-mul (a + b) (omega arith)
 
 module _ {t u : List ℕ} {at r : ℕ} where
   pub number-end : (n : ℕ) → Puts t at (space ∷ decimal n) u r → r ≤ at + (n + 2)

@@ -1,108 +1,87 @@
 -- The names of an answer, by the answer that the search gave and the bytes that it wrote.
--- Rests on names' NameList, on namelines' Files, on search's Called and on reach's Handed.
-use Prim.Native.Nat.{ℕ, _+_, _*_, _≤_}
+-- Rests on names' NameList, on namelines' Files, on reporting's Reports and on reach's Handed.
+use Prim.Native.Nat.{ℕ, _≤_}
 use native.Mathlib.Omega.{arith}
 use mathlib.Core.Path.{_≡_, refl, sym, ap, subst, _∙_}
 use mathlib.Core.Bool.{Bool, true, false}
 use mathlib.Core.List.{List, [], _++_, flatMap}
 use lib.ListN.{length, take, length-take, length-append}
-use Rattle.reach.specs.declared.Refusal.{Refusal}
 use Rattle.reach.specs.declared.Refusal.the-variants.{ListFull}
-use Rattle.reach.specs.declared.Verdict.{Verdict}
 use Rattle.reach.specs.Base.{pick}
 use Rattle.reach.specs.Syntax.{Program}
-use Rattle.reach.specs.Lists.{listBytes, written}
-use Rattle.reach.specs.Answers.{Checked, accepted, turnedBack, check, SearchAnswer, searchAnswer, listed, refusalOf}
+use Rattle.reach.specs.Lists.{listBytes}
+use Rattle.reach.specs.Answers.{Checked, accepted, turnedBack, check, SearchAnswer, complete, cutShort, searchAnswer, listed, refusalOf}
 use Rattle.reach.specs.Text.{refusalLine}
 use Rattle.reach.specs.Handed.{IsList}
 use Rattle.reach.proofs.Base.{clash}
 use Rattle.reach.proofs.Answers.{search-turned-back}
 use Rattle.reach.proofs.Handed.{listed-handed}
-use Rattle.names.proofs.Demands as Names
 use Rattle.names.specs.NameList.{entryNames, refusalEnd, namesBy, namesText}
-use Rattle.writing.specs.Writing.{Fronts}
+use Rattle.printing.specs.Bound.{textBound}
 use Rattle.printing.proofs.Lengths.{refusal-short}
-use Rattle.results.specs.declared.SearchResult.{SearchResult}
-use Rattle.results.specs.declared.SearchResult.the-variants as SearchResult
-use Rattle.results.specs.Results.{searchResult, listLengthIn}
-use Rattle.search.proofs.Called.{length-is, written-take, refused-is, complete-when, complete-lists, full-lists}
+use Rattle.search.specs.Answering.{Searched}
 use Rattle.namelines.specs.Lists as Lines
 use Rattle.namelines.proofs.Files.{lines-length}
+use Rattle.reporting.specs.Answers.{Reports}
+use Rattle.reporting.proofs.Reports.{ListAnswer, reported, list-stands}
 
--- the text of a refusal other than 12
-pub refused-names : (file : List ℕ) (work list : ℕ) (why : Refusal) → SearchResult.Refused why ≡ searchResult (searchAnswer file work list) → refusalLine why ≡ namesText file work list
-refused-names file work list why is = sym (Names.refused-names file work list why (refused-is (searchAnswer file work list) why is))
-
--- What is known of a list that was written, complete or cut short: the program, its length, and the line behind its names.
-pub record Known (file : List ℕ) (work list n : ℕ) (full : Bool) : Type 0 where
-  pub program : Program
-  pub checked : check file ≡ accepted program
-  pub long : n ≡ length (listBytes (listed (searchAnswer file work list)))
-  pub ends : refusalEnd (refusalOf (searchAnswer file work list)) ≡ pick full (refusalLine ListFull) []
-
-pub known-complete : (file : List ℕ) (work list n : ℕ) (v : Verdict) → SearchResult.Complete n v ≡ searchResult (searchAnswer file work list) → Known file work list n false
+-- the line behind the names of a list: that of refusal 12, where it was cut short
+list-end : (a : SearchAnswer) (full : Bool) → a ≡ pick full (cutShort (listed a)) (complete (listed a))
+    → refusalEnd (refusalOf a) ≡ pick full (refusalLine ListFull) []
 unfolding refusalEnd refusalOf
-known-complete file work list n v is =
-    let when = (complete-when file work list n v) .0 (sym is) in
-    record {
-      program = when .0;
-      checked = when .1;
-      long = ap listLengthIn is ∙ length-is (searchAnswer file work list);
-      ends = rw (complete-lists file work list n v (sym is) .0) refl;
-    }
+list-end a true is = ap (λ (x : SearchAnswer). refusalEnd (refusalOf x)) is
+list-end a false is = ap (λ (x : SearchAnswer). refusalEnd (refusalOf x)) is
 
-pub known-full : (file : List ℕ) (work list n : ℕ) → SearchResult.Full n ≡ searchResult (searchAnswer file work list) → Known file work list n true
-unfolding refusalEnd refusalOf
-known-full file work list n is = by-check (check file) refl
+end-short : (full : Bool) → length (pick full (refusalLine ListFull) []) ≤ textBound 0
+end-short true = refusal-short ListFull
+end-short false = omega arith
+
+-- a list is of a file that is accepted
+file-accepted : (file : List ℕ) (work list : ℕ) {n : ℕ} (full : Bool) → ListAnswer (searchAnswer file work list) n full → (p : Program) × (check file ≡ accepted p)
+file-accepted file work list full lists = by-check (check file) refl full (lists .is)
   where
-    by-check : (c : Checked) → check file ≡ c → Known file work list n true
-    by-check (accepted p) checked = record {
-      program = p;
-      checked = checked;
-      long = ap listLengthIn is ∙ length-is (searchAnswer file work list);
-      ends = rw (full-lists file work list n (sym is)) refl;
-    }
-    by-check (turnedBack by) checked = absurd (clash (cc (search-turned-back file work list by checked, full-lists file work list n (sym is))))
+    by-check : (c : Checked) → check file ≡ c → (b : Bool)
+        → searchAnswer file work list ≡ pick b (cutShort (listed (searchAnswer file work list))) (complete (listed (searchAnswer file work list)))
+        → (p : Program) × (check file ≡ accepted p)
+    by-check (accepted p) checked b is = (p, checked)
+    by-check (turnedBack why) checked true is = absurd (clash (cc (search-turned-back file work list why checked)))
+    by-check (turnedBack why) checked false is = absurd (clash (cc (search-turned-back file work list why checked)))
 
--- a list slice that held the bytes `before` and holds `after`
-module _ (file work before after : List ℕ) (wrote : after ≡ written (listed (searchAnswer file (length work) (length before))) before) (n : ℕ) (full : Bool)
-    (known : Known file (length work) (length before) n full) where
+-- a list that was written, complete or cut short
+module _ {file work work′ list list′ : List ℕ} (searched : Searched file work work′ list list′) {n : ℕ} {full : Bool}
+    (lists : ListAnswer (searchAnswer file (length work) (length list)) n full) where
   abbrev answer : SearchAnswer
-  answer = searchAnswer file (length work) (length before)
+  answer = searchAnswer file (length work) (length list)
 
-  stands : listBytes (listed answer) ≡ take n after
-  stands = sym (rw (known .long, wrote) (written-take (listed answer) before))
+  program : (p : Program) × (check file ≡ accepted p)
+  program = file-accepted file (length work) (length list) full lists
 
-  is-list : IsList (known .program) (take n after) (listed answer)
-  is-list = subst (λ (l : List ℕ). IsList (known .program) l (listed answer)) stands (listed-handed file (known .program) (known .checked) (length work) (length before))
+  is-list : IsList (program .0) (take n list′) (listed answer)
+  is-list =
+      subst (λ (l : List ℕ). IsList (program .0) l (listed answer)) (sym (list-stands searched lists))
+      (listed-handed file (program .0) (program .1) (length work) (length list))
 
-  -- it is the list of a search
-  pub given : Lines.FitsFile file (take n after)
-  given = (known .program, listed answer, known .checked, is-list)
+  -- it is whole entries that fit the file
+  pub given : Lines.FitsFile file (take n list′)
+  given = (program .0, listed answer, program .1, is-list)
 
-  text-is : flatMap (entryNames (known .program)) (listed answer) ++ pick full (refusalLine ListFull) [] ≡ namesText file (length work) (length before)
+  text-is : flatMap (entryNames (program .0)) (listed answer) ++ pick full (refusalLine ListFull) [] ≡ namesText file (length work) (length list)
   unfolding namesText namesBy
-  text-is = rw (known .checked, known .ends) refl
+  text-is = rw (program .1, list-end answer full (lists .is)) refl
 
-  module _ {text text′ : List ℕ} {r : ℕ} (call : Lines.WritesNames file (take n after) full text text′ r) where
-    -- its names are the text
-    pub names-written : Fronts text (namesText file (length work) (length before)) text′ r
-    names-written = subst (λ (x : List ℕ). Fronts text x text′ r) text-is (call (known .program) (listed answer) (known .checked) is-list)
-
-    -- which is short
-    pub names-short : length after ≡ length before → r ≤ 4 * length before + 64
-    names-short same =
-        omega (
-          arith,
-          names-written .size,
-          ap length text-is,
-          length-append (flatMap (entryNames (known .program)) (listed answer)) (pick full (refusalLine ListFull) []),
-          lines-length file (known .program) (known .checked) (take n after) (listed answer) is-list,
-          length-take n after,
-          last-short full,
-          same,
-        )
-      where
-        last-short : (b : Bool) → length (pick b (refusalLine ListFull) []) ≤ 64
-        last-short true = refusal-short ListFull
-        last-short false = omega arith
+  -- its names were written
+  pub names-reported : {page page′ : List ℕ} {r : ℕ} → length list′ ≡ length list → Lines.WritesNames file (take n list′) full page page′ r
+      → Reports namesText file work work′ list list′ page page′ r
+  names-reported same call =
+      let lines = flatMap (entryNames (program .0)) (listed answer) in
+      let last = pick full (refusalLine ListFull) [] in
+      reported (lines ++ last) searched text-is (
+      omega (
+        arith,
+        length-append lines last,
+        lines-length file (program .0) (program .1) (take n list′) (listed answer) is-list,
+        length-take n list′,
+        end-short full,
+        same,
+      )
+      ) (call (program .0) (listed answer) (program .1) is-list)

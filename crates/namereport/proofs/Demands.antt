@@ -1,17 +1,16 @@
 -- What 02, Slip 4, asks of the call `names` and of the program `namelist`, said of the calls `names` and `program_names`. Their sentences about the
 -- definitions stand in the Demands of crate names.
--- `Promised file work work′ list list′ page page′ r` is the contract of `names`: the slices that held `work`, `list` and `page` hold `work′`, `list′`
--- and `page′`, and it answered r. `Prints input size page page′ r` is that of `program_names`. `ReadsAs p bytes k e` says that entry k of the bytes is e.
--- Rests on names' Demands, on search's Demands and on report's Program.
-use Prim.Native.Nat.{ℕ, _≤_, _<_}
+-- `Reports namesText file work work′ list list′ page page′ r` is the contract of `names`: the slices that held `work`, `list` and `page` hold `work′`, `list′`
+-- and `page′`, and it answered r. `Prints namesText input size page page′ r` is that of `program_names`. `ReadsAs p bytes k e` says that entry k of the bytes
+-- is e.
+-- Rests on names' Demands, on search's Demands and on reporting's Program.
+use Prim.Native.Nat.{ℕ, _≤_}
 use native.Mathlib.Omega.{arith}
-use mathlib.Core.Path.{_≡_, sym, ap, _∙_}
+use mathlib.Core.Path.{_≡_}
 use mathlib.Core.List.{List}
 use mathlib.Core.Option.{some}
 use lib.ListN.{length, take, drop}
-use Rattle.reach.specs.declared.Refusal.the-variants.{OutOfRange}
 use Rattle.reach.specs.Base.{Each}
-use Rattle.reach.specs.Limits.{fileLimit}
 use Rattle.reach.specs.Syntax.{Program, sourceTypes}
 use Rattle.reach.specs.Parts.{Parts, Completes, depth}
 use Rattle.reach.specs.Types.{depthOf, ClosedInput, ValueOf}
@@ -20,18 +19,16 @@ use Rattle.reach.specs.Search.{Entry, says}
 use Rattle.reach.specs.Lists.{listBytes}
 use Rattle.reach.specs.Answers.{check, accepted, searchAnswer, listed}
 use Rattle.reach.proofs.Base.{nth-member}
-use Rattle.reach.proofs.Answers.{search-turned-back}
-use Rattle.reach.proofs.Stages.{size-refused}
 use Rattle.names.specs.NameList.{filled, namesIn, namesText}
 use Rattle.names.proofs.Demands as Names
 use Rattle.results.specs.Results.{searchResult, listLengthIn}
 use Rattle.search.specs.Answering.{ReadsAs}
 use Rattle.search.proofs.Demands as Search
-use Rattle.report.specs.Answers.{programInput}
-use Rattle.report.proofs.Program.{front-whole, front-behind, first-enough}
-use Rattle.namereport.specs.Answers.{Promised, printed, Prints}
+use Rattle.reporting.specs.Answers.{Reports, programInput, printed, Prints}
+use Rattle.reporting.proofs.Program.{front-whole, front-behind}
+use Rattle.reporting.proofs.Program as Program
 
-module _ (file work work′ list list′ page page′ : List ℕ) (r : ℕ) (call : Promised file work work′ list list′ page page′ r) where
+module _ (file work work′ list list′ page page′ : List ℕ) (r : ℕ) (call : Reports namesText file work work′ list list′ page page′ r) where
   -- The answer is the text's length, and a slice that is long enough has the text whole, with the bytes behind it as before.
   pub length-is : r ≡ length (namesText file (length work) (length list))
   length-is = call .writes .size
@@ -61,14 +58,8 @@ module _ (file work work′ list list′ page page′ : List ℕ) (r : ℕ) (cal
         Names.filled-true file p checked (length work) (length list) named is e m,
       )
 
--- a file that is too long is refused by 3, and printed so
-long-printed : (file other : List ℕ) → fileLimit < length file → fileLimit < length other → printed file ≡ printed other
-long-printed file other long too =
-    Names.refused-names file _ _ OutOfRange (search-turned-back file _ _ OutOfRange (size-refused file long))
-    ∙ sym (Names.refused-names other _ _ OutOfRange (search-turned-back other _ _ OutOfRange (size-refused other too)))
-
 -- "It has the input [..] of `reachlist`": where the program hands on the first 16,385 bytes of standard input, or all of them where there are fewer, it
 -- prints the text of the whole input: of one that is too long, refusal 3.
-pub prints-whole : (standard input : List ℕ) (size : ℕ) (page page′ : List ℕ) (r : ℕ) → Prints input size page page′ r
-    → take size input ≡ take programInput standard → take r page′ ≡ printed standard
-prints-whole standard input size page page′ r call read = call .whole ∙ ap printed read ∙ first-enough printed long-printed standard
+pub prints-whole : (standard input : List ℕ) (size : ℕ) (page page′ : List ℕ) (r : ℕ) → Prints namesText input size page page′ r
+    → take size input ≡ take programInput standard → take r page′ ≡ printed namesText standard
+prints-whole = Program.prints-whole Names.refused-names

@@ -1,11 +1,10 @@
--- How long the text of a list is: at most four times the list, and a last line of at most 64 bytes.
--- Rests on Digits, Lines and Walk, and on Text of crate reach.
-use Prim.Native.Nat.{ℕ, zero, suc, _+_, _*_, _-_, _/_, _≤_, _<_}
+-- How long the text of a list is: at most four times the list, and a last line, which is no longer than the text of an empty list may be.
+-- Rests on specs/Bound and Walk, on writing's Digits and lines' Lines, and on Text of crate reach.
+use Prim.Native.Nat.{ℕ, zero, suc, _+_, _*_, _-_, _≤_, _<_}
 use mathlib.Core.Path.{_≡_, refl, sym, ap, subst}
 use mathlib.Core.Bool.{Bool, true, false}
 use mathlib.Core.List.{List, [], _∷_, map, flatMap}
 use mathlib.Core.Option.{Option, none, some}
-use native.Mathlib.Nat.{div-le-of-le-mul}
 use native.Mathlib.Omega.{arith}
 use lib.ListN.{length, getD, take, drop, length-append, length-take, length-drop, List·getD-eq-default}
 use lib.Seq.{getD-take, getD-drop}
@@ -25,8 +24,9 @@ use Rattle.reach.specs.Text.{spaced, lineFrom, decimal, kindWord, partWord, lin
 use Rattle.reach.proofs.ReadBack.{size-inside}
 use Rattle.writing.proofs.Digits.{digits-three, digits-five, digits-eight}
 use Rattle.reach.proofs.Words.{number-byte}
-use Rattle.lines.proofs.Lines.{kind-few, verdict-few}
+use Rattle.lines.proofs.Lines.{kind-few, verdict-few, share-most}
 use Rattle.lines.specs.Counting.{Few}
+use Rattle.printing.specs.Bound.{textBound}
 use Rattle.printing.proofs.Walk.{size-least, few-more}
 
 -- every element is a byte
@@ -132,15 +132,7 @@ counts-few ks =
 
 -- The last line.
 
-share-short : (a b : ℕ) → share a b ≤ 100
-unfolding share
-share-short a b = go (eqb (a + b) 0)
-  where
-    go : (t : Bool) → pick t 0 (100 * b / (a + b)) ≤ 100
-    go true = omega arith
-    go false = div-le-of-le-mul (a + b) (omega arith)
-
-pub refusal-short : (why : Refusal) → length (refusalLine why) ≤ 64
+pub refusal-short : (why : Refusal) → length (refusalLine why) ≤ textBound 0
 unfolding refusalLine
 refusal-short why =
     omega (
@@ -151,7 +143,7 @@ refusal-short why =
       digits-three (numberOf why) (omega (arith, number-byte why)),
     )
 
-total-short : (c : Counts) → Few c 16777216 → length (totalLine c) ≤ 64
+total-short : (c : Counts) → Few c 16777216 → length (totalLine c) ≤ textBound 0
 unfolding totalLine
 total-short c few =
     let a = c .reach in
@@ -170,18 +162,18 @@ total-short c few =
       digits-eight a (omega (arith, few .0)),
       digits-eight b (omega (arith, few .1)),
       digits-eight m (omega (arith, few .2)),
-      digits-three (share a b) (omega (arith, share-short a b)),
+      digits-three (share a b) (omega (arith, share-most a b)),
       verdict-few v,
     )
 
-last-short : (full : Bool) (c : Counts) → Few c 16777216 → length (lastLine full c) ≤ 64
+last-short : (full : Bool) (c : Counts) → Few c 16777216 → length (lastLine full c) ≤ textBound 0
 unfolding lastLine
 last-short true c few = refusal-short ListFull
 last-short false c few = total-short c few
 
 -- the whole text, for any limit of the bytes that count up to 16,777,216
 text-within : (n : ℕ) (full : Bool) (l : List ℕ) → n ≤ 16777216 → Bytes l
-    → length (textOf full (decodedFrom (length (take n l)) (take n l) 0)) ≤ 4 * length l + 64
+    → length (textOf full (decodedFrom (length (take n l)) (take n l) 0)) ≤ textBound (length l)
 unfolding textOf
 text-within n full l limit h =
     let bytes : Bytes (take n l) = part-bytes l 0 n h in
@@ -198,6 +190,6 @@ text-within n full l limit h =
     length-kinds [] = refl
     length-kinds (d ∷ ds) = ap suc (length-kinds ds)
 
-pub text-short : (full : Bool) (l : List ℕ) → Bytes l → length (listText full l) ≤ 4 * length l + 64
+pub text-short : (full : Bool) (l : List ℕ) → Bytes l → length (listText full l) ≤ textBound (length l)
 unfolding listText
 text-short full l h = text-within listLimit full l (omega arith) h

@@ -4,7 +4,7 @@
 -- `full` says that the search ended in 12, and the text slice that held the bytes `text` holds `text′`. `IsList p list es` says that the list is the entries
 -- es, each of which fits. Nothing is asked of the file and of the slices, but that the list is bytes.
 -- Rests on reach's Printouts and on printing's Lengths.
-use Prim.Native.Nat.{ℕ, _+_, _*_, _≤_, _<_}
+use Prim.Native.Nat.{ℕ, _≤_, _<_}
 use mathlib.Core.Path.{_≡_, refl, sym, ap, _∙_}
 use mathlib.Core.Bool.{Bool}
 use mathlib.Core.List.{List, _++_, map, flatMap}
@@ -23,6 +23,7 @@ use Rattle.reach.specs.Handed.{IsList}
 use Rattle.reach.specs.Printouts.{wasCut, Printout, printout, printoutOf, TextAnswer, noText, ofLength, lengthAnswer, writeAnswer, textSlice}
 use Rattle.reach.proofs.Base.{clash}
 use Rattle.reach.proofs.Printouts.{refused-exactly, printed-exactly, printout-bytes, length-refuses, length-measures, write-refuses, write-measures, slice-text, slice-kept, text-counts, printout-searched}
+use Rattle.printing.specs.Bound.{textBound}
 use Rattle.printing.proofs.Lengths.{text-short}
 use Rattle.results.specs.declared.TextResult.{TextResult}
 use Rattle.results.specs.declared.TextResult.the-variants as TextResult
@@ -80,8 +81,8 @@ module _ (file list : List ℕ) (bytes : (i : ℕ) → getD list i 0 < 256) (ful
               (shows-length (lengthAnswer shown) n) .1 (told .1 (textOf full (map sayingOf es), is, size)),
         )
 
-    -- a caller may reserve by the list alone: a text has at most four times its list's bytes, and 64 more
-    pub length-most : (n : ℕ) → r ≡ TextResult.Length n → n ≤ 4 * length list + 64
+    -- a caller may reserve by the list alone
+    pub length-most : (n : ℕ) → r ≡ TextResult.Length n → n ≤ textBound (length list)
     length-most n is =
         let (t, prints, size) = (length-measures shown n) .0 ((shows-length (lengthAnswer shown) n) .0 (sym (call .answer-is) ∙ is)) in
         omega (arith, size, ap length (printout-bytes file list bytes full t prints), text-short full list bytes)

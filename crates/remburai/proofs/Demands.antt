@@ -4,7 +4,7 @@
 -- 01, "The forms we expect": "For an answer that is an enum, a definition gives this paper's number and values for each of its cases, and the promises use
 -- that definition."
 -- Rests on packing's Unpacked; for the bounds on search's Called, closed's Demands, printout's Demands and reach's Limits.
-use Prim.Native.Nat.{ℕ, _+_, _*_, _≤_, _<_}
+use Prim.Native.Nat.{ℕ, _≤_, _<_}
 use native.Mathlib.Omega.{arith}
 use mathlib.Core.Path.{_≡_, refl, sym, ap, _∙_}
 use mathlib.Core.Bool.{Bool}
@@ -28,6 +28,7 @@ use Rattle.results.specs.declared.TextResult.the-variants as TextResult
 use Rattle.results.specs.Results.{searchResult, runResult, textResult, textLengthIn}
 use Rattle.search.proofs.Called.{listed-room, written-take, refused-when, complete-when, full-when}
 use Rattle.closed.proofs.Demands.{refused-file, steps-spent, depth-within}
+use Rattle.printing.specs.Bound.{textBound}
 use Rattle.printout.proofs.Demands.{searched-length, searched-text}
 use Rattle.entries.specs.Spans.{partPlace}
 use Rattle.packing.specs.Packing.{checkNumber, searchNumber, runNumber, textNumber, partNumber}
@@ -132,20 +133,20 @@ write-text-decodes file list full text text′ r call = rw (call .number-is) (te
 pub text-one : (a b : TextAnswer) → textNumber a ≡ textNumber b → a ≡ b
 text-one a b same = text-read-one a b (sym (text-reads a) ∙ ap decodedText same ∙ text-reads b)
 
--- the length is at most four times the 16,777,216 bytes that a list may have, and 64 more
+-- the length is at most that of a text of the 16,777,216 bytes that a list may have
 module _ (file list : List ℕ) (bytes : (i : ℕ) → getD list i 0 < 256) (full : Bool) (r : ℕ) where
   -- the length in an answer of the definition is that in what the call behind this one answered
   counted : (a : TextAnswer) → textRead a .bytes ≡ textLengthIn (textResult a)
   counted (noText why) = refl
   counted (ofLength n) = refl
 
-  pub text-length-fits : Measures file list full r → countBits r ≤ 4 * listLimit + 64
+  pub text-length-fits : Measures file list full r → countBits r ≤ textBound listLimit
   text-length-fits call =
       let a = lengthAnswer (printoutOf file list full) in
       let many : countBits r ≡ textRead a .bytes = ap (λ (t : TextRead). t .bytes) (text-length-decodes file list full r call) in
       omega (arith, many, counted a, length-text-small file list bytes full (textResult a) (record { answer-is = refl }))
 
-  pub write-text-fits : (text text′ : List ℕ) → Writes file list full text text′ r → countBits r ≤ 4 * listLimit + 64
+  pub write-text-fits : (text text′ : List ℕ) → Writes file list full text text′ r → countBits r ≤ textBound listLimit
   write-text-fits text text′ call =
       let a = writeAnswer (length text) (printoutOf file list full) in
       let many : countBits r ≡ textRead a .bytes = ap (λ (t : TextRead). t .bytes) (write-text-decodes file list full text text′ r call) in

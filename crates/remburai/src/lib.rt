@@ -1,8 +1,9 @@
 // The calls for C and Rust: the check of a rule file, its search, a closed run, where an entry of a list stands, the printed text of a list,
 // and the names in it. Each answers with one number, that of crate packing for what the call inside hands back, and promises what
-// specs/Answering.antt says; the names answer with the length of their text, and promise what crate namereport says. include/remburai.h has
+// specs/Answering.antt says; the names answer with the length of their text, and promise what crate reporting says. include/remburai.h has
 // the numbers for C. Rests on crates rulefile, search, closed, entries, printout, namereport and packing.
-ghost use Rattle.namereport.specs.Answers.{Promised};
+ghost use Rattle.names.specs.NameList.{namesText};
+ghost use Rattle.reporting.specs.Answers.{Reports};
 ghost use Rattle.remburai.specs.Answering.{Checks, Searches, Runs, Finds, Measures, Writes};
 use closed::run;
 use entries::room;
@@ -81,7 +82,7 @@ pub extern "C" fn remburai_names<'a>(
     list: &mut [u8],
     text: &mut [u8],
 ) -> u64
-    ensures { λ r. ⌜ Promised (now (file .entry)) (now (work .entry)) (now (work .exit)) (now (list .entry)) (now (list .exit)) (now (text .entry)) (now (text .exit)) r ⌝ }
+    ensures { λ r. ⌜ Reports namesText (now (file .entry)) (now (work .entry)) (now (work .exit)) (now (list .entry)) (now (list .exit)) (now (text .entry)) (now (text .exit)) r ⌝ }
 {
     names(file, work, list, text) as u64
 }

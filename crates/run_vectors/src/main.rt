@@ -1,42 +1,29 @@
 // Runs the closed run on every case of a container and prints a line for each: how it ended, after how many steps, and how deep the input is, or
-// `refused` and the number. tests/make_runs.py makes the container and the lines.
+// `refused` and the number. tests/make_runs.py makes the container and the lines. Rests on crates cases and closed.
 ghost use Prim.Native.Nat.{_≤_};
 ghost use lib.ListN.{length};
-use libc::STDIN_FILENO;
-use libc::STDOUT_FILENO;
+use cases::BYTES;
+use cases::CASES;
+use cases::NO_PART;
+use cases::WORDS;
+use cases::bytes;
+use cases::least;
+use cases::print;
+use cases::print_number;
+use cases::print_refused;
+use cases::read_byte;
+use cases::read_number;
+use cases::read_part;
+use cases::words;
 use reach::Outcome;
 use results::RunResult;
 
-// The words of the longest work slice that a case may ask for, and the bytes of the longest input.
-const WORDS: usize = 300000;
-
-const BYTES: usize = 1048576;
-
-// A byte as a count.
-fn wide(x: u8) -> usize
-    ensures { λ r. ⌜ r ≤ 255 ⌝ }
-{
-    x as usize
-}
-
 fn print_outcome(outcome: Outcome) {
     match outcome {
-        Outcome::Reached(n) => {
-            io::write_all(STDOUT_FILENO, b"reached ");
-            io::print_decimal(STDOUT_FILENO, n as u64);
-        }
-        Outcome::Ended(n) => {
-            io::write_all(STDOUT_FILENO, b"ended ");
-            io::print_decimal(STDOUT_FILENO, n as u64);
-        }
-        Outcome::Unfinished(n) => {
-            io::write_all(STDOUT_FILENO, b"unfinished ");
-            io::print_decimal(STDOUT_FILENO, n as u64);
-        }
-        Outcome::Missing(n) => {
-            io::write_all(STDOUT_FILENO, b"missing ");
-            io::print_decimal(STDOUT_FILENO, n as u64);
-        }
+        Outcome::Reached(n) => print_number(b"reached ", n as u64),
+        Outcome::Ended(n) => print_number(b"ended ", n as u64),
+        Outcome::Unfinished(n) => print_number(b"unfinished ", n as u64),
+        Outcome::Missing(n) => print_number(b"missing ", n as u64),
     }
 }
 
@@ -44,41 +31,20 @@ fn print_answer(answer: RunResult) {
     match answer {
         RunResult::Ran(outcome, depth) => {
             print_outcome(outcome);
-            io::write_all(STDOUT_FILENO, b" ");
-            io::print_decimal(STDOUT_FILENO, depth as u64);
+            print_number(b" ", depth as u64);
         }
-        RunResult::Refused(why) => {
-            io::write_all(STDOUT_FILENO, b"refused ");
-            io::print_decimal(STDOUT_FILENO, refusals::number(why));
-        }
+        RunResult::Refused(why) => print_refused(why),
     }
-    io::write_all(STDOUT_FILENO, b"\n");
-}
-
-// Reads a part behind its two-byte length; the length, or more than 65,535 where the container has ended.
-fn read_part(part: &mut [u8]) -> usize
-    ensures { λ r. ⌜ r ≤ 65536 ⌝ }
-{
-    let mut size = [0u8; 2];
-    if io::read_full(STDIN_FILENO, &mut size) < 2 {
-        return 65536;
-    }
-    let n = wide(size[0]) + 256 * wide(size[1]);
-    if part.len() < n {
-        return 65536;
-    }
-    let got = io::read_full(STDIN_FILENO, &mut part[..n]);
-    if n < got { n } else { got }
+    print(b"\n");
 }
 
 // Reads a number of four bytes, of which the last does not count; `most` where it is larger.
-fn read_number(most: usize) -> usize
+fn read_count(most: usize) -> usize
     ensures { λ r. ⌜ r ≤ most ⌝ }
 {
-    let mut bytes = [0u8; 4];
-    io::read_full(STDIN_FILENO, &mut bytes);
-    let n = wide(bytes[0]) + 256 * wide(bytes[1]) + 65536 * wide(bytes[2]);
-    if most < n { most } else { n }
+    let n = read_number();
+    read_byte();
+    least(n, most)
 }
 
 // Lays a part down so often, one behind the other, from a place of the input on, as far as the input goes. The place behind.
@@ -114,34 +80,34 @@ fn read_input(input: &mut [u8]) -> usize
 {
     let mut part = io::large_buffer();
     let n = read_part(&mut part);
-    let times = read_number(BYTES);
+    let times = read_count(BYTES);
     let at = lay(input, 0, &part[..n], times);
     let rest = read_part(&mut part);
     lay(input, at, &part[..rest], 1)
 }
 
-// Room for the longest input.
-fn input_buffer() -> [u8; 1048576] {
-    [0; 1048576]
+// Reads the input for a rule file and the length of its work slice, runs it, and prints what it answered.
+fn run_file(file: &[u8]) {
+    let mut input = bytes(0);
+    let mut work = words(0);
+    let i = read_input(&mut input);
+    let w = read_count(WORDS);
+    print_answer(closed::run(file, &input[..i], &mut work[..w]));
 }
 
 // Reads one case and prints its line; false where the container has ended.
 fn run_case() -> bool {
     let mut file = io::large_buffer();
-    let mut input = input_buffer();
-    let mut work = [0u32; 300000];
-    let f = read_part(&mut file);
-    if f == 65536 {
+    let n = read_part(&mut file);
+    if n == NO_PART {
         return false;
     }
-    let i = read_input(&mut input);
-    let n = read_number(WORDS);
-    print_answer(closed::run(&file[..f], &input[..i], &mut work[..n]));
+    run_file(&file[..n]);
     true
 }
 
 fn main() {
-    let mut more: usize = 1000000;
+    let mut more = CASES;
     while 0 < more {
         if !run_case() {
             return;

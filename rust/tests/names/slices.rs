@@ -44,7 +44,7 @@ fn written(file: &[u8], words: usize, bytes: usize, room: usize) -> (usize, Stri
 
 /// The text, in a slice that always holds it.
 pub fn text_of(file: &[u8], words: usize, bytes: usize) -> String {
-    let (length, text) = written(file, words, bytes, 4 * bytes + 64);
+    let (length, text) = written(file, words, bytes, text_bound(bytes));
     assert_eq!(length, text.len());
     text
 }

@@ -91,6 +91,6 @@ pub fn text_of(file: &[u8], list: &[u8], full: bool) -> Result<String, Refusal> 
     let text = list_text(file, list, full);
     let length = text.as_ref().map(String::len).map_err(|why| *why);
     assert_eq!(text_length(file, list, full), length);
-    assert!(length.is_err() || length.is_ok_and(|length| length <= 4 * list.len() + 64));
+    assert!(length.is_err() || length.is_ok_and(|length| length <= text_bound(list.len())));
     text
 }

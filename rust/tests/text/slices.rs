@@ -29,7 +29,7 @@ fn see(file: &[u8], list: &[u8], full: bool, text: &str) {
         let answer = written(file, list, full, room);
         assert_eq!(answer, Err(Refusal::TextTooShort), "{room}");
     }
-    for room in [length, length + 1, length + 1000, 4 * list.len() + 64] {
+    for room in [length, length + 1, length + 1000, text_bound(list.len())] {
         let answer = written(file, list, full, room);
         assert_eq!(answer.as_deref(), Ok(text), "{room}");
     }

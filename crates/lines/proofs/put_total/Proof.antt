@@ -3,7 +3,7 @@
 use native.Mathlib.Omega.{arith}
 use borrow.Author.Needs.{needs}
 use Rattle.reach.specs.Search.{verdictBy}
-use Rattle.lines.proofs.Lines.{total-put, number-end, verdict-end, share-few}
+use Rattle.lines.proofs.Lines.{total-put, number-end, verdict-end, share-most}
 use Rattle.lines.proofs.put_total.Tie as tie
 use Rattle.lines.proofs.put_total.Statement.{statement}
 
@@ -46,7 +46,7 @@ put-number-requires-4 c κs =
       number-end _ (put-number2 .ensures),
       number-end _ (put-number3 .ensures),
       c .share-of .ensures,
-      share-few (a .counts .reach) (a .counts .unfinished),
+      share-most (a .counts .reach) (a .counts .unfinished),
     )
 
 put-verdict-requires : tie.Need-put-verdict-requires
@@ -68,7 +68,7 @@ put-verdict-requires c κs =
       number-end _ (put-number3 .ensures),
       number-end _ (put-number4 .ensures),
       share-of .ensures,
-      share-few (a .counts .reach) (a .counts .unfinished),
+      share-most (a .counts .reach) (a .counts .unfinished),
     )
 
 put-byte-requires : tie.Need-put-byte-requires
@@ -91,7 +91,7 @@ put-byte-requires c κs =
       number-end _ (put-number3 .ensures),
       number-end _ (put-number4 .ensures),
       share-of .ensures,
-      share-few (a .counts .reach) (a .counts .unfinished),
+      share-most (a .counts .reach) (a .counts .unfinished),
       verdict-end (verdictBy (a .counts)) (put-verdict .ensures),
     )
 

@@ -1,4 +1,4 @@
--- `printing_vectors::run_handed` is safe: what was read lies in its buffers, and the text slice in its array.
+-- `printing_vectors::run_handed` is safe: the text slice lies in its buffer.
 use mathlib.Core.Path.{sym}
 use lib.Seq.{length-take-le}
 use native.Mathlib.Omega.{arith}
@@ -6,14 +6,8 @@ use borrow.Author.Needs.{needs}
 use Rattle.printing_vectors.proofs.run_handed.Statement.{statement}
 use Rattle.printing_vectors.proofs.run_handed.Tie as tie
 
-slice-aggregate-print-handed : tie.Need-slice-aggregate-print-handed
-slice-aggregate-print-handed c = sym (length-take-le _ _ (omega arith))
-
 slice-aggregate-print-handed-2 : tie.Need-slice-aggregate-print-handed-2
 slice-aggregate-print-handed-2 c = sym (length-take-le _ _ (omega arith))
-
-slice-aggregate-print-handed-3 : tie.Need-slice-aggregate-print-handed-3
-slice-aggregate-print-handed-3 c = sym (length-take-le _ _ (omega arith))
 
 pub run-handed-spec : {M : Type 1} → statement M
 run-handed-spec =
@@ -23,14 +17,11 @@ run-handed-spec =
     (λ c κs. search needs)
     (λ c. search needs)
     (λ c κs. search needs)
-    (λ c. search needs)
     (λ c κs. search needs)
     (λ c κs. search needs)
     (λ c. search needs)
-    slice-aggregate-print-handed
+    (λ c. search needs)
     (λ c. search needs)
     slice-aggregate-print-handed-2
-    (λ c. search needs)
-    slice-aggregate-print-handed-3
     (λ c κs. search needs)
     (λ c. search needs))

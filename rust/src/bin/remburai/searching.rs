@@ -1,6 +1,6 @@
 //! A search, or that of names, in a thread of its own, so that the time it takes can be shown and limited.
 use crate::status::{fault, Stop};
-use remburai::{names, search, work_words, Listed, SearchError, LIST_LIMIT};
+use remburai::{names, search, text_bound, work_words, Listed, SearchError, LIST_LIMIT};
 use std::io::{self, IsTerminal, Write};
 use std::sync::mpsc::{channel, Receiver, RecvTimeoutError};
 use std::thread;
@@ -59,7 +59,7 @@ pub fn named(file: &[u8], steps: u16, limit: Option<Duration>) -> Result<Option<
     let file = file.to_vec();
     called(limit, move || {
         let mut work = vec![0; work_words(steps as usize)];
-        let (mut list, mut text) = (vec![0; LIST_LIMIT], vec![0; 4 * LIST_LIMIT + 64]);
+        let (mut list, mut text) = (vec![0; LIST_LIMIT], vec![0; text_bound(LIST_LIMIT)]);
         let length = names(&file, &mut work, &mut list, &mut text);
         text.truncate(length);
         text

@@ -1,0 +1,30 @@
+-- `run_vectors::run_file` is safe: the input and the words lie in their buffers.
+use mathlib.Core.Path.{sym}
+use lib.Seq.{length-take-le}
+use native.Mathlib.Omega.{arith}
+use borrow.Author.Needs.{needs}
+use Rattle.run_vectors.proofs.run_file.Statement.{statement}
+use Rattle.run_vectors.proofs.run_file.Tie as tie
+
+slice-aggregate-run : tie.Need-slice-aggregate-run
+slice-aggregate-run c = sym (length-take-le _ _ (omega arith))
+
+slice-aggregate-run-2 : tie.Need-slice-aggregate-run-2
+slice-aggregate-run-2 c = sym (length-take-le _ _ (omega arith))
+
+pub run-file-spec : {M : Type 1} → statement M
+run-file-spec =
+    tie.close
+    (tie.spec
+    (λ c κs. search needs)
+    (λ c κs. search needs)
+    (λ c. search needs)
+    (λ c κs. search needs)
+    (λ c κs. search needs)
+    (λ c. search needs)
+    slice-aggregate-run
+    (λ c. search needs)
+    slice-aggregate-run-2
+    (λ c κs. search needs)
+    (λ c κs. search needs)
+    (λ c. search needs))
