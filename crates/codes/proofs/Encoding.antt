@@ -13,11 +13,11 @@ use lib.Seq.{drop-cons, drop-drop, drop-append-seam, drop-append-le, length-take
 use lib.Dec.{ltb, leb, eqb}
 use borrow.Author.Tests.{ltb-true, leb-true, eqb-true, eqb-false, ltb-false, lt-ltb}
 use Rattle.reach.specs.declared.Refusal.{Refusal}
-use Rattle.reach.specs.declared.Refusal.the-variants.{Truncated, UnexpectedMark, OutOfRange, TrailingBytes}
+use Rattle.reach.specs.declared.Refusal.the-variants.{Truncated, OutOfRange, TrailingBytes}
 use Rattle.reach.specs.Base.{pick, Each}
 use Rattle.reach.specs.Limits.{fileLimit, typeLimit, functionLimit, parameterLimit, bodyLimit, viewLimit, nestingLimit}
 use Rattle.reach.specs.Syntax.{Expr, variable, call, construct, case, letIn, target, Exprs, []ₑ, _∷ₑ_, Alternatives, no-more, absent, present, count, Function, Program, fieldTypes, functionAt}
-use Rattle.reach.specs.Reader.{Got, got, refused, onGot, Reader, refuse, demand, byte, word, times, passed, atEnd}
+use Rattle.reach.specs.Reader.{Got, got, refused, onGot, Reader, demand, byte, word, times, passed, atEnd}
 use Rattle.reach.specs.RuleFile.{Mark, TY, inTurn, mark, counted, typeRecord, Head, functionRecord, goalRecord, moreTypes, moreFunctions, naming, Declarations, Outline, outline, Below, operandsOf, alternatives, variableExpr, callOf, callExpr, constructOf, constructExpr, caseOf, caseExpr, letExpr, targetExpr, expressionBy, expression, bodyOf, functionsOf, numbersExist, programOf, noEmptyType, deepEnough, wellSpelled, sizeInLimit, ruleFile}
 use Rattle.reach.specs.Types.{leastDepths}
 use Rattle.reach.specs.Answers.{accepted, turnedBack, check}

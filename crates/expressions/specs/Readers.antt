@@ -1,9 +1,9 @@
 -- The check of an expression as its functions see it: the readers of crate reach over what the places declare, and what the tables must keep to.
 -- Rests on reach's RuleFile and Places and on the struct of src/lib.rt.
-use Prim.Native.Nat.{ℕ, zero, suc, _+_, _≤_, _<_}
+use Prim.Native.Nat.{ℕ, zero, suc, _≤_, _<_}
 use mathlib.Core.Path.{_≡_}
 use mathlib.Core.Bool.{Bool, _&&_}
-use mathlib.Core.List.{List, [], _++_, map}
+use mathlib.Core.List.{List, [], _++_}
 use mathlib.Core.Option.{Option, none, some}
 use lib.Dec.{ltb, leb, eqb}
 use lib.ListN.{length, getD, getElem?, take}
@@ -13,7 +13,7 @@ use Rattle.reach.specs.Limits.{fieldLimit, parameterLimit, viewLimit}
 use Rattle.reach.specs.Syntax.{Expr, Exprs, Alternatives}
 use Rattle.reach.specs.Reader.{Reader, _>>=_, _>>_, give, refuse, demand, byte}
 use Rattle.reach.specs.RuleFile.{Declarations, Below, operandsOf, alternatives, variableExpr, callExpr, constructExpr, caseExpr, letExpr, targetExpr, expression}
-use Rattle.reach.specs.Places.{bytesAt, typeAt, headAt, declarationsAt}
+use Rattle.reach.specs.Places.{typeAt, headAt, declarationsAt}
 use Rattle.expressions.specs.declared.View.{View}
 
 -- the types of the variables in view

@@ -19,10 +19,10 @@ use numbers::numbers_exist;
 use outline::Outlined;
 use outline::first_pass;
 use reach::Refusal;
-use typerecord::Passed;
 use results::CheckResult;
 use rooms::all_roomy;
 use spelling::spells;
+use typerecord::Passed;
 
 const FILE_LIMIT: usize = 16384;
 
