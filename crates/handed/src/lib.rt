@@ -27,7 +27,8 @@ fn entry_fits<'a>(
     requires { ⌜ entrySize (now list) at ≡ some n ⌝ }
     ensures { λ r. ⌜ Told (entryAt (now (file .entry)) (now (types .entry)) (now (functions .entry)) (least .of) (goal .source) (goal .depths) (goal .steps) (now (list .entry)) at) (at + n) r ⌝ }
 {
-    if goal.steps < word_at(list, at + 2) {
+    let limit = goal.steps;
+    if limit < word_at(list, at + 2) {
         return false;
     }
     let head = head_of(file, functions, goal.source);

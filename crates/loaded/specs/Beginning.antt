@@ -20,8 +20,8 @@ pub record GivenFile (file types functions : List ℕ) (p : Program) : Type 0 wh
   pub source-there : p .source < length functions
   pub parameters-there : sourceTypes p ≡ (headAt file (getD functions (p .source) 0)) .parameters
 
--- The words at the beginning: the source's n parameters, whose types stand from place `first` of the file on, have open cells, each as deep as it may be, and records 0 and 1 are
--- the empty environment and the parameters' group.
+-- The words at the beginning: the source's n parameters, whose types stand from place `first` of the file on, have open cells, each as deep as it may be,
+-- and records 0 and 1 are the empty environment and the parameters' group.
 pub record Opened (file w w′ : List ℕ) (base first n : ℕ) (depths : List ℕ) : Type 0 where
   pub w₁ : List ℕ
   pub w₂ : List ℕ

@@ -37,6 +37,7 @@ use Rattle.names.specs.NameList.{utf8, nameLine, filled, namesIn, nameLi
 use Rattle.names.proofs.Filling as Filling
 use Rattle.names.proofs.Entries as Entries
 use Rattle.names.proofs.Names as Names
+use Rattle.names.proofs.Levels as Levels
 
 -- "The named type must have exactly two constructors, 0 without fields and 1 with three: two of types with sixteen constructors, none of which has a field, and
 -- the named type again": `Spells`, of each accepted file. Which file is refused by 15 is said in the Demands of crate rulefile.
@@ -86,7 +87,7 @@ module _ (file : List ℕ) (p : Program) (checked : check file ≡ accepted p) (
       let fits = each-member _ (listed-handed file p checked work list .each-fits) m in
       let typed = accepted-typed file p checked in
       let no-empty = accepted-keeps file p checked .no-empty in
-      Filling.named-same (p .types) levels depthLimit named few (e .input) (sourceTypes p) (fits .typed)
+      Levels.named-same (p .types) levels depthLimit named few (e .input) (sourceTypes p) (fits .typed)
       (Entries.fillable p typed no-empty (e .input) (sourceTypes p) (Entries.source-there p typed no-empty) (fits .typed)) deep
 
   -- what is filled binds at least what the entry binds

@@ -2,4 +2,5 @@
 pub mod Filling
 pub mod Entries
 pub mod Names
+pub mod Levels
 pub mod Demands
