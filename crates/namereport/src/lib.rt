@@ -8,7 +8,9 @@ use exploring::Answer;
 use namelines::list_names;
 use printing::refusal_text;
 use reporting::INPUT;
+use reporting::LIST;
 use reporting::PAGE;
+use reporting::WORDS;
 use reporting::counted;
 
 // Searches a rule file in the lent words and list, writes the names of the entries that were listed to the front of a slice, with the line of a refusal behind
@@ -29,8 +31,8 @@ fn printed_names<'a>(input: &'a [u8], size: usize, text: &mut [u8]) -> usize
     requires { ⌜ programPage ≤ length (now text) ⌝ }
     ensures { λ r. ⌜ Prints namesText (now (input .entry)) size (now (text .entry)) (now (text .exit)) r ⌝ }
 {
-    let mut work = [0u32; 16384];
-    let mut list = [0u8; 32768];
+    let mut work = [0u32; WORDS];
+    let mut list = [0u8; LIST];
     let n = counted(input, size);
     names(&input[..n], &mut work, &mut list, text)
 }
