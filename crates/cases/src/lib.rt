@@ -24,13 +24,13 @@ pub const NO_PART: usize = 65536;
 pub const NO_NUMBER: usize = 16777216;
 
 // As many words, each of them `word`.
-pub fn words(word: u32) -> [u32; 300000] {
-    [word; 300000]
+pub fn words(word: u32) -> [u32; WORDS] {
+    [word; WORDS]
 }
 
 // As many bytes, each of them `byte`.
-pub fn bytes(byte: u8) -> [u8; 1048576] {
-    [byte; 1048576]
+pub fn bytes(byte: u8) -> [u8; BYTES] {
+    [byte; BYTES]
 }
 
 // A byte as a count.

@@ -7,7 +7,9 @@ ghost use Rattle.reporting.specs.Answers.{Reports, programPage, Prints};
 use namelines::list_names;
 use printing::refusal_text;
 use reporting::INPUT;
+use reporting::LIST;
 use reporting::PAGE;
+use reporting::WORDS;
 use reporting::counted;
 use results::SearchResult;
 
@@ -29,8 +31,8 @@ fn printed_names<'a>(input: &'a [u8], size: usize, text: &mut [u8]) -> usize
     requires { ⌜ programPage ≤ length (now text) ⌝ }
     ensures { λ r. ⌜ Prints namesText (now (input .entry)) size (now (text .entry)) (now (text .exit)) r ⌝ }
 {
-    let mut work = [0u32; 16384];
-    let mut list = [0u8; 32768];
+    let mut work = [0u32; WORDS];
+    let mut list = [0u8; LIST];
     let n = counted(input, size);
     names(&input[..n], &mut work, &mut list, text)
 }

@@ -7,7 +7,9 @@ ghost use Rattle.report.specs.Answers.{reportText};
 use printing::list_text;
 use printing::refusal_text;
 use reporting::INPUT;
+use reporting::LIST;
 use reporting::PAGE;
+use reporting::WORDS;
 use reporting::counted;
 use results::SearchResult;
 
@@ -28,8 +30,8 @@ fn printed_text<'a>(input: &'a [u8], size: usize, text: &mut [u8]) -> usize
     requires { ⌜ programPage ≤ length (now text) ⌝ }
     ensures { λ r. ⌜ Prints reportText (now (input .entry)) size (now (text .entry)) (now (text .exit)) r ⌝ }
 {
-    let mut work = [0u32; 16384];
-    let mut list = [0u8; 32768];
+    let mut work = [0u32; WORDS];
+    let mut list = [0u8; LIST];
     let n = counted(input, size);
     report(&input[..n], &mut work, &mut list, text)
 }

@@ -1,8 +1,10 @@
 // Prints what `reachlist` prints and then what `namelist` prints for every rule file of a container, each behind its three-byte length, and a line `end` behind
 // each text. Of a longer file the first 16,385 bytes are handed on, as those programs do. tests/make_reachlist.py makes the container and the texts. Rests on
 // crates cases, report and namereport.
+use cases::BYTES;
 use cases::CASES;
 use cases::NO_NUMBER;
+use cases::bytes;
 use cases::least;
 use cases::print;
 use cases::read_bytes;
@@ -12,9 +14,6 @@ use report::program_text;
 use reporting::INPUT;
 use reporting::input;
 use reporting::page;
-
-// The bytes of the longest file of a container.
-const LONGEST: usize = 100000;
 
 // Prints what `reachlist` prints for the bytes that were read, and the line behind it.
 fn print_report(file: &[u8; INPUT], size: usize) {
@@ -42,8 +41,8 @@ fn print_texts(n: usize) {
 
 // Passes over so many bytes.
 fn pass(n: usize) {
-    let mut rest = [0u8; 100000];
-    read_bytes(&mut rest, least(n, LONGEST));
+    let mut rest = bytes(0);
+    read_bytes(&mut rest, least(n, BYTES));
 }
 
 // Reads one rule file and prints its texts; false where the container has ended.

@@ -2,8 +2,10 @@
 // search, writing and printing.
 ghost use Rattle.reporting.specs.Answers.{FirstBytes};
 
-// The bytes of the list slice of a program, and those of its text slice, which holds every text of such a list; and those that it reads, one more than a
-// rule file may have.
+// The buffers of a program: the words of its work slice, the bytes of its list slice, those of its text slice, which holds every text of such a list, and
+// those that it reads, one more than a rule file may have.
+pub const WORDS: usize = 16384;
+
 pub const LIST: usize = 32768;
 
 pub const PAGE: usize = 4 * LIST + 64;

@@ -2,6 +2,7 @@
 -- Rests on Answers and on reporting's Reports.
 use lib.Seq.{length-take-le}
 use mathlib.Core.Path.{sym, _∙_}
+use native.Mathlib.Omega.{arith}
 use Rattle.names.proofs.Demands.{refused-names}
 use Rattle.search.proofs.Called.{searched-so}
 use Rattle.reporting.proofs.Reports.{refusal-reported, complete-answer, full-answer, list-inside}
@@ -20,7 +21,7 @@ slice-reshare-prefix-list-names : tie.Need-slice-reshare-prefix-list-names
 slice-reshare-prefix-list-names c =
     let searched = c .before .before .before .before .before .before .before .search .ensures in
     let n = c .before .n .given in
-    list-inside (searched-so searched) (complete-answer (searched-so searched) (n .0 .0) (sym (n .1) ∙ searched .answer-is))
+    omega (arith, list-inside (searched-so searched) (complete-answer (searched-so searched) (n .0 .0) (sym (n .1) ∙ searched .answer-is)))
 
 slice-aggregate-list-names : tie.Need-slice-aggregate-list-names
 slice-aggregate-list-names c = sym (length-take-le _ _ (slice-reshare-prefix-list-names (c .before)))
@@ -43,7 +44,7 @@ slice-reshare-prefix-list-names-2 : tie.Need-slice-reshare-prefix-list-names-2
 slice-reshare-prefix-list-names-2 c =
     let searched = c .before .before .before .before .before .before .before .search .ensures in
     let n = c .before .n2 .given in
-    list-inside (searched-so searched) (full-answer (searched-so searched) (n .0 .0) (sym (n .1) ∙ searched .answer-is))
+    omega (arith, list-inside (searched-so searched) (full-answer (searched-so searched) (n .0 .0) (sym (n .1) ∙ searched .answer-is)))
 
 slice-aggregate-list-names-2 : tie.Need-slice-aggregate-list-names-2
 slice-aggregate-list-names-2 c = sym (length-take-le _ _ (slice-reshare-prefix-list-names-2 (c .before)))

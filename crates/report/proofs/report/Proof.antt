@@ -20,7 +20,7 @@ slice-reshare-prefix-list-text : tie.Need-slice-reshare-prefix-list-text
 slice-reshare-prefix-list-text c =
     let searched = c .before .before .before .before .before .before .before .search .ensures in
     let n = c .before .n .given in
-    list-inside (searched-so searched) (complete-answer (searched-so searched) (n .0 .0) (sym (n .1) ∙ searched .answer-is))
+    omega (arith, list-inside (searched-so searched) (complete-answer (searched-so searched) (n .0 .0) (sym (n .1) ∙ searched .answer-is)))
 
 slice-aggregate-list-text : tie.Need-slice-aggregate-list-text
 slice-aggregate-list-text c = sym (length-take-le _ _ (slice-reshare-prefix-list-text (c .before)))
@@ -38,7 +38,7 @@ slice-reshare-prefix-list-text-2 : tie.Need-slice-reshare-prefix-list-text-2
 slice-reshare-prefix-list-text-2 c =
     let searched = c .before .before .before .before .before .before .before .search .ensures in
     let n = c .before .n2 .given in
-    list-inside (searched-so searched) (full-answer (searched-so searched) (n .0 .0) (sym (n .1) ∙ searched .answer-is))
+    omega (arith, list-inside (searched-so searched) (full-answer (searched-so searched) (n .0 .0) (sym (n .1) ∙ searched .answer-is)))
 
 slice-aggregate-list-text-2 : tie.Need-slice-aggregate-list-text-2
 slice-aggregate-list-text-2 c = sym (length-take-le _ _ (slice-reshare-prefix-list-text-2 (c .before)))
