@@ -36,7 +36,7 @@ extern "C" {
 #define REMBURAI_VERSION_MAJOR 0
 #define REMBURAI_VERSION_MINOR 5
 #define REMBURAI_VERSION_PATCH 0
-#define REMBURAI_VERSION "0.5.0"
+#define REMBURAI_VERSION "0.5.1"
 
 /* Every call answers with one number; the functions under "The parts of an answer" take it apart, but for that of
  * remburai_names, which is a length.

@@ -1,19 +1,15 @@
 -- The pieces of a line behind one another, and how long they are.
 -- Rests on Writing and Digits of crate writing, and on Text of crate reach.
-use Prim.Native.Nat.{ℕ, suc, _+_, _*_, _/_, _≤_, _<_}
-use mathlib.Core.Bool.{Bool, true, false}
+use Prim.Native.Nat.{ℕ, suc, _+_, _≤_, _<_}
 use mathlib.Core.List.{List, [], _∷_, map, flatMap}
-use native.Mathlib.Nat.{div-le-of-le-mul}
 use native.Mathlib.Omega.{arith}
 use native.Mathlib.Numerals.{add-one}
 use lib.ListN.{length, getD, drop, drop-of-length-le}
 use lib.Seq.{drop-cons}
-use lib.Dec.{eqb}
 use Rattle.reach.specs.declared.Refusal.{Refusal}
 use Rattle.reach.specs.declared.Counts.{Counts}
 use Rattle.reach.specs.declared.Verdict.{Verdict}
 use Rattle.reach.specs.declared.Verdict.the-variants.{Found, Undecided, None}
-use Rattle.reach.specs.Base.{pick}
 use Rattle.reach.specs.Words.{numberOf, verdictWord}
 use Rattle.reach.specs.declared.Kind.{Kind}
 use Rattle.reach.specs.declared.Kind.the-variants.{RE, UN, MI}
@@ -73,14 +69,6 @@ pub verdict-few : (v : Verdict) → length (verdictWord v) ≤ 9
 verdict-few Found = omega arith
 verdict-few Undecided = omega arith
 verdict-few None = omega arith
-
-pub share-most : (a b : ℕ) → share a b ≤ 100
-unfolding share
-share-most a b = go (eqb (a + b) 0)
-  where
-    go : (t : Bool) → pick t 0 (100 * b / (a + b)) ≤ 100
-    go true = omega arith
-    go false = div-le-of-le-mul (a + b) (omega arith)
 
 module _ {t u : List ℕ} {at r : ℕ} where
   pub number-end : (n : ℕ) → Puts t at (space ∷ decimal n) u r → r ≤ at + (n + 2)

@@ -24,7 +24,8 @@ use Rattle.reach.specs.Text.{spaced, lineFrom, decimal, kindWord, partWord, lin
 use Rattle.reach.proofs.ReadBack.{size-inside}
 use Rattle.writing.proofs.Digits.{digits-three, digits-five, digits-eight}
 use Rattle.reach.proofs.Words.{number-byte}
-use Rattle.lines.proofs.Lines.{kind-few, verdict-few, share-most}
+use Rattle.words.proofs.Share.{share-most}
+use Rattle.lines.proofs.Lines.{kind-few, verdict-few}
 use Rattle.lines.specs.Counting.{Few}
 use Rattle.printing.specs.Bound.{textBound}
 use Rattle.printing.proofs.Walk.{size-least, few-more}

@@ -40,6 +40,7 @@ pub fn put_kind(kind: Kind, text: &mut [u8], at: usize) -> usize
 pub fn share_of(reach: u64, unfinished: u64) -> u64
     requires { ⌜ (reach ≤ 16777216) × (unfinished ≤ 16777216) ⌝ }
     ensures { λ r. ⌜ r ≡ share reach unfinished ⌝ }
+    ensures small { λ r. ⌜ r ≤ 100 ⌝ }
 {
     let both = reach + unfinished;
     if both == 0 {

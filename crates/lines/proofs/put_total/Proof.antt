@@ -3,7 +3,7 @@
 use native.Mathlib.Omega.{arith}
 use borrow.Author.Needs.{needs}
 use Rattle.reach.specs.Search.{verdictBy}
-use Rattle.lines.proofs.Lines.{total-put, number-end, verdict-end, share-most}
+use Rattle.lines.proofs.Lines.{total-put, number-end, verdict-end}
 use Rattle.lines.proofs.put_total.Tie as tie
 use Rattle.lines.proofs.put_total.Statement.{statement}
 
@@ -32,7 +32,6 @@ put-number-requires-3 c κs =
 
 put-number-requires-4 : tie.Need-put-number-requires-4
 put-number-requires-4 c κs =
-    let a = c .before .before .before .before .before .before .before .before .before .before .before .before .before .before .before .before .before .before .before .before .args in
     let pre = c .before .before .before .before .before .before .before .before .before .before .before .before .before .before .before .before .before .before .before .before .pre in
     let put-bytes = c .before .before .before .before .before .before .before .before .before .before .before .before .before .before .before .before .put-bytes in
     let put-number = c .before .before .before .before .before .before .before .before .before .before .before .before .put-number in
@@ -45,13 +44,11 @@ put-number-requires-4 c κs =
       number-end _ (put-number .ensures),
       number-end _ (put-number2 .ensures),
       number-end _ (put-number3 .ensures),
-      c .share-of .ensures,
-      share-most (a .counts .reach) (a .counts .unfinished),
+      c .share-of .ensures .1,
     )
 
 put-verdict-requires : tie.Need-put-verdict-requires
 put-verdict-requires c κs =
-    let a = c .before .before .before .before .before .before .before .before .before .before .before .before .before .before .before .before .before .before .before .before .before .before .before .before .args in
     let pre = c .before .before .before .before .before .before .before .before .before .before .before .before .before .before .before .before .before .before .before .before .before .before .before .before .pre in
     let put-bytes = c .before .before .before .before .before .before .before .before .before .before .before .before .before .before .before .before .before .before .before .before .put-bytes in
     let put-number = c .before .before .before .before .before .before .before .before .before .before .before .before .before .before .before .before .put-number in
@@ -67,8 +64,7 @@ put-verdict-requires c κs =
       number-end _ (put-number2 .ensures),
       number-end _ (put-number3 .ensures),
       number-end _ (put-number4 .ensures),
-      share-of .ensures,
-      share-most (a .counts .reach) (a .counts .unfinished),
+      share-of .ensures .1,
     )
 
 put-byte-requires : tie.Need-put-byte-requires
@@ -90,8 +86,7 @@ put-byte-requires c κs =
       number-end _ (put-number2 .ensures),
       number-end _ (put-number3 .ensures),
       number-end _ (put-number4 .ensures),
-      share-of .ensures,
-      share-most (a .counts .reach) (a .counts .unfinished),
+      share-of .ensures .1,
       verdict-end (verdictBy (a .counts)) (put-verdict .ensures),
     )
 
@@ -107,7 +102,7 @@ returns c =
     let put-verdict = c .before .before .before .before .before .before .put-verdict in
     let put-byte = c .before .before .put-byte in
     total-put (a .counts) (put-bytes .ensures) (put-number .ensures) (put-number2 .ensures) (put-number3 .ensures)
-    (rw (share-of .ensures) at (put-number4 .ensures)) (put-verdict .ensures) (put-byte .ensures)
+    (rw (share-of .ensures .0) at (put-number4 .ensures)) (put-verdict .ensures) (put-byte .ensures)
 
 pub put-total-spec : {M : Type 1} → statement M
 put-total-spec =
