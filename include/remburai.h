@@ -35,7 +35,7 @@ extern "C" {
 /* The version of this file and of the library beside it. */
 #define REMBURAI_VERSION_MAJOR 0
 #define REMBURAI_VERSION_MINOR 5
-#define REMBURAI_VERSION_PATCH 0
+#define REMBURAI_VERSION_PATCH 1
 #define REMBURAI_VERSION "0.5.1"
 
 /* Every call answers with one number; the functions under "The parts of an answer" take it apart, but for that of
@@ -89,7 +89,8 @@ extern "C" {
 #define REMBURAI_MISSING 4           /* it stops off target at a case that has no alternative for the constructor */
 
 /* The longest rule file, in bytes; the largest step limit S; the words of work slice that a step limit asks for; how many bytes of a
- * list slice count, which is also the most bytes of a list that has a text; and the most bytes of a text, by those of the list. */
+ * list slice count, which is also the most bytes of a list that has a text; and the most bytes of a text, by those of the list, of
+ * which no more than REMBURAI_LIST_LIMIT need be counted. */
 #define REMBURAI_FILE_LIMIT 16384u
 #define REMBURAI_STEP_LIMIT 4096u
 #define REMBURAI_WORK_WORDS(s) (64u * (size_t)(s) + 1024u)

@@ -70,5 +70,5 @@ begin_build() {
 # Says that a proof begins, and how long it takes on two processors.
 begin_proof() { # WHAT
     command -v rt > /dev/null || fault "'rt', the Rattle toolchain, is needed to prove what is run, and it is not on the PATH"
-    echo "$name: $1: about four minutes on first use, less after a change (log: $log)" >&2
+    echo "$name: $1: about five minutes on first use, less after a change (log: $log)" >&2
 }

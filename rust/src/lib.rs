@@ -94,10 +94,10 @@ pub const fn work_words(steps: usize) -> usize {
     64 * steps + 1_024
 }
 
-/// The most bytes of a text of a list of `list` bytes: 4 for each of them, and 64 more. Of the text of [`names()`] count the bytes of the
-/// list slice.
-pub const fn text_bound(list: usize) -> usize {
-    4 * list + 64
+/// The most bytes of a text of a list of `list_length` bytes: 4 for each of them, and 64 more. Of the text of [`names()`] count the bytes of
+/// the list slice; of these, as of a list, no more than [`LIST_LIMIT`] need be counted.
+pub const fn text_bound(list_length: usize) -> usize {
+    list_length.saturating_mul(4).saturating_add(64)
 }
 
 /// What a complete list says of its rule file.

@@ -28,7 +28,7 @@ macro_rules! refusals {
                 }
             }
 
-            /// What to do about the refusal, as the command says it.
+            /// What to do about the refusal, as the command says it; no part of the interface.
             #[doc(hidden)]
             pub const fn advice(self) -> &'static str {
                 match self {

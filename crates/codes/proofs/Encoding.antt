@@ -26,6 +26,7 @@ use Rattle.reach.proofs.Base.{clash}
 use Rattle.reach.proofs.InTurn.{in-turn}
 use Rattle.reach.proofs.Limits.{IfFound, if-found-then}
 use Rattle.reach.proofs.Reading.{Reads, reads-none, reads-then, byte-finds}
+use Rattle.reach.proofs.Heads.{any-then}
 
 -- Bytes that stand at a place.
 
@@ -317,11 +318,6 @@ module _ (d : Declarations) (n : ℕ) (view : List ℕ) (t : ℕ) (s : List ℕ)
   expression-nesting = expression-found .2
 
 -- The bodies of a file.
-
--- what holds of whatever is found second
-any-then : {A B : Type 0} (Q : B → ℕ → Type 0) (f : A → ℕ → Got B) (g : Got A) → ((a : A) (next : ℕ) → IfFound Q (f a next)) → IfFound Q (onGot f (λ why. refused why) g)
-any-then Q f (got a next) second = second a next
-any-then Q f (refused why) second = tt
 
 -- what is found at each mark that may come
 turn-finds : {A : Type 0} (P : A → ℕ → Type 0) (s : List ℕ) (i : ℕ) (turns : List (Mark × Reader A)) (m : Mark)

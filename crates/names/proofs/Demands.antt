@@ -90,6 +90,17 @@ module _ (file : List ℕ) (p : Program) (checked : check file ≡ accepted p) (
       Levels.named-same (p .types) levels depthLimit named few (e .input) (sourceTypes p) (fits .typed)
       (Entries.fillable p typed no-empty (e .input) (sourceTypes p) (Entries.source-there p typed no-empty) (fits .typed)) deep
 
+  -- and so do as many as the file's own D
+  pub filled-by-depth : (e : Entry) → e ∈ listed (searchAnswer file work list)
+      → filled p named (e .input) ≡ fillNamed (p .types) (leastDepths (p .types)) (depthOf (p .depths)) named (sourceTypes p) (e .input)
+  filled-by-depth e m =
+      let fits = each-member _ (listed-handed file p checked work list .each-fits) m in
+      let rooms = accepted-even file p checked in
+      let d = depthOf (p .depths) in
+      let each : Each (λ (s : Slot). s .room ≤ d) (sourceSlots p) = rw rooms (even-each (λ (s : Slot). s .room ≤ d) (sourceTypes p) d (λ t. le-refl d)) in
+      levels-enough e m d (accepted-keeps file p checked .depth-limit .1)
+      (rw (source-types p) at (Levels.row-deepest (p .types) d (sourceSlots p) (e .input) each (rw (source-types p) (fits .typed)) (fits .deep)))
+
   -- what is filled binds at least what the entry binds
   pub filled-binds : (e : Entry) → e .input ⊑ filled p named (e .input)
   unfolding filled

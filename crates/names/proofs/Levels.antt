@@ -9,8 +9,9 @@ use native.Mathlib.Omega.{arith}
 use lib.ListN.{getD}
 use Rattle.reach.specs.Syntax.{Types}
 use Rattle.reach.specs.Parts.{Parts, end, opened, bound}
-use Rattle.reach.specs.Types.{Typed, leastDepths, shallow}
-use Rattle.reach.specs.Partial.{deepest}
+use Rattle.reach.specs.Base.{Each}
+use Rattle.reach.specs.Types.{Typed, Slot, slotTypes, leastDepths, shallow}
+use Rattle.reach.specs.Partial.{deepest, Keeps}
 use Rattle.reach.proofs.LeastDepths.{shallow-head}
 use Rattle.names.specs.Filling.{builtBy, eachOf, leastRow, fill, Fillable, fillNamed}
 use Rattle.names.proofs.Filling.{shallow-more, has-first}
@@ -69,3 +70,14 @@ module _ (types : Types) where
       rw (first, inner, named-same levels more named enough r ts h k (omega (arith, l))) refl
   named-same levels more named enough (bound c fs r) (t ∷ ts) (us, has, inner, others) (k, m) l =
       rw (has, fill-same levels more enough fs us inner (rw has at k) (omega (arith, rw has at l)), named-same levels more named enough r ts others m (omega (arith, l))) refl
+
+  -- a row whose slots all allow at most so much is no deeper
+  pub row-deepest : (d : ℕ) (ss : List Slot) (e : Parts) → Each (λ (s : Slot). s .room ≤ d) ss → Typed types (slotTypes ss) e → Keeps types ss e
+      → deepest types (slotTypes ss) e ≤ d
+  unfolding deepest slotTypes
+  row-deepest d [] end rooms typed keeps = omega arith
+  row-deepest d [] (opened r) rooms typed keeps = absurd typed
+  row-deepest d [] (bound c fs r) rooms typed keeps = absurd typed
+  row-deepest d (s ∷ ss) end rooms typed keeps = absurd typed
+  row-deepest d (s ∷ ss) (opened r) rooms typed keeps = omega (arith, rooms .0, keeps .0, row-deepest d ss r (rooms .1) typed (keeps .1))
+  row-deepest d (s ∷ ss) (bound c fs r) rooms typed keeps = omega (arith, rooms .0, keeps .0, row-deepest d ss r (rooms .1) (typed .3) (keeps .1))

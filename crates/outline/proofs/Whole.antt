@@ -17,7 +17,7 @@ use Rattle.reach.proofs.Places.{goal-read}
 use Rattle.typerecord.specs.declared.Passed.{Passed}
 use Rattle.typerecord.specs.Passed.{passedOf}
 use Rattle.typerecord.proofs.Answers.{step-got, step-refused, on-got}
-use Rattle.outline.specs.Tables.{onStep, lastRecord}
+use Rattle.outline.specs.Tables.{onPassed, lastRecord}
 use Rattle.turns.specs.Turns.{typesFrom, functionsFrom, firstMark}
 
 -- one reading and then the rest, however the rest is grouped
@@ -41,11 +41,11 @@ first-marked {A} {C} one f g s i e m = by (sameMark TY m)
     by false = refl
 
 -- the type that NA names, where the step behind it tells of the mark GO
-pub name-then : (s : List ℕ) (i : ℕ) {t next : ℕ} {r : Passed} → byte s i ≡ got t next → r ≡ passedOf (goalMark s next) → nameRecord s i ≡ onStep (some t) r
+pub name-then : (s : List ℕ) (i : ℕ) {t next : ℕ} {r : Passed} → byte s i ≡ got t next → r ≡ passedOf (goalMark s next) → nameRecord s i ≡ onPassed (some t) r
 unfolding nameRecord
 name-then s i {t} {next} {r} here told = rw (here, told) (by-mark (goalMark s next))
   where
-    by-mark : (g : Got (Unit {0})) → onGot {B = Got (Option ℕ)} (λ u k. got (some t) k) (λ why. refused why) g ≡ onStep (some t) (passedOf g)
+    by-mark : (g : Got (Unit {0})) → onGot {B = Got (Option ℕ)} (λ u k. got (some t) k) (λ why. refused why) g ≡ onPassed (some t) (passedOf g)
     by-mark (got u k) = refl
     by-mark (refused why) = refl
 

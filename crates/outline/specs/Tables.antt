@@ -19,23 +19,23 @@ use Rattle.outline.specs.declared.FunctionTable.{FunctionTable}
 use Rattle.outline.specs.declared.Naming.{Naming}
 use Rattle.outline.specs.declared.Outlined.{Outlined}
 
-abbrev pub onStep : {A : Type 0} → A → Passed → Got A
-onStep a (Next next) = got a next
-onStep a (Refused why) = refused why
+abbrev pub onPassed : {A : Type 0} → A → Passed → Got A
+onPassed a (Next next) = got a next
+onPassed a (Refused why) = refused why
 
 -- what a table says was read
 abbrev pub typesOf : List ℕ → TypeTable → Got Types
-typesOf s r = onStep (map (typeAt s) (take (r .count) (r .places))) (r .step)
+typesOf s r = onPassed (map (typeAt s) (take (r .count) (r .places))) (r .step)
 
 abbrev pub functionsOf : List ℕ → FunctionTable → Got (List Head)
-functionsOf s r = onStep (map (headAt s) (take (r .count) (r .places))) (r .step)
+functionsOf s r = onPassed (map (headAt s) (take (r .count) (r .places))) (r .step)
 
 abbrev pub outlinedOf : List ℕ → Outlined → Got Outline
-outlinedOf s r = onStep (outlineAt s (take (r .types) (r .«type_at»)) (take (r .functions) (r .«function_at»)) (namedOf (r .named)) (goalOf (r .goal))) (r .step)
+outlinedOf s r = onPassed (outlineAt s (take (r .types) (r .«type_at»)) (take (r .functions) (r .«function_at»)) (namedOf (r .named)) (goalOf (r .goal))) (r .step)
 
 -- what stands between the functions and the goal
 abbrev pub namingOf : Naming → Got (Option ℕ)
-namingOf r = onStep (namedOf (r .named)) (r .step)
+namingOf r = onPassed (namedOf (r .named)) (r .step)
 
 -- what was read, put together
 abbrev pub outlineOf : Passed → TypeTable → FunctionTable → Naming → Goal.Goal → Outlined

@@ -8,12 +8,12 @@ use mathlib.Core.Path.{_≡_, refl, subst}
 use mathlib.Core.Logic.{_↔_, _≢_}
 use mathlib.Core.List.{List, _∷_, [], _++_}
 use mathlib.Core.Option.{none, some}
-use lib.ListN.{length, getD, getElem?, drop}
+use lib.ListN.{length, getD, getElem?, drop, replicate}
 use Rattle.reach.specs.declared.Refusal.{Refusal}
 use Rattle.reach.specs.declared.Refusal.the-variants.{WorkTooShort}
 use Rattle.reach.specs.declared.Verdict.the-variants.{None}
 use Rattle.reach.specs.Base.{_∈_}
-use Rattle.reach.specs.Limits.{typeLimit, depthLimit, workWords}
+use Rattle.reach.specs.Limits.{typeLimit, parameterLimit, depthLimit, workWords}
 use Rattle.reach.specs.Syntax.{Types, Program}
 use Rattle.reach.specs.Parts.{Parts, end, bound, Place, openAt, BoundPart, Completes, depth, prefix}
 use Rattle.reach.specs.Types.{sourceSlots, depthOf, ClosedInput, WithinDepth, ValueOf, LeastDepth, rounds, leastDepths}
@@ -33,6 +33,7 @@ use Rattle.reach.proofs.LeastDepths as LeastDepths
 use Rattle.reach.proofs.Evaluation.{run-spent, run-ends}
 use Rattle.reach.proofs.Missing as Missing
 use Rattle.reach.proofs.Moves as Moves
+use Rattle.reach.proofs.Limits.{accepted-keeps}
 use Rattle.reach.proofs.EntryLength.{entry-within}
 use Rattle.reach.proofs.ClosedInputs as ClosedInputs
 use Rattle.reach.proofs.Answers.{Means, search-means, listed-in, complete-is, short-work}
@@ -145,6 +146,11 @@ depth-exactly file p h bytes j d = ClosedInputs.read-exactly file p h bytes (j, 
 pub too-deep-exactly : (file : List ℕ) (p : Program) → check file ≡ accepted p
     → (bytes : List ℕ) (j : Parts) → ClosedInput p j → prefix j ≡ bytes → (readInput p bytes ≡ none) ↔ (depthOf (p .depths) < depth j)
 too-deep-exactly file p h bytes j values same = ClosedInputs.too-deep-exactly file p h bytes j values same
+
+-- The D of an accepted file: its depths are one number eight times, from 1 to 64.
+pub one-depth : (file : List ℕ) (p : Program) → check file ≡ accepted p
+    → (p .depths ≡ replicate parameterLimit (depthOf (p .depths))) × (1 ≤ depthOf (p .depths)) × (depthOf (p .depths) ≤ depthLimit)
+one-depth file p h = let kept = accepted-keeps file p h in (kept .depths-alike, kept .depth-limit .0, kept .depth-limit .1)
 
 -- That values are read below 64 constructors only, the largest D, changes no answer.
 pub bound-changes-nothing : (file : List ℕ) (p : Program) → check file ≡ accepted p

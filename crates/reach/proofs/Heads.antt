@@ -16,7 +16,9 @@ pub record Headed (h : Head) (g : Function) : Type 0 where
   pub parameters : g .parameters ≡ h .parameters
   pub result : g .result ≡ h .result
 
-any-then : {A B : Type 0} (Q : B → ℕ → Type 0) (f : A → ℕ → Got B) (g : Got A) → ((a : A) (next : ℕ) → IfFound Q (f a next)) → IfFound Q (onGot f (λ why. refused why) g)
+-- what holds of whatever is found second
+pub any-then : {A B : Type 0} (Q : B → ℕ → Type 0) (f : A → ℕ → Got B) (g : Got A) → ((a : A) (next : ℕ) → IfFound Q (f a next))
+    → IfFound Q (onGot f (λ why. refused why) g)
 any-then Q f (got a next) h = h a next
 any-then Q f (refused why) h = tt
 

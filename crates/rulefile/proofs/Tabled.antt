@@ -19,7 +19,7 @@ use Rattle.goal.specs.Goals.{Asks, namedOf}
 use Rattle.depths.specs.Table.{padded}
 use Rattle.depths.proofs.Padded.{padded-lookup, padded-roomy}
 use Rattle.rulefile.specs.declared.Loaded.{Loaded}
-use Rattle.rulefile.specs.Loading.{Passed, sourceShallow, typePlaces, functionPlaces, Tabled}
+use Rattle.rulefile.specs.Loading.{PassesLeave, sourceShallow, typePlaces, functionPlaces, Tabled}
 
 -- ---- tables of places that passed
 
@@ -31,7 +31,7 @@ no-function d s (h ∷ hs) [] all f e = absurd all
 no-function d s (h ∷ hs) (g ∷ gs) all zero e = absurd (clash (cc))
 no-function d s (h ∷ hs) (g ∷ gs) all (suc f) e = no-function d s hs gs (all .1) f e
 
-module _ {s types functions : List ℕ} {named : Option ℕ} {goal : Goal} {fs : List Function} (passed : Passed s types functions named goal fs) where
+module _ {s types functions : List ℕ} {named : Option ℕ} {goal : Goal} {fs : List Function} (passed : PassesLeave s types functions named goal fs) where
   abbrev declared : Declarations
   declared = declarationsAt s types functions
 

@@ -23,7 +23,7 @@ use Rattle.results.specs.declared.CheckResult.the-variants.{Accepted, Refused}
 use Rattle.rulefile.specs.declared.Loaded.{Loaded}
 
 -- Tables of places, a named type and a goal as the three passes leave them: each pass over the records that stand there found nothing.
-pub record Passed (s types functions : List ℕ) (named : Option ℕ) (goal : RuleFile.Goal) (fs : List Function) : Type 0 where
+pub record PassesLeave (s types functions : List ℕ) (named : Option ℕ) (goal : RuleFile.Goal) (fs : List Function) : Type 0 where
   pub behind : ℕ
   pub read : outline s 0 ≡ got (outlineAt s types functions named goal) behind
   pub exist : numbersExist (outlineAt s types functions named goal) ≡ true
@@ -51,7 +51,7 @@ pub record Outlines (s : List ℕ) (o : Outlined) : Type 0 where
 pub record Reads (s : List ℕ) (o : Outlined) : Type 0 where
   pub outlined : Outlines s o
   pub functions : List Function
-  pub passed : Passed s (typesIn o) (functionsIn o) (namedOf (o .named)) (goalOf (o .goal)) functions
+  pub passed : PassesLeave s (typesIn o) (functionsIn o) (namedOf (o .named)) (goalOf (o .goal)) functions
 
 -- each parameter of the source has a closed value that is at most as deep as it may be, by the table
 abbrev pub sourceShallow : List ℕ → List ℕ → RuleFile.Goal → List ℕ → Bool
@@ -76,7 +76,7 @@ pub record Tabled (s : List ℕ) (r : Loaded) (p : Program) : Type 0 where
   pub functions-limit : r .functions ≤ functionLimit
   pub functions-count : length (functionPlaces r) ≡ r .functions
   pub functions : List Function
-  pub passed : Passed s (typePlaces r) (functionPlaces r) (namedOf (r .named)) (goalOf (r .goal)) functions
+  pub passed : PassesLeave s (typePlaces r) (functionPlaces r) (namedOf (r .named)) (goalOf (r .goal)) functions
   pub program : p ≡ programOf (outlineAt s (typePlaces r) (functionPlaces r) (namedOf (r .named)) (goalOf (r .goal))) functions
   pub depths : r .least ≡ padded (leastDepths (p .types))
 
