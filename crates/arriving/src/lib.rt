@@ -1,5 +1,5 @@
 // A path of the search arrives at its state and goes on to its end, or to a choice point where a case waits. Where the search stands between two moves.
-// Rests on crates registers, steps and choices.
+// Rests on crates registers, points and steps; the definitions also on machine and choices.
 ghost use mathlib.Core.Path.{_≡_};
 ghost use Rattle.skipping.specs.Ends.{Ends};
 ghost use Rattle.arriving.specs.Moving.{endedWalk, SomeUnderWay, Arrives};

@@ -1,5 +1,5 @@
 // A case of a closed run that waits on an open part: the part is bound to what the input has there, and the case goes on with it. Rests on
-// crates lookups, machine, cells, values and choosing.
+// crates marks, lookups, machine, cells, registers, values and choosing.
 ghost use Rattle.binding.specs.Underway.{Bindable, BoundAs, SomeWaiting, Enters};
 use cells::bind_cell;
 use choosing::enter_part;

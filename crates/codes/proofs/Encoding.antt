@@ -1,7 +1,7 @@
 -- An expression is its bytes: what was read at a place is exactly the encoding that stands there, its operands follow in order, and an
 -- encoding determines its expression. Each body of an accepted file stands at the place that its head tells, and the place behind an
 -- expression is found by passing over it.
--- Rests on Encoding and RuleFile, and on IfFound of Limits.
+-- Rests on reach's Encoding and RuleFile, and on IfFound of reach's Limits.
 use Prim.Native.Nat.{ℕ, zero, suc, pred, _+_, _≤_, _<_, zero-le}
 use mathlib.Core.Path.{_≡_, refl, ap, subst}
 use mathlib.Core.Bool.{Bool, true, false, _&&_}

@@ -1,5 +1,5 @@
 // The loop of a search: path after path while one is under way or a choice point is left, what each path lists written to the lent list, and the
-// verdict. Rests on crates moves, listing, verdicts and results.
+// verdict. Rests on crates depths, registers, arriving, moves, listing, verdicts and results.
 ghost use mathlib.Core.Path.{_≡_};
 ghost use Prim.Native.Nat.{_≤_};
 ghost use lib.ListN.{length};

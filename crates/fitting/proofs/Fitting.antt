@@ -1,5 +1,5 @@
 -- A value for each slot, one after another: what the loop over the types of a row comes to.
--- Rests on Values, Stack, Rows and the lookups' Tables.
+-- Rests on rows' Values, Stack and Rows, and on lookups' Tables.
 use Prim.Native.Nat.{ℕ, max, _+_, _-_, _≤_, _<_}
 use mathlib.Core.Path.{_≡_, refl, ap, _∙_}
 use mathlib.Core.List.{List, map}

@@ -1,4 +1,5 @@
-// Whether a list that is handed in is whole entries that fit its rule file: refusal 14. Rests on crates lookups, goal, depths, entries and fitting.
+// Whether a list that is handed in is whole entries that fit its rule file: refusal 14.
+// Rests on crates lookups, goal, depths, sizes, rows and fitting.
 ghost use mathlib.Core.Path.{_≡_};
 ghost use mathlib.Core.Option.{some};
 ghost use Prim.Native.Nat.{_+_};

@@ -1,5 +1,5 @@
 -- The whole input, by what is read of its values: the place behind them is the end of the bytes.
--- Rests on specs/Depth, on reach's Input and on partials' Values.
+-- Rests on specs/Depth, on reach's Input and on rows' Values.
 use Prim.Native.Nat.{ℕ, _≤_, _<_}
 use mathlib.Core.Path.{_≡_, refl, sym, _∙_, ap}
 use mathlib.Core.List.{List}

@@ -1,5 +1,5 @@
 // The depth of a closed input: its values read one after another, one for each parameter of the source, and nothing behind them. Rests on crates
-// lookups, goal and fitting.
+// lookups, goal, rows and fitting.
 ghost use mathlib.Core.Path.{_≡_};
 ghost use Rattle.inputs.specs.Depth.{readingOf, inputAt};
 use fitting::slots;

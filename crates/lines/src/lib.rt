@@ -1,5 +1,5 @@
-// The lines of a printed text, each written into a lent slice: the line of an entry, the total line, the line of a refusal. Rests on crates marks,
-// entries, refusals and writing.
+// The lines of a printed text, each written into a lent slice: the line of an entry, the total line, the line of a refusal. Rests on crates sizes,
+// words, refusals and writing.
 ghost use mathlib.Core.List.{map};
 ghost use Prim.Native.Nat.{_+_, _*_, _≤_, _<_};
 ghost use lib.ListN.{length, drop};

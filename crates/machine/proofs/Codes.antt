@@ -1,6 +1,6 @@
 -- What stands in the file, as the steps read it: the bytes of each kind of expression and the places of its parts, the operand of a number and
 -- the alternative of a constructor, behind what is passed over before them.
--- Rests on specs/Records and specs/Walks and on reach's Encoding.
+-- Rests on specs/Records and specs/Walks, on reach's Encoding, and on codes' Encoding for its laws.
 use Prim.Native.Nat.{ℕ, zero, suc, _+_, _-_, _≤_, _<_}
 use mathlib.Core.Path.{_≡_, refl, subst}
 use mathlib.Core.List.{List, append-nil}

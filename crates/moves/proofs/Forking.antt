@@ -1,5 +1,5 @@
 -- A choice point takes its next constructor: the cell is bound, and one step leads behind the case, where the model's path arrives.
--- Rests on specs/Moving, Arriving, and choices' Keeping, Taking and Weights.
+-- Rests on arriving's Moving and Arriving, and on choices' Keeping, Taking and Weights.
 use Prim.Native.Nat.{ℕ, suc, _+_, _*_, _-_, _≤_, _<_}
 use mathlib.Core.Path.{_≡_, refl, sym, _∙_, ap, subst}
 use mathlib.Core.Bool.{true}

@@ -1,6 +1,6 @@
 -- One move: the path that the search goes on with, by where it stands: the one under way, or behind its end the one to which it returns, or none;
 -- and the arrival of that path.
--- Rests on specs/Moving, on Arriving and on choices' Returning and Weights.
+-- Rests on arriving's Moving and Arriving, and on choices' Returning and Weights.
 use Prim.Native.Nat.{ℕ, _-_, _<_}
 use mathlib.Core.Path.{_≡_, refl, sym, _∙_, ap, subst}
 use mathlib.Core.Bool.{true, false}

@@ -1,5 +1,6 @@
 // The moves of the search: a step of the path under way, a fork to its first constructor, or a return to the last choice point with
-// a constructor left, taking it. One call makes the moves of a path up to its end. Rests on crates cells, choosing, steps and choices.
+// a constructor left, taking it. One call makes the moves of a path up to its end. Rests on crates depths, registers,
+// cells, choosing, points, choices and arriving.
 ghost use mathlib.Core.Path.{_≡_};
 ghost use mathlib.Core.Bool.{false};
 ghost use Prim.Native.Nat.{_≤_};

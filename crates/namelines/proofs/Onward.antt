@@ -1,5 +1,5 @@
 -- One parameter of an entry after the other: what the loop of put_entry knows, and why it stays so.
--- Rests on Rows and Lengths, on partials' Values and on writing's Writing.
+-- Rests on Rows and Lengths, on rows' Values and on writing's Writing.
 use Prim.Native.Nat.{ℕ, _+_, _*_, _-_, _≤_, _<_}
 use mathlib.Core.Path.{_≡_, refl, sym, ap, subst, _∙_}
 use mathlib.Core.Bool.{Bool, true, false}

@@ -1,5 +1,5 @@
-// The lines of the names of a list: of each entry, those of its parameters of the named type, in their order. Rests on crates marks, lookups, partials,
-// rulefile, entries, lines and naming.
+// The lines of the names of a list: of each entry, those of its parameters of the named type, in their order. Rests on crates marks, lookups, rows,
+// partials, goal, rulefile, sizes, lines and naming.
 ghost use mathlib.Core.Path.{_≡_};
 ghost use mathlib.Core.List.{[], map};
 ghost use Prim.Native.Nat.{_≤_, _<_};

@@ -1,5 +1,5 @@
 // The text that the program `namelist` prints for a rule file: the search in lent slices, and the names of the entries that it listed; and the same with the
-// buffers of that program, which are those of `reachlist`. Rests on crates search, printing, namelines and reporting.
+// buffers of that program, which are those of `reachlist`. Rests on crates results, search, printing, namelines and reporting.
 ghost use Prim.Native.Nat.{_≤_};
 ghost use lib.ListN.{length};
 ghost use Rattle.names.specs.NameList.{namesText};

@@ -1,5 +1,5 @@
 -- An entry whose names are filled: every name in it is a closed value of the named type and fits the depth, and the values of other types stay as they are.
--- Rests on Filling and on reach's WellTyped and Limits.
+-- Rests on Filling and on reach's Typing and LeastDepths.
 use Prim.Native.Nat.{ℕ, zero, suc, _≤_, _<_}
 use mathlib.Core.Path.{_≡_, refl, sym, ap, subst, _∙_}
 use mathlib.Core.Bool.{Bool, true, false, false≢true, and-eq-true-iff}

@@ -1,7 +1,7 @@
 // The first pass over a rule file: marks, counts, lengths, D and S, bodies passed over. What it leaves is the places where the
 // records of types and functions stand, the type that NA names, and the goal. Every mark is read through the cursor: the first where
 // the file begins, each other one where the record before it ends; the one behind the last function, NA or GO, is left by the
-// functions and read again. Rests on crates marks, cursor, typerecord, functionrecord, goalrecord and goal.
+// functions and read again. Rests on crates marks, cursor, turns, typerecord, functionrecord, goalrecord and goal.
 ghost use mathlib.Core.Path.{_≡_};
 ghost use Prim.Native.Nat.{ℕ, _≤_};
 ghost use lib.ListN.{length};

@@ -1,5 +1,5 @@
 -- Reading a row with a stack: what the rows that wait make of the row above them, and what each turn of the loop does to row and stack.
--- Rests on Stack and Rows.
+-- Rests on rows' Stack and Rows.
 use Prim.Native.Nat.{ℕ, zero, suc, max, _+_, _-_, _≤_, _<_}
 use mathlib.Core.Path.{_≡_, refl, sym, ap, _∙_}
 use mathlib.Core.List.{List, [], _∷_}

@@ -1,5 +1,5 @@
 // Reading values where they stand, partial or closed ones: of given types, in prefix form, with the place behind them and how deep the deepest is. `least` is
-// the table of the types' least depths, or empty: then nothing may be open, and the values are closed. Rests on crates marks and lookups.
+// the table of the types' least depths, or empty: then nothing may be open, and the values are closed. Rests on crates marks and rows.
 ghost use mathlib.Core.Path.{_≡_};
 ghost use Prim.Native.Nat.{_≤_};
 ghost use Rattle.rows.specs.Values.{ofValue, valueAt, Near};

@@ -1,4 +1,4 @@
-// The printed text of a list, written into a lent slice: the lines of its entries, and its last line. Rests on crates entries and lines.
+// The printed text of a list, written into a lent slice: the lines of its entries, and its last line. Rests on crates entries, sizes and lines.
 ghost use mathlib.Core.Path.{_≡_};
 ghost use Prim.Native.Nat.{_≤_};
 ghost use lib.ListN.{length};

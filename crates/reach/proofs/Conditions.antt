@@ -1,6 +1,6 @@
 -- The check answers under exactly the conditions of specs/Conditions: a file is accepted where it passes every test, and turned back by the test that it
 -- fails first. So each refusal has its own condition, and which passes can give it.
--- Rests on Stages for the order of the tests, on Numbers for the second pass, on LeastDepths for the table, on Encoding for the functions of the heads, and
+-- Rests on Stages for the order of the tests, on Numbers for the second pass, on LeastDepths for the table, on Heads for the functions of the heads, and
 -- on Refusals; for the one depth that GO gives on Limits and Slots.
 use Prim.Native.Nat.{ℕ, zero, suc, _≤_, _<_}
 use native.Mathlib.Omega.{arith}

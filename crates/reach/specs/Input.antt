@@ -1,5 +1,5 @@
--- Reading a closed input: one closed value per parameter, in prefix form, each of its type and at most D deep; else refusal 10. 02, Slip 3: with each value
--- its depth is read, and with the input that of its deepest parameter.
+-- Reading a closed input: one closed value per parameter, in prefix form, each of its type and at most as deep as its parameter may be; else
+-- refusal 10. 02, Slip 3: with each value its depth is read, and with the input that of its deepest parameter.
 -- Rests on Syntax, Types, Reader and Partial.
 use Prim.Native.Nat.{ℕ}
 use mathlib.Core.List.{List}

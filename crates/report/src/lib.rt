@@ -1,5 +1,5 @@
 // The text that the program `reachlist` prints for a rule file: the search in lent slices, and the text of its answer; and the same with the buffers of
-// that program. Rests on crates search, printing and reporting.
+// that program. Rests on crates results, search, printing and reporting.
 ghost use Prim.Native.Nat.{_≤_};
 ghost use lib.ListN.{length};
 ghost use Rattle.reporting.specs.Answers.{Reports, programPage, Prints};

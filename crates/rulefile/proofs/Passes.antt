@@ -1,6 +1,6 @@
 -- The third pass after the first: what the first one leaves is what the third one asks for, and the third one reads the bodies as the
 -- check does, which begins behind the goal.
--- Rests on reach's Limits and Encoding for what an outline keeps to, and on the lookups in tables of places.
+-- Rests on reach's Limits and codes' Encoding for what an outline keeps to, and on the lookups in tables of places.
 use Prim.Native.Nat.{ℕ, _<_}
 use mathlib.Core.Path.{_≡_, refl, subst}
 use mathlib.Core.List.{List, [], _∷_, map}

@@ -1,6 +1,6 @@
 -- What the tables of places that passed say of the program: its types, its functions and their bodies, its goal, and the parameters of its
 -- source. For the test of depth, and for whoever goes on with a loaded file.
--- Rests on Loading of specs/, on goal's Goals, on reach's Encoding for the bodies and Numbers for the source, and on depths' Padded.
+-- Rests on Loading of specs/, on goal's Goals, on codes' Encoding for the bodies and reach's Numbers for the source, and on depths' Padded.
 use Prim.Native.Nat.{ℕ, zero, suc, _<_, _≤_}
 use mathlib.Core.Path.{_≡_, refl, sym, _∙_, ap}
 use mathlib.Core.List.{List, [], _∷_, map}

@@ -1,7 +1,7 @@
 // The check of a rule file: the three passes in their order, then the tests of depth and of the form of names. `check` answers accepted or
 // the one refusal of 1 to 9 or 15; `load` also hands on what later layers need of an accepted file: the places of its types and functions,
-// the type that NA names, its goal by value and the least depths. Rests on crates outline, numbers, bodies, depths, rooms, spelling,
-// lookups, goal and results.
+// the type that NA names, its goal by value and the least depths. Rests on crates typerecord, outline, numbers, bodies, depths, rooms,
+// spelling, lookups, goal and results.
 ghost use mathlib.Core.Path.{_≡_};
 ghost use Rattle.goal.specs.Goals.{goalOf, namedOf};
 ghost use Rattle.rulefile.specs.Answering.{CheckPromise};

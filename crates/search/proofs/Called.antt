@@ -1,5 +1,5 @@
 -- What the definition's answer is, by the answer that a call gave: under which condition it is given, and where its list stands in the slice.
--- Rests on specs/Answering, on exploring's Cutting and Refusals, and on reach's Answers.
+-- Rests on specs/Answering, on exploring's Cutting, and on reach's Answers and Refusals.
 use Prim.Native.Nat.{ℕ, zero, suc, _+_, _≤_, _<_}
 use native.Mathlib.Omega.{arith}
 use mathlib.Core.Path.{_≡_, refl, sym, ap, subst, _∙_}

@@ -1,5 +1,5 @@
 -- Where the values of a closed input stand, noted in open cells: the place in one cell, and the places of a row of values.
--- Rests on machine's Cells, on partials' Values and on Positions.
+-- Rests on machine's Cells, on rows' Values and on Positions.
 use Prim.Native.Nat.{ℕ, _+_, _*_, _/_, _%_, _<_}
 use mathlib.Core.Path.{_≡_}
 use mathlib.Core.List.{List, [], map}

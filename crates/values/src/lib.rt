@@ -1,5 +1,5 @@
 // Where the values of a closed input stand, noted in the open cells: the low half of the place in word 4, the high half in word 1,
-// which a bound cell needs for its first field and an open one does not. Rests on crates marks, machine and partials,
+// which a bound cell needs for its first field and an open one does not. Rests on crates marks, machine, rows and partials,
 // the proofs also on cells.
 ghost use mathlib.Core.Path.{_≡_};
 ghost use Prim.Native.Nat.{_+_, _*_, _≤_, _<_};

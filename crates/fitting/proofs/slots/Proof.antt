@@ -1,4 +1,4 @@
--- `fitting::slots` meets its contract: each turn of the loop reads one value. Rests on Fitting and Rows.
+-- `fitting::slots` meets its contract: each turn of the loop reads one value. Rests on Fitting and on rows' Rows.
 use Prim.Native.Nat.{_+_, _-_, _≤_, max}
 use mathlib.Core.Path.{_≡_, sym, _∙_, ap}
 use native.Mathlib.Omega.{arith}

@@ -1,5 +1,5 @@
 -- `functionrecord::skip_body` meets its contract: the code goes through `bodyPart` in its order.
--- Rests on Counts and on the answers of crate marks.
+-- Rests on typerecord's Counts and on the answers of crate marks.
 use native.Mathlib.Omega.{arith}
 use borrow.Author.Needs.{needs}
 use Rattle.reach.specs.Limits.{bodyLimit}

@@ -1,5 +1,5 @@
 -- `functionrecord::skip_function` meets its contract: the code goes through `functionRecord` in its order, and its end is `bodyPart`.
--- Rests on Answers, Counts and Tails, and on the answers of crate marks.
+-- Rests on typerecord's Answers, Counts and Tails, and on the answers of crate marks.
 use mathlib.Core.Path.{_≡_, sym, _∙_}
 use native.Mathlib.Omega.{arith}
 use denote.Ref.{now}

@@ -1,5 +1,5 @@
 -- `goalrecord::skip_goal` meets its contract: the code goes through `goalRecord` in its order, and its end is `limitsPart`.
--- Rests on Tails and on the answers of crate marks.
+-- Rests on typerecord's Tails and on the answers of crate marks.
 use mathlib.Core.Path.{sym, _∙_}
 use borrow.Author.Needs.{needs}
 use Rattle.reach.specs.RuleFile.{goalRecord}

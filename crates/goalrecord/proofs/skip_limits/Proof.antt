@@ -1,5 +1,5 @@
 -- `goalrecord::skip_limits` meets its contract: the code goes through `limitsPart` in its order.
--- Rests on Counts and on the answers of crate marks.
+-- Rests on typerecord's Counts and on the answers of crate marks.
 use mathlib.Core.Path.{_≡_}
 use native.Mathlib.Omega.{arith}
 use denote.Ref.{now}

@@ -1,6 +1,6 @@
 -- `printing::put_list` meets its contract. The invariant: what is left of the text, from a place inside the list and with the counts so far,
 -- gives what the whole gives.
--- Rests on Writing, Walk, and Walk of crate entries.
+-- Rests on Walk, on writing's Writing and on sizes' Standing.
 use Prim.Native.Nat.{_*_, _-_, _≤_}
 use native.Mathlib.Omega.{arith}
 use lib.ListN.{length}
