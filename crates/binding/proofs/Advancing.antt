@@ -16,7 +16,7 @@ use Rattle.reach.specs.Places.{typeAt}
 use Rattle.reach.proofs.Base.{clash}
 use Rattle.reach.proofs.Order.{bind-has, bind-refines}
 use Rattle.reach.proofs.Evaluation.{waits-free, waits-answered}
-use Rattle.reach.proofs.ClosedInputs.{input-exactly}
+use Rattle.readings.proofs.ClosedInputs.{input-exactly}
 use Rattle.reach.proofs.Limits.{accepted-keeps, accepted-rooms}
 use Rattle.reach.specs.States.{one-more}
 use Rattle.reach.proofs.Reached.{steps-more}

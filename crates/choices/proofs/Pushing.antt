@@ -7,7 +7,7 @@ use mathlib.Core.Option.{some}
 use native.Mathlib.Decide.{ℕ-discrete}
 use native.Mathlib.Omega.{arith}
 use lib.ListN.{length, getD}
-use Rattle.reach.specs.Syntax.{case, Types, Program}
+use Rattle.reach.specs.Syntax.{Types, Program}
 use Rattle.reach.specs.Parts.{Parts, free, at, There}
 use Rattle.reach.specs.Types.{Slot, sourceSlots, slotAt, forks, forksAt, leastDepths}
 use Rattle.reach.specs.Eval.{State, inspecting, Frame, Question, waits, next}

@@ -1,15 +1,14 @@
 -- The loop of `find_return`: from the beginning the return came to a lower height, where the choice points are those that are left.
 -- Rests on specs/Returning, Keeping and Weights, and on forks' laws.
-use Prim.Native.Nat.{ℕ, zero, suc, _+_, _*_, _-_, _≤_, _<_}
+use Prim.Native.Nat.{ℕ, suc, _+_, _*_, _-_, _≤_, _<_}
 use mathlib.Core.Path.{_≡_, refl, sym, _∙_, ap, subst}
 use mathlib.Core.List.{List, [], _∷_, map}
-use mathlib.Core.Option.{some}
 use native.Mathlib.Omega.{arith}
-use lib.ListN.{length, getD}
+use lib.ListN.{length}
 use Rattle.reach.specs.Limits.{workWords}
-use Rattle.reach.specs.Syntax.{Program, fieldTypes}
+use Rattle.reach.specs.Syntax.{Program}
 use Rattle.reach.specs.Types.{Fork, leastDepths}
-use Rattle.reach.specs.Places.{bytesAt, typeAt}
+use Rattle.reach.specs.Places.{typeAt}
 use Rattle.reach.specs.Search.{Entry}
 use Rattle.reach.specs.Moves.{Choice, behind, takeFork, return}
 use Rattle.reach.proofs.Limits.{accepted-keeps}
@@ -22,7 +21,7 @@ use Rattle.choices.specs.declared.Return.the-variants as Return
 use Rattle.points.specs.Points.{choiceWord, reopened, NextForkAt}
 use Rattle.choices.specs.Choices.{Setting, Given, ChoiceAt, ChoicesAt, no-choice, one-choice}
 use Rattle.choices.specs.Weights.{weight}
-use Rattle.choices.specs.Returning.{setting, NextAt, ReturnsTo, ReturnMeans, Returns, SomeChoices}
+use Rattle.choices.specs.Returning.{setting, NextAt, Returns, SomeChoices}
 use Rattle.choices.proofs.Keeping.{reopened-length, cell-below, cells-fit, cell-fits}
 use Rattle.choices.proofs.Weights.{weight-dropped}
 

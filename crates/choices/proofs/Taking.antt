@@ -2,16 +2,16 @@
 -- constructors behind it left. And a step of a path keeps the choice points.
 -- Rests on Keeping, on reach's Reached and Slots and machine's laws of cells.
 use Prim.Native.Nat.{ℕ, suc, _+_, _*_, _-_, _≤_, _<_}
-use mathlib.Core.Path.{_≡_, refl, sym, _∙_, ap, subst}
-use mathlib.Core.List.{List, [], _∷_}
+use mathlib.Core.Path.{_≡_, sym, _∙_, ap, subst}
+use mathlib.Core.List.{List, _∷_}
 use mathlib.Core.Logic.{_≢_}
 use mathlib.Core.Option.{some}
 use native.Mathlib.Omega.{arith}
 use lib.ListN.{length, getD}
 use Rattle.reach.specs.Limits.{workWords}
 use Rattle.reach.specs.Syntax.{Program, fieldTypes, sourceTypes}
-use Rattle.reach.specs.Parts.{Parts, Place, width, at, free, bindAt, There}
-use Rattle.reach.specs.Types.{Typed, Slot, slotAt, sourceSlots, Fork, leastDepths}
+use Rattle.reach.specs.Parts.{Parts, Place, width, at, free, bindAt}
+use Rattle.reach.specs.Types.{Typed, Slot, slotAt, sourceSlots, leastDepths}
 use Rattle.reach.specs.Eval.{State, answered, next, goes}
 use Rattle.reach.specs.Moves.{Choice}
 use Rattle.reach.proofs.Order.{bind-has, bind-refines}
@@ -31,7 +31,7 @@ use Rattle.registers.proofs.Standing.{stands-after, stands-below}
 use Rattle.machine.proofs.Words.{records-same}
 use Rattle.points.specs.Points.{choiceWord, reopened}
 use Rattle.choices.specs.Choices.{Setting, Given, waitingAt, Path, ChoiceAt, ChoicesAt, one-choice}
-use Rattle.choices.proofs.Keeping.{Kept, path-kept, reopened-length, reopened-other, reopened-same, reopened-lengths, unbound, there, cell-below, cells-fit, choice-same, choices-kept}
+use Rattle.choices.proofs.Keeping.{Kept, path-kept, reopened-length, reopened-other, reopened-same, reopened-lengths, unbound, there, cell-below, choice-same, choices-kept}
 
 -- binding keeps the types of an input, whatever the number of fields is called
 typed-bound :

@@ -2,7 +2,7 @@
 -- constructor at least a path behind it less.
 -- Rests on specs/Weights, Keeping, Pushing and Taking.
 use Prim.Native.Nat.{ℕ, zero, suc, _+_, _*_, _-_, _≤_, _<_}
-use mathlib.Core.Path.{_≡_, refl, sym, _∙_, ap}
+use mathlib.Core.Path.{_≡_, refl, _∙_}
 use mathlib.Core.List.{List}
 use mathlib.Core.Option.{some}
 use native.Mathlib.Nat.{mul-le-mul-right}

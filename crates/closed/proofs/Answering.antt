@@ -1,6 +1,6 @@
 -- The answer of the whole run, by what the check, the reading of the input and the evaluation found.
 -- Rests on specs/Answering and specs/Evaluating, on loaded's Files and Loaded, on rulefile's Tabled and on inputs' Depth.
-use Prim.Native.Nat.{ℕ, _+_, _≤_, _<_}
+use Prim.Native.Nat.{ℕ, _≤_, _<_}
 use mathlib.Core.Path.{_≡_, refl, sym, _∙_, ap, subst}
 use mathlib.Core.List.{List, _++_}
 use mathlib.Core.Option.{Option, none, some}
@@ -18,8 +18,8 @@ use Rattle.reach.specs.Eval as Eval
 use Rattle.reach.specs.Input.{readInput, inputOf}
 use Rattle.reach.specs.Answers.{check, accepted, turnedBack, outcomeOf, runInput, runChecked, runAnswer}
 use Rattle.reach.proofs.Base.{clash}
-use Rattle.reach.proofs.Demands as Reach
-use Rattle.reach.proofs.Limits.{accepted-keeps, within-limit}
+use Rattle.readings.proofs.Demands as Readings
+use Rattle.reach.proofs.Limits.{within-limit}
 use Rattle.inputs.specs.declared.Reading.{Reading}
 use Rattle.inputs.specs.declared.Reading.the-variants as Reading
 use Rattle.inputs.specs.Depth.{inputAt, readingOf}
@@ -75,7 +75,7 @@ module _ {file : List ℕ} {r : Loaded} {p : Program} (checked : check file ≡ 
     -- no value is deeper than 64
     pub deep-small : deep ≤ 64
     deep-small =
-        let (within, same, is) = Reach.depth-exactly file p checked input j deep .0 read in
+        let (within, same, is) = Readings.depth-exactly file p checked input j deep .0 read in
         omega (arith, is, within-limit file p checked j within)
 
     -- too few words

@@ -28,6 +28,7 @@ use Rattle.reach.proofs.Base.{clash, picked}
 use Rattle.reach.proofs.Evaluation.{run-spent}
 use Rattle.reach.proofs.Limits.{within-depth}
 use Rattle.reach.proofs.Demands as Reach
+use Rattle.readings.proofs.Demands as Readings
 use Rattle.reach.proofs.Refusals.{turned-back-by}
 use Rattle.running.specs.Looked.{LookedAt}
 use Rattle.results.specs.declared.RunResult.{RunResult}
@@ -93,10 +94,10 @@ module _ (file input work work′ : List ℕ) (r : RunResult) (call : RunPromise
     means = run-means file input (length work) p checked
 
     read : (j : Parts) (deep : ℕ) → readInput p input ≡ some (j, deep) → IsInput p input j × (deep ≡ depth j)
-    read j deep is = let (within, same, as-deep) = Reach.depth-exactly file p checked input j deep .0 is in ((within, same), as-deep)
+    read j deep is = let (within, same, as-deep) = Readings.depth-exactly file p checked input j deep .0 is in ((within, same), as-deep)
 
     reads-as : (j : Parts) → IsInput p input j → readInput p input ≡ some (j, depth j)
-    reads-as j is = Reach.depth-exactly file p checked input j (depth j) .1 (is .0, is .1, refl)
+    reads-as j is = Readings.depth-exactly file p checked input j (depth j) .1 (is .0, is .1, refl)
 
     -- the bytes are of one input at most
     one-input : (j k : Parts) (deep : ℕ) → readInput p input ≡ some (j, deep) → IsInput p input k → j ≡ k
@@ -145,8 +146,8 @@ module _ (file input work work′ : List ℕ) (r : RunResult) (call : RunPromise
     -- of them is deeper than D.
     pub too-deep-exactly : (j : Parts) → ClosedInput p j → prefix j ≡ input → (r ≡ RunResult.Refused BadInput) ↔ (depthOf (p .depths) < depth j)
     too-deep-exactly j values same = (
-      λ is. Reach.too-deep-exactly file p checked input j values same .0 (unread (runAnswer file input (length work)) means (sym (call .answer-is) ∙ is)),
-      λ deep. bad-exactly .1 (λ k other. absurd (clash (cc (reads-as k other, Reach.too-deep-exactly file p checked input j values same .1 deep)))),
+      λ is. Readings.too-deep-exactly file p checked input j values same .0 (unread (runAnswer file input (length work)) means (sym (call .answer-is) ∙ is)),
+      λ deep. bad-exactly .1 (λ k other. absurd (clash (cc (reads-as k other, Readings.too-deep-exactly file p checked input j values same .1 deep)))),
     )
       where
         unread : (a : RunAnswer) → RunMeans p input (length work) a → runResult a ≡ RunResult.Refused BadInput → readInput p input ≡ none
@@ -259,5 +260,5 @@ module _ (file input work work′ : List ℕ) (r : RunResult) (call : RunPromise
       → (drop (workWords (p .steps)) work′ ≡ drop (workWords (p .steps)) work) × LookedAt p j (p .steps) work′
   run-looked o deep is p j checked input-is = (
     subst (λ (a : RunResult). Unchanged a file work work′) is (call .words-are) p checked,
-    subst (λ (a : RunResult). Leaves a file input work′) is (call .cells-are) p j checked (Reach.input-exactly file p checked input j .1 input-is),
+    subst (λ (a : RunResult). Leaves a file input work′) is (call .cells-are) p j checked (Readings.input-exactly file p checked input j .1 input-is),
   )

@@ -8,7 +8,7 @@ use native.Mathlib.Omega.{arith}
 use lib.ListN.{length, take, drop, length-take, length-drop}
 use Rattle.reach.specs.Limits.{listLimit}
 use Rattle.reach.specs.Lists.{roomOf, onFound, entrySpan, entryPart}
-use Rattle.reach.proofs.ReadBack.{span-inside}
+use Rattle.lists.proofs.ReadBack.{span-inside}
 use Rattle.entries.specs.Spans.{partPlace}
 
 module _ (l : List ℕ) (k : ℕ) where

@@ -3,11 +3,11 @@
 use Prim.Native.Nat.{ℕ, _+_, _-_, _≤_, _<_}
 use mathlib.Core.Path.{_≡_, sym, ap, _∙_}
 use mathlib.Core.List.{List}
-use mathlib.Core.Option.{Option, none, some}
+use mathlib.Core.Option.{none, some}
 use native.Mathlib.Omega.{arith}
 use lib.ListN.{length, take, drop, length-take}
 use Rattle.reach.specs.Lists.{entrySize, entrySpan, entryPart, roomOf}
-use Rattle.reach.proofs.ReadBack.{span-no-entry, span-here, span-next, span-inside, span-counted, part-counted}
+use Rattle.lists.proofs.ReadBack.{span-no-entry, span-here, span-next, span-inside, span-counted, part-counted}
 use Rattle.sizes.specs.declared.Size.{Size}
 use Rattle.sizes.specs.declared.Size.the-variants.{Bytes, NoEntry}
 use Rattle.sizes.specs.Sizes.{sizeOf}

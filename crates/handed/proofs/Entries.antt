@@ -19,11 +19,12 @@ use Rattle.reach.specs.Search.{Entry}
 use Rattle.reach.specs.Lists.{entrySize}
 use Rattle.reach.specs.Reader.{Got, got, refused, onGot}
 use Rattle.reach.specs.Limits.{depthLimit}
-use Rattle.reach.specs.Partial.{inEntries, slotted}
-use Rattle.reach.specs.Handed.{spanning}
+use Rattle.reach.specs.Partial.{slotted}
+use Rattle.lists.specs.Handed.{inEntries}
+use Rattle.lists.specs.Handed.{spanning}
 use Rattle.reach.specs.Places.{wordAt, typeAt, headAt}
-use Rattle.reach.proofs.ReadBack.{size-told}
-use Rattle.reach.proofs.HandedEntry.{headed}
+use Rattle.lists.proofs.ReadBack.{size-told}
+use Rattle.lists.proofs.HandedEntry.{headed}
 use Rattle.rows.specs.declared.Measured.{Measured}
 use Rattle.rows.specs.declared.Measured.the-variants as Measured
 use Rattle.rows.specs.Values.{ofRow, slotsAt}

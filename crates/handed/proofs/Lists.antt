@@ -18,8 +18,8 @@ use Rattle.reach.specs.Types.{sourceSlots, leastDepths}
 use Rattle.reach.specs.Search.{Entry}
 use Rattle.reach.specs.Lists.{onFound, entrySize}
 use Rattle.reach.specs.Reader.{Got, got, refused, onGot}
-use Rattle.reach.specs.Handed.{entry, entriesBy, handed}
-use Rattle.reach.proofs.HandedEntry.{none-read, entry-same}
+use Rattle.lists.specs.Handed.{entry, entriesBy, handed}
+use Rattle.lists.proofs.HandedEntry.{none-read, entry-same}
 use Rattle.handed.specs.Fits.{entryAt, Told, Given}
 
 -- entries were found

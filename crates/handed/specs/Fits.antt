@@ -12,7 +12,7 @@ use Rattle.reach.specs.Search.{Entry}
 use Rattle.reach.specs.Reader.{Got, got, refused, Reader}
 use Rattle.reach.specs.Lists.{onFound}
 use Rattle.reach.specs.Answers.{accepted, check}
-use Rattle.reach.specs.Handed.{entryBy, handed}
+use Rattle.lists.specs.Handed.{entryBy, handed}
 use Rattle.reach.specs.Places.{typeAt, headAt}
 
 -- an entry of a source's list

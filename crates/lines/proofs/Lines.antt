@@ -14,7 +14,7 @@ use Rattle.reach.specs.Words.{numberOf, verdictWord}
 use Rattle.reach.specs.declared.Kind.{Kind}
 use Rattle.reach.specs.declared.Kind.the-variants.{RE, UN, MI}
 use Rattle.reach.specs.Search.{verdictBy}
-use Rattle.reach.specs.Text.{space, lineFeed, spaced, lineFrom, decimal, kindWord, partWord, lineSaying, share, totalLine, refusalLine}
+use Rattle.lists.specs.Text.{space, lineFeed, spaced, lineFrom, decimal, kindWord, partWord, lineSaying, share, totalLine, refusalLine}
 use Rattle.writing.specs.Writing.{Puts}
 use Rattle.writing.proofs.Writing.{puts-none, puts-then, Left, left-next, left-none}
 use Rattle.writing.proofs.Digits.{decimal-few, part-few}

@@ -4,7 +4,7 @@ ghost use mathlib.Core.List.{map};
 ghost use Prim.Native.Nat.{_+_, _*_, _≤_, _<_};
 ghost use lib.ListN.{length, drop};
 ghost use Rattle.reach.specs.Lists.{decoded};
-ghost use Rattle.reach.specs.Text.{spaced, partWord, lineSaying, totalLine, refusalLine, lastLine};
+ghost use Rattle.lists.specs.Text.{spaced, partWord, lineSaying, totalLine, refusalLine, lastLine};
 ghost use Rattle.lines.specs.Counting.{Few};
 ghost use Rattle.writing.specs.Writing.{Puts};
 use reach::Counts;

@@ -1,7 +1,7 @@
 -- What stands in the file, as the steps read it: the bytes of each kind of expression and the places of its parts, the operand of a number and
 -- the alternative of a constructor, behind what is passed over before them.
 -- Rests on specs/Records and specs/Walks, on reach's Encoding, and on codes' Encoding for its laws.
-use Prim.Native.Nat.{ℕ, zero, suc, _+_, _-_, _≤_, _<_}
+use Prim.Native.Nat.{ℕ, zero, suc, _+_, _≤_, _<_}
 use mathlib.Core.Path.{_≡_, refl, subst}
 use mathlib.Core.List.{List, append-nil}
 use mathlib.Core.Option.{some}
@@ -9,7 +9,6 @@ use native.Mathlib.Omega.{arith}
 use lib.ListN.{length, getD, drop}
 use Rattle.reach.specs.Limits.{nestingLimit}
 use Rattle.reach.specs.Syntax.{Expr, variable, call, construct, case, letIn, target, Exprs, []ₑ, _∷ₑ_, nthExpr, Alternatives, no-more, absent, present, Function}
-use Rattle.reach.specs.Reader.{byte}
 use Rattle.reach.specs.RuleFile.{Head, Declarations}
 use Rattle.reach.specs.Encoding.{encode, ByteAt, countAlternatives, nesting}
 use Rattle.reach.specs.Eval.{Env, Frame, State, evaluating, uncovered, choose}

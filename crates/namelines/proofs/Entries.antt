@@ -16,8 +16,8 @@ use Rattle.reach.specs.declared.Kind.the-variants.{RE, UN, MI}
 use Rattle.reach.specs.Search.{Entry}
 use Rattle.reach.specs.Lists.{kindBytes, wordBytes, entryBytes, listBytes, sayingOf, entrySize}
 use Rattle.reach.proofs.Base.{each-member}
-use Rattle.reach.proofs.ReadBack.{size-of-entry}
-use Rattle.reach.proofs.Text.{decoded-from, list-some}
+use Rattle.lists.proofs.ReadBack.{size-of-entry}
+use Rattle.lists.proofs.Text.{decoded-from, list-some}
 use Rattle.writing.specs.Writing.{Puts}
 use Rattle.writing.proofs.Writing.{Left, left-whole, left-next, left-none}
 use Rattle.namelines.specs.Rows.{rowNames, RowStands, rowRead, Legible}

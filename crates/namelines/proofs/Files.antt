@@ -15,7 +15,7 @@ use Rattle.reach.specs.Partial.{Keeps}
 use Rattle.reach.specs.Search.{Entry}
 use Rattle.reach.specs.Names.{Spells, spells}
 use Rattle.reach.specs.Answers.{check, accepted}
-use Rattle.reach.specs.Handed.{Fitting, IsList}
+use Rattle.lists.specs.Handed.{Fitting, IsList}
 use Rattle.reach.specs.Places.{typeAt, headAt}
 use Rattle.reach.proofs.Base.{clash, member-each, each-member}
 use Rattle.reach.proofs.Limits.{Kept, accepted-keeps, accepted-rooms}

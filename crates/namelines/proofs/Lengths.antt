@@ -15,7 +15,7 @@ use Rattle.reach.specs.Parts.{Parts, end, opened, bound, prefix}
 use Rattle.reach.specs.Types.{slots, evenSlots, Typed, leastDepths}
 use Rattle.reach.specs.Names.{Spells}
 use Rattle.reach.specs.Partial.{Keeps}
-use Rattle.reach.specs.Text.{decimal}
+use Rattle.lists.specs.Text.{decimal}
 use Rattle.names.specs.Filling.{Fillable, fill, fillNamed}
 use Rattle.names.specs.Spelling.{spelled}
 use Rattle.names.specs.NameList.{utf8, nameLine, namesIn, nameLines}

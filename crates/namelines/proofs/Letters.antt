@@ -1,6 +1,6 @@
 -- The letters that stand in the bytes of a name are those that it spells once it is filled.
 -- Rests on names' Filling and Names, and on naming's Letters.
-use Prim.Native.Nat.{ℕ, _+_, _<_}
+use Prim.Native.Nat.{ℕ, _<_}
 use mathlib.Core.Path.{_≡_, refl, subst, _∙_}
 use mathlib.Core.Logic.{inl, inr}
 use mathlib.Core.Bool.{false}

@@ -13,10 +13,12 @@ use Rattle.reach.specs.Limits.{depthLimit}
 use Rattle.reach.specs.Syntax.{Types}
 use Rattle.reach.specs.Parts.{Parts, opened, bound, prefix}
 use Rattle.reach.specs.Types.{slots, evenSlots, Typed, leastDepths}
-use Rattle.reach.specs.Partial.{Keeps, deepest, inEntries, deepOf, value}
+use Rattle.reach.specs.Partial.{Keeps, deepest, deepOf, value}
+use Rattle.lists.specs.Handed.{inEntries}
 use Rattle.reach.specs.Places.{bytesAt}
 use Rattle.lookups.proofs.Tables.{bytes-more}
-use Rattle.reach.proofs.Partial.{entries-lawful, one-read, value-same}
+use Rattle.readings.proofs.Partial.{one-read}
+use Rattle.lists.proofs.EntryValues.{entries-lawful, value-same}
 use Rattle.names.specs.NameList.{nameLine, nameLines, namesIn}
 use Rattle.names.specs.Filling.{fill, fillNamed}
 use Rattle.names.specs.Spelling.{spelled}

@@ -1,7 +1,7 @@
 -- A row of an entry, value by value: the lines of its names are that of its first value, if it has the named type, and those of the rest; and the rest stands
 -- behind the first value.
 -- Rests on Rows of specs/, on Letters, on names' Filling and Names, and on reach's Partial and Slots.
-use Prim.Native.Nat.{ℕ, _+_, _≤_, _<_}
+use Prim.Native.Nat.{ℕ, _≤_, _<_}
 use mathlib.Core.Path.{_≡_, refl, sym, ap, subst, _∙_}
 use mathlib.Core.Bool.{Bool, true, false}
 use mathlib.Core.List.{List, [], _∷_, _++_, flatMap, append-assoc, append-nil}
@@ -16,8 +16,10 @@ use Rattle.reach.specs.Syntax.{Types}
 use Rattle.reach.specs.Parts.{Parts, end, opened, bound, prefix}
 use Rattle.reach.specs.Types.{slots, evenSlots, Typed, leastDepths}
 use Rattle.reach.specs.Names.{Spells}
-use Rattle.reach.specs.Partial.{deepest, Keeps, inEntries}
-use Rattle.reach.proofs.Partial.{entries-lawful, slotted-meets}
+use Rattle.reach.specs.Partial.{deepest, Keeps}
+use Rattle.lists.specs.Handed.{inEntries}
+use Rattle.readings.proofs.Partial.{slotted-meets}
+use Rattle.lists.proofs.EntryValues.{entries-lawful}
 use Rattle.reach.proofs.Slots.{even-each, even-types}
 use Rattle.names.specs.Filling.{Fillable, builtBy, fill, isNamed, fillNamed}
 use Rattle.names.specs.Spelling.{spelled}

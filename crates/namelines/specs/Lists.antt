@@ -15,9 +15,9 @@ use Rattle.reach.specs.Partial.{Keeps}
 use Rattle.reach.specs.Search.{Entry}
 use Rattle.reach.specs.Lists.{listBytes, Decoded, decodedFrom}
 use Rattle.reach.specs.Answers.{check, accepted}
-use Rattle.reach.specs.Handed.{IsList}
+use Rattle.lists.specs.Handed.{IsList}
 use Rattle.reach.specs.Places.{typeAt}
-use Rattle.reach.specs.Text.{refusalLine}
+use Rattle.lists.specs.Text.{refusalLine}
 use Rattle.names.specs.Filling.{Fillable}
 use Rattle.names.specs.NameList.{entryNames}
 use Rattle.writing.specs.Writing.{Puts, Fronts}

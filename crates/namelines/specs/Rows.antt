@@ -10,7 +10,8 @@ use Rattle.reach.specs.Parts.{Parts, end, prefix}
 use Rattle.reach.specs.Types.{evenSlots, Typed, leastDepths}
 use Rattle.reach.specs.Names.{Spells}
 use Rattle.reach.specs.Reader.{onGot}
-use Rattle.reach.specs.Partial.{Keeps, OpenApart, inEntries, slotted}
+use Rattle.reach.specs.Partial.{Keeps, OpenApart, slotted}
+use Rattle.lists.specs.Handed.{inEntries}
 use Rattle.reach.specs.Places.{bytesAt, typeAt}
 use Rattle.names.specs.Filling.{Fillable, fillNamed}
 use Rattle.names.specs.NameList.{namesIn, nameLines}

@@ -2,20 +2,19 @@
 -- Rests on names' NameList, on namelines' Files, on reporting's Reports and on reach's Handed.
 use Prim.Native.Nat.{ℕ, _≤_}
 use native.Mathlib.Omega.{arith}
-use mathlib.Core.Path.{_≡_, refl, sym, ap, subst, _∙_}
+use mathlib.Core.Path.{_≡_, refl, sym, ap, subst}
 use mathlib.Core.Bool.{Bool, true, false}
 use mathlib.Core.List.{List, [], _++_, flatMap}
 use lib.ListN.{length, take, length-take, length-append}
 use Rattle.reach.specs.declared.Refusal.the-variants.{ListFull}
 use Rattle.reach.specs.Base.{pick}
 use Rattle.reach.specs.Syntax.{Program}
-use Rattle.reach.specs.Lists.{listBytes}
 use Rattle.reach.specs.Answers.{Checked, accepted, turnedBack, check, SearchAnswer, complete, cutShort, searchAnswer, listed, refusalOf}
-use Rattle.reach.specs.Text.{refusalLine}
-use Rattle.reach.specs.Handed.{IsList}
+use Rattle.lists.specs.Text.{refusalLine}
+use Rattle.lists.specs.Handed.{IsList}
 use Rattle.reach.proofs.Base.{clash}
 use Rattle.reach.proofs.Answers.{search-turned-back}
-use Rattle.reach.proofs.Handed.{listed-handed}
+use Rattle.lists.proofs.Handed.{listed-handed}
 use Rattle.names.specs.NameList.{entryNames, refusalEnd, namesBy, namesText}
 use Rattle.printing.specs.Bound.{textBound}
 use Rattle.printing.proofs.Lengths.{refusal-short}

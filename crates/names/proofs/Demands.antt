@@ -23,14 +23,14 @@ use Rattle.reach.specs.Eval.{run}
 use Rattle.reach.specs.Search.{Entry, says}
 use Rattle.reach.specs.Names.{Spells}
 use Rattle.reach.specs.Answers.{Checked, check, accepted, turnedBack, noSearch, complete, cutShort, searchAnswer, listed, refusalOf}
-use Rattle.reach.specs.Text.{lineFeed, spaced, lineFrom, digitsBy, decimal, refusalLine}
+use Rattle.lists.specs.Text.{lineFeed, spaced, lineFrom, digitsBy, decimal, refusalLine}
 use Rattle.reach.proofs.Base.{each-member}
 use Rattle.reach.proofs.Answers.{search-turned-back, listed-in}
 use Rattle.reach.proofs.Limits.{accepted-keeps, accepted-even, accepted-rooms}
 use Rattle.reach.proofs.Slots.{even-each, source-types}
 use Rattle.reach.proofs.WellTyped.{accepted-typed}
 use Rattle.reach.proofs.Spelling.{spells-form}
-use Rattle.reach.proofs.Handed.{listed-handed}
+use Rattle.lists.proofs.Handed.{listed-handed}
 use Rattle.names.specs.Filling.{firstOf, firstLeast, builtBy, eachOf, leastRow, fill, Fillable, isNamed, fillNamed}
 use Rattle.names.specs.Spelling.{spelled, nameOf}
 use Rattle.names.specs.NameList.{utf8, nameLine, filled, namesIn, nameLines, entryNames, refusalEnd, namesBy, namesText}

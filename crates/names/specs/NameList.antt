@@ -13,7 +13,7 @@ use Rattle.reach.specs.Parts.{Parts, end, opened, bound}
 use Rattle.reach.specs.Types.{leastDepths}
 use Rattle.reach.specs.Search.{Entry}
 use Rattle.reach.specs.Lists.{onFound}
-use Rattle.reach.specs.Text.{lineFeed, lineFrom, decimal, refusalLine}
+use Rattle.lists.specs.Text.{lineFeed, lineFrom, decimal, refusalLine}
 use Rattle.names.specs.Spelling.{spelled}
 use Rattle.names.specs.Filling.{isNamed, fillNamed}
 use Rattle.reach.specs.Answers.{Checked, accepted, turnedBack, check, SearchAnswer, searchAnswer, listed, refusalOf}

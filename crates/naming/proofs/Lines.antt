@@ -9,7 +9,7 @@ use lib.ListN.{length, drop, length-append, length-drop}
 use lib.Dec.{ltb}
 use borrow.Author.Tests.{lt-ltb, le-ltb}
 use Rattle.reach.specs.Base.{pick, Each}
-use Rattle.reach.specs.Text.{space, lineFeed, spaced, lineFrom, decimal}
+use Rattle.lists.specs.Text.{space, lineFeed, spaced, lineFrom, decimal}
 use Rattle.names.specs.NameList.{utf8, nameLine}
 use Rattle.writing.specs.Writing.{Puts}
 use Rattle.writing.proofs.Writing.{puts-none, puts-then, Left, left-next, left-none}

@@ -4,7 +4,7 @@ ghost use mathlib.Core.Path.{_≡_};
 ghost use mathlib.Core.List.{map, flatMap};
 ghost use Prim.Native.Nat.{_≤_, _<_};
 ghost use lib.ListN.{length, drop};
-ghost use Rattle.reach.specs.Text.{spaced, decimal};
+ghost use Rattle.lists.specs.Text.{spaced, decimal};
 ghost use Rattle.names.specs.NameList.{utf8, nameLine};
 ghost use Rattle.writing.specs.Writing.{Puts};
 ghost use Rattle.naming.specs.Letters.{half, letters, Spelt, letterHere, letterAt};

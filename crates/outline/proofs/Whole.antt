@@ -12,7 +12,7 @@ use Rattle.reach.specs.Syntax.{Types}
 use Rattle.reach.specs.Reader.{Got, got, refused, onGot, Reader, _>>=_, _>>_, give, refuse, byte, atEnd}
 use Rattle.reach.specs.RuleFile.{Mark, TY, sameMark, inTurn, mark, typeRecord, moreTypes, Head, functionRecord, moreFunctions, goalMark, nameRecord, naming, Goal, goalRecord, Outline, outline}
 use Rattle.reach.specs.Places.{goalAt}
-use Rattle.reach.proofs.Partial.{then-same}
+use Rattle.reach.proofs.Reading.{then-same}
 use Rattle.reach.proofs.Places.{goal-read}
 use Rattle.typerecord.specs.declared.Passed.{Passed}
 use Rattle.typerecord.specs.Passed.{passedOf}

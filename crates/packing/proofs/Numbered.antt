@@ -6,8 +6,8 @@ use Rattle.reach.specs.declared.Refusal.the-variants.{ListFull}
 use Rattle.reach.specs.declared.Outcome.{Outcome}
 use Rattle.reach.specs.declared.Verdict.{Verdict}
 use Rattle.reach.specs.Words.{numberOf, stepsOf}
-use Rattle.reach.specs.Answers.{Checked, accepted, turnedBack, SearchAnswer, noSearch, complete, cutShort, RunAnswer, noRun, ran}
-use Rattle.reach.specs.Printouts.{TextAnswer, noText, ofLength}
+use Rattle.reach.specs.Answers.{accepted, turnedBack, noSearch, complete, cutShort, noRun, ran}
+use Rattle.lists.specs.Printouts.{noText, ofLength}
 use Rattle.reach.proofs.Base.{clash}
 use Rattle.results.specs.declared.CheckResult.the-variants as CheckResult
 use Rattle.results.specs.declared.SearchResult.{SearchResult}

@@ -1,5 +1,5 @@
 -- The part of a list that the number for an entry says. Rests on specs/Packing and on reach's ReadBack.
-use Prim.Native.Nat.{ℕ, _+_, _≤_}
+use Prim.Native.Nat.{ℕ, _≤_}
 use native.Mathlib.Omega.{arith}
 use mathlib.Core.Path.{_≡_, refl, sym, ap, _∙_}
 use mathlib.Core.List.{List}
@@ -7,7 +7,7 @@ use mathlib.Core.Option.{Option, none, some}
 use lib.ListN.{length, take, length-take}
 use Rattle.reach.specs.Limits.{listLimit}
 use Rattle.reach.specs.Lists.{roomOf, entrySpan}
-use Rattle.reach.proofs.ReadBack.{span-counted, part-counted, span-inside}
+use Rattle.lists.proofs.ReadBack.{span-counted, part-counted, span-inside}
 use Rattle.packing.specs.Packing.{spanNumber, spanEnd, partNumber, PartAt}
 
 -- the end of the bytes that count

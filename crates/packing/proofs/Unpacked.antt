@@ -18,7 +18,7 @@ use Rattle.reach.specs.Limits.{listLimit}
 use Rattle.reach.specs.Search.{verdict}
 use Rattle.reach.specs.Lists.{listBytes, roomOf, onFound, entrySpan, entryPart}
 use Rattle.reach.specs.Answers.{Checked, accepted, turnedBack, SearchAnswer, noSearch, complete, cutShort, listed, refusalOf, verdictOf, RunAnswer, noRun, ran}
-use Rattle.reach.specs.Printouts.{TextAnswer, noText, ofLength}
+use Rattle.lists.specs.Printouts.{TextAnswer, noText, ofLength}
 use Rattle.reach.proofs.Words.{refusal-named, number-byte}
 use Rattle.entries.specs.Spans.{partPlace}
 use Rattle.entries.proofs.Demands.{found-within}

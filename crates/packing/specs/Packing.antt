@@ -17,7 +17,7 @@ use Rattle.reach.specs.Limits.{listLimit}
 use Rattle.reach.specs.Search.{verdict}
 use Rattle.reach.specs.Lists.{listBytes, roomOf, onFound, entrySpan, entryPart}
 use Rattle.reach.specs.Answers.{Checked, accepted, turnedBack, SearchAnswer, noSearch, complete, cutShort, RunAnswer, noRun, ran}
-use Rattle.reach.specs.Printouts.{TextAnswer, noText, ofLength}
+use Rattle.lists.specs.Printouts.{TextAnswer, noText, ofLength}
 
 -- the number of a verdict
 abbrev pub verdictNumber : Verdict → ℕ

@@ -13,7 +13,7 @@ use Rattle.reach.specs.declared.Verdict.the-variants.{Found, Undecided, None}
 use Rattle.reach.specs.Words.{refusalNamed}
 use Rattle.reach.specs.Lists.{listBytes}
 use Rattle.reach.specs.Answers.{Checked, accepted, turnedBack, SearchAnswer, listed, refusalOf, verdictOf, RunAnswer, noRun, ran}
-use Rattle.reach.specs.Printouts.{TextAnswer, noText, ofLength}
+use Rattle.lists.specs.Printouts.{TextAnswer, noText, ofLength}
 
 -- The parts of a number.
 

@@ -1,7 +1,7 @@
 -- What the functions of this crate write: the six words of a choice point, and the two of a cell that is open again.
 -- Rests on specs/Points.
 use Prim.Native.Nat.{ℕ, _+_, _*_, _≤_, _<_}
-use mathlib.Core.Path.{_≡_, refl, _∙_}
+use mathlib.Core.Path.{_≡_, _∙_}
 use mathlib.Core.List.{List}
 use native.Mathlib.Omega.{arith}
 use lib.ListN.{length, getD, set, length-set}

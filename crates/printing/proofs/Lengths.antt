@@ -20,8 +20,8 @@ use Rattle.reach.specs.declared.Kind.{Kind}
 use Rattle.reach.specs.declared.Counts.{Counts}
 use Rattle.reach.specs.Lists.{onFound, kindAt, entrySize, Decoded, decoded, decodedFrom}
 use Rattle.reach.specs.Search.{oneMore, countFrom, counts, verdictBy}
-use Rattle.reach.specs.Text.{spaced, lineFrom, decimal, kindWord, partWord, lineSaying, share, totalLine, refusalLine, lastLine, textOf, listText}
-use Rattle.reach.proofs.ReadBack.{size-inside}
+use Rattle.lists.specs.Text.{spaced, lineFrom, decimal, kindWord, partWord, lineSaying, share, totalLine, refusalLine, lastLine, textOf, listText}
+use Rattle.lists.proofs.ReadBack.{size-inside}
 use Rattle.writing.proofs.Digits.{digits-three, digits-five, digits-eight}
 use Rattle.reach.proofs.Words.{number-byte}
 use Rattle.words.proofs.Share.{share-most}

@@ -16,9 +16,9 @@ use Rattle.reach.specs.declared.Kind.the-variants.{RE, UN, MI}
 use Rattle.reach.specs.Search.{oneMore, countFrom, counts}
 use Rattle.reach.specs.Limits.{listLimit}
 use Rattle.reach.specs.Lists.{knownMark, kindAt, entrySize, roomOf, Decoded, decoded, decodedFrom}
-use Rattle.reach.specs.Text.{lineSaying, lastLine, textOf, listText}
+use Rattle.lists.specs.Text.{lineSaying, lastLine, textOf, listText}
 use Rattle.reach.proofs.Base.{picked}
-use Rattle.reach.proofs.ReadBack.{counted}
+use Rattle.lists.proofs.ReadBack.{counted}
 use Rattle.sizes.specs.declared.Size.{Size}
 use Rattle.sizes.specs.declared.Size.the-variants.{Bytes, NoEntry}
 use Rattle.sizes.specs.Sizes.{sizeOf}

@@ -4,7 +4,7 @@ ghost use Prim.Native.Nat.{_≤_};
 ghost use lib.ListN.{length};
 ghost use Rattle.reach.specs.Search.{oneMore};
 ghost use Rattle.reach.specs.Lists.{decodedFrom};
-ghost use Rattle.reach.specs.Text.{refusalLine, textOf, listText};
+ghost use Rattle.lists.specs.Text.{refusalLine, textOf, listText};
 ghost use Rattle.lines.specs.Counting.{Few};
 ghost use Rattle.writing.specs.Writing.{Fronts, Puts};
 use entries::room;

@@ -16,12 +16,12 @@ use Rattle.reach.specs.Syntax.{Program}
 use Rattle.reach.specs.Search.{Entry}
 use Rattle.reach.specs.Lists.{onFound, sayingOf}
 use Rattle.reach.specs.Answers as Answers
-use Rattle.reach.specs.Text.{textOf, listText}
-use Rattle.reach.specs.Handed.{handed}
-use Rattle.reach.specs.Printouts.{Printout, noPrintout, printout, printoutChecked, printoutOf, lengthAnswer, writeAnswer, textSlice}
+use Rattle.lists.specs.Text.{textOf, listText}
+use Rattle.lists.specs.Handed.{handed}
+use Rattle.lists.specs.Printouts.{Printout, noPrintout, printout, printoutChecked, printoutOf, lengthAnswer, writeAnswer, textSlice}
 use Rattle.reach.proofs.Base.{clash}
-use Rattle.reach.proofs.Handed.{handed-exactly, handed-text}
-use Rattle.reach.proofs.Printouts.{printout-bytes}
+use Rattle.lists.proofs.Handed.{handed-exactly, handed-text}
+use Rattle.lists.proofs.Printouts.{printout-bytes}
 use Rattle.results.specs.declared.CheckResult.{CheckResult}
 use Rattle.results.specs.declared.CheckResult.the-variants as CheckResult
 use Rattle.rulefile.specs.declared.Loaded.{Loaded}

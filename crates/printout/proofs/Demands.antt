@@ -18,11 +18,11 @@ use Rattle.reach.specs.Syntax.{Program}
 use Rattle.reach.specs.Search.{Entry, kindsOf, counts}
 use Rattle.reach.specs.Lists.{listBytes, sayingOf}
 use Rattle.reach.specs.Answers.{check, accepted, turnedBack, SearchAnswer, noSearch, searchAnswer, listed}
-use Rattle.reach.specs.Text.{lineSaying, lastLine, textOf, text}
-use Rattle.reach.specs.Handed.{IsList}
-use Rattle.reach.specs.Printouts.{wasCut, Printout, printout, printoutOf, TextAnswer, noText, ofLength, lengthAnswer, writeAnswer, textSlice}
+use Rattle.lists.specs.Text.{lineSaying, lastLine, textOf, text}
+use Rattle.lists.specs.Handed.{IsList}
+use Rattle.lists.specs.Printouts.{wasCut, Printout, printout, printoutOf, TextAnswer, noText, ofLength, lengthAnswer, writeAnswer, textSlice}
 use Rattle.reach.proofs.Base.{clash}
-use Rattle.reach.proofs.Printouts.{refused-exactly, printed-exactly, printout-bytes, length-refuses, length-measures, write-refuses, write-measures, slice-text, slice-kept, text-counts, printout-searched}
+use Rattle.lists.proofs.Printouts.{refused-exactly, printed-exactly, printout-bytes, length-refuses, length-measures, write-refuses, write-measures, slice-text, slice-kept, text-counts, printout-searched}
 use Rattle.printing.specs.Bound.{textBound}
 use Rattle.printing.proofs.Lengths.{text-short}
 use Rattle.results.specs.declared.TextResult.{TextResult}

@@ -8,8 +8,8 @@ use lib.ListN.{length}
 use Rattle.reach.specs.declared.Refusal.the-variants.{BadList}
 use Rattle.reach.specs.Lists.{onFound}
 use Rattle.reach.specs.Answers as Answers
-use Rattle.reach.specs.Handed.{handed}
-use Rattle.reach.specs.Printouts.{printoutOf, lengthAnswer, writeAnswer, textSlice}
+use Rattle.lists.specs.Handed.{handed}
+use Rattle.lists.specs.Printouts.{printoutOf, lengthAnswer, writeAnswer, textSlice}
 use Rattle.results.specs.declared.CheckResult.{CheckResult}
 use Rattle.results.specs.declared.CheckResult.the-variants.{Accepted, Refused}
 use Rattle.results.specs.declared.TextResult.{TextResult}

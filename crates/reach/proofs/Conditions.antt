@@ -18,7 +18,7 @@ use Rattle.reach.specs.Base.{_∈_}
 use Rattle.reach.specs.Words.{numberOf}
 use Rattle.reach.specs.Limits.{fileLimit, parameterLimit}
 use Rattle.reach.specs.Syntax.{Expr, Types, Function, Program, functionAt, parametersOf, sourceTypes}
-use Rattle.reach.specs.Parts.{Parts, depth}
+use Rattle.reach.specs.Parts.{Parts}
 use Rattle.reach.specs.Types.{Slot, slots, evenSlots, sourceSlots, depthOf, ValueOf, LeastDepth, leastDepths, shallow, roomy}
 use Rattle.reach.specs.Names.{Spells, spells}
 use Rattle.reach.specs.Reader.{Got, got, refused, onGot}

@@ -2,43 +2,34 @@
 -- theorem answers stands above it, and its statement uses definitions of specs/ only.
 -- `check file ≡ accepted p` says that the file is accepted and p is its program; `searchAnswer file work list` is the search's answer,
 -- with a work slice and a list slice of those lengths.
+-- Those about closed inputs in bytes stand in Demands of crate readings, those about lists that are handed in and about texts in Demands of crate lists.
 -- Rests on the other files of this folder.
-use Prim.Native.Nat.{ℕ, suc, _+_, _≤_, _<_}
+use Prim.Native.Nat.{ℕ, suc, _≤_, _<_}
 use mathlib.Core.Path.{_≡_, refl, subst}
 use mathlib.Core.Logic.{_↔_, _≢_}
 use mathlib.Core.List.{List, _∷_, [], _++_}
 use mathlib.Core.Option.{none, some}
-use lib.ListN.{length, getD, getElem?, drop, replicate}
-use Rattle.reach.specs.declared.Refusal.{Refusal}
+use lib.ListN.{length, getD, getElem?, replicate}
 use Rattle.reach.specs.declared.Refusal.the-variants.{WorkTooShort}
 use Rattle.reach.specs.declared.Verdict.the-variants.{None}
 use Rattle.reach.specs.Base.{_∈_}
 use Rattle.reach.specs.Limits.{typeLimit, parameterLimit, depthLimit, workWords}
 use Rattle.reach.specs.Syntax.{Types, Program}
-use Rattle.reach.specs.Parts.{Parts, end, bound, Place, openAt, BoundPart, Completes, depth, prefix}
-use Rattle.reach.specs.Types.{sourceSlots, depthOf, ClosedInput, WithinDepth, ValueOf, LeastDepth, rounds, leastDepths}
+use Rattle.reach.specs.Parts.{Parts, Place, openAt, BoundPart, Completes, prefix}
+use Rattle.reach.specs.Types.{depthOf, ClosedInput, WithinDepth, ValueOf, LeastDepth, rounds, leastDepths}
 use Rattle.reach.specs.Eval.{missing, halted, run, Spent, NotHalted}
 use Rattle.reach.specs.Search.{Entry, says, Shown, StopsInside, entries}
 use Rattle.reach.specs.States.{MissingAfter}
 use Rattle.reach.specs.Moves.{Walk, move, owedMoves, finished}
-use Rattle.reach.specs.Reader.{got}
-use Rattle.reach.specs.Partial.{built, inInputs, value}
-use Rattle.reach.specs.Input.{inputBy, readInput, inputOf}
 use Rattle.reach.specs.Lists.{listBytes, roomOf}
-use Rattle.reach.specs.Answers.{accepted, check, SearchAnswer, noSearch, complete, cutShort, searchAnswer, listed, refusalOf, verdictOf}
-use Rattle.reach.specs.Text.{text}
-use Rattle.reach.specs.Handed.{IsList, handed}
-use Rattle.reach.specs.Printouts.{wasCut, printout, printoutOf}
+use Rattle.reach.specs.Answers.{accepted, check, noSearch, complete, cutShort, searchAnswer, listed, refusalOf, verdictOf}
 use Rattle.reach.proofs.LeastDepths as LeastDepths
 use Rattle.reach.proofs.Evaluation.{run-spent, run-ends}
 use Rattle.reach.proofs.Missing as Missing
 use Rattle.reach.proofs.Moves as Moves
 use Rattle.reach.proofs.Limits.{accepted-keeps}
 use Rattle.reach.proofs.EntryLength.{entry-within}
-use Rattle.reach.proofs.ClosedInputs as ClosedInputs
 use Rattle.reach.proofs.Answers.{Means, search-means, listed-in, complete-is, short-work}
-use Rattle.reach.proofs.Handed as Handed
-use Rattle.reach.proofs.Printouts as Printouts
 use Rattle.reach.proofs.Accepted.{entries-true, entries-cover, entries-apart, entries-reopen, entries-inhabited, none-answer}
 
 -- Demand 2: "Every listed entry is true: each closed input that completes it within the depth ends as the entry says, reached or unfinished,
@@ -121,41 +112,10 @@ least-depth-values types t = (
   λ l. LeastDepths.rounds-enough types typeLimit l,
 )
 
--- 01, "Turned back", refusal 10: "the bytes are not one closed, fitting value per parameter". Bytes are read as an input exactly where they
--- are the prefix form of a closed input within the depth, and then as that input.
-pub input-exactly : (file : List ℕ) (p : Program) → check file ≡ accepted p
-    → (bytes : List ℕ) (j : Parts) → (inputOf p bytes ≡ some j) ↔ (WithinDepth p j × (prefix j ≡ bytes))
-input-exactly file p h bytes j = ClosedInputs.input-exactly file p h bytes j
-
--- 02, Slip 3: "Reading one parameter's value now also yields its depth". Where a closed value of type t stands in the bytes, no deeper than 64, it is read,
--- with its depth and the place behind it.
-pub value-depth : (file : List ℕ) (p : Program) → check file ≡ accepted p
-    → (bytes : List ℕ) (i t c : ℕ) (fields : Parts) (rest : List ℕ) → ValueOf (p .types) t (bound c fields end) → depth (bound c fields end) ≤ depthLimit
-    → drop i bytes ≡ prefix (bound c fields end) ++ rest
-    → value (p .types) inInputs depthLimit t bytes i ≡ got (built c fields (depth (bound c fields end))) (i + length (prefix (bound c fields end)))
-value-depth file p h bytes i t c fields rest is shallow there = ClosedInputs.value-depth file p h bytes i t c fields rest is shallow there
-
--- The same: "and the closed run returns the largest of them, 0 without parameters." Bytes are read as an input, and this deep, exactly if they are the
--- prefix form of a closed input within the depth and that is its depth.
-pub depth-exactly : (file : List ℕ) (p : Program) → check file ≡ accepted p
-    → (bytes : List ℕ) (j : Parts) (d : ℕ) → (readInput p bytes ≡ some (j, d)) ↔ (WithinDepth p j × (prefix j ≡ bytes) × (d ≡ depth j))
-depth-exactly file p h bytes j d = ClosedInputs.read-exactly file p h bytes (j, d)
-
--- The same: "the closed run and the check for refusal 10 rely on the new figure". Bytes of closed values of the parameters' types are an input exactly if
--- the depth of the deepest is at most D.
-pub too-deep-exactly : (file : List ℕ) (p : Program) → check file ≡ accepted p
-    → (bytes : List ℕ) (j : Parts) → ClosedInput p j → prefix j ≡ bytes → (readInput p bytes ≡ none) ↔ (depthOf (p .depths) < depth j)
-too-deep-exactly file p h bytes j values same = ClosedInputs.too-deep-exactly file p h bytes j values same
-
 -- The D of an accepted file: its depths are one number eight times, from 1 to 64.
 pub one-depth : (file : List ℕ) (p : Program) → check file ≡ accepted p
     → (p .depths ≡ replicate parameterLimit (depthOf (p .depths))) × (1 ≤ depthOf (p .depths)) × (depthOf (p .depths) ≤ depthLimit)
 one-depth file p h = let kept = accepted-keeps file p h in (kept .depths-alike, kept .depth-limit .0, kept .depth-limit .1)
-
--- That values are read below 64 constructors only, the largest D, changes no answer.
-pub bound-changes-nothing : (file : List ℕ) (p : Program) → check file ≡ accepted p
-    → (levels : ℕ) → depthLimit ≤ levels → (bytes : List ℕ) → inputBy levels (p .types) (sourceSlots p) bytes ≡ readInput p bytes
-bound-changes-nothing file p h levels enough bytes = ClosedInputs.bound-changes-nothing file p h levels enough bytes
 
 -- 01, "Turned back", refusal 11: "the work slice of 32-bit words is shorter than 64 × S + 1,024".
 pub work-exactly : (file : List ℕ) (work list : ℕ) (p : Program) → check file ≡ accepted p
@@ -169,19 +129,3 @@ pub full-prefix : (file : List ℕ) (work list : ℕ) (p : Program) → check fi
     → (next : Entry) × (rest : List Entry) × (entries p ≡ es ++ (next ∷ rest)) × (length (listBytes es) ≤ roomOf list)
     × (roomOf list < length (listBytes (es ++ (next ∷ []))))
 full-prefix file work list p h es a = (subst (Means p work list) a (search-means file work list p h)) .1
-
--- 02, Slip 2, refusal 14: a list of "whole entries of known kinds, with parameters of the rule file's types and depths (an open part is as deep as its type's
--- least depth) and at most S steps". Bytes are read as entries exactly where they are the bytes of these entries, and each of them fits.
-pub list-exactly : (file : List ℕ) (p : Program) → check file ≡ accepted p
-    → (list : List ℕ) → ((i : ℕ) → getD list i 0 < 256) → (es : List Entry) → (handed p list ≡ some es) ↔ IsList p list es
-list-exactly file p h list bytes es = Handed.handed-exactly file p h list bytes es
-
--- 02, Slip 2: every list that a search wrote, complete or cut short, is one, and its printed text is that of the search's answer
-pub searched-list : (file : List ℕ) (work list : ℕ) (p : Program) → check file ≡ accepted p
-    → IsList p (listBytes (listed (searchAnswer file work list))) (listed (searchAnswer file work list))
-searched-list file work list p h = Handed.listed-handed file p h work list
-
-pub searched-printout : (file : List ℕ) (work list : ℕ) (p : Program) → check file ≡ accepted p
-    → (a : SearchAnswer) → searchAnswer file work list ≡ a → ((why : Refusal) → a ≢ noSearch why)
-    → printoutOf file (listBytes (listed a)) (wasCut a) ≡ printout (text a)
-searched-printout file work list p h a is ran = Printouts.printout-searched file work list p h a is ran

@@ -10,7 +10,7 @@ use mathlib.Core.Logic.{_↔_, ⊎-elim}
 use lib.ListN.{length, getD, getElem?}
 use native.Mathlib.Omega.{arith}
 use Rattle.reach.specs.Base.{_∈_, Each}
-use Rattle.reach.specs.Syntax.{Types, Program, fieldTypes, sourceTypes}
+use Rattle.reach.specs.Syntax.{Types, fieldTypes}
 use Rattle.reach.specs.Parts.{Parts, end, opened, bound, width, allOpen, Place, here, after, inside, There}
 use Rattle.reach.specs.Parts.{free, has, at, bindAt, Closed, depth, _⊑_, ⊑-end, ⊑-open, ⊑-bind, ⊑-same}
 use Rattle.reach.specs.Types.{Typed, Slot, slots, evenSlots, slotTypes, slotAt, Fits, leastDepths, shallow, roomy, Fork, forksFrom, forks, forksAt}

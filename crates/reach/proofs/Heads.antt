@@ -5,9 +5,9 @@ use mathlib.Core.Path.{_≡_, refl, subst}
 use mathlib.Core.List.{List, [], _∷_}
 use mathlib.Core.Option.{some}
 use lib.ListN.{getElem?}
-use Rattle.reach.specs.Syntax.{Expr, Function}
+use Rattle.reach.specs.Syntax.{Function}
 use Rattle.reach.specs.Reader.{Got, got, refused, onGot}
-use Rattle.reach.specs.RuleFile.{Head, Declarations, Outline, outline, bodyOf, functionsOf}
+use Rattle.reach.specs.RuleFile.{Head, Declarations, bodyOf, functionsOf}
 use Rattle.reach.proofs.Base.{clash}
 use Rattle.reach.proofs.Limits.{IfFound, if-found-then}
 

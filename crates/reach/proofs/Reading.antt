@@ -11,7 +11,7 @@ use lib.Seq.{drop-cons}
 use lib.Dec.{ltb}
 use borrow.Author.Tests.{ltb-true, lt-ltb}
 use Rattle.reach.specs.declared.Refusal.{Refusal}
-use Rattle.reach.specs.Reader.{Got, got, refused, Reader, orRefuse, demand, byte}
+use Rattle.reach.specs.Reader.{Got, got, refused, onGot, Reader, orRefuse, demand, byte}
 use Rattle.reach.proofs.Base.{picked}
 use Rattle.reach.proofs.Limits.{IfFound}
 
@@ -61,3 +61,9 @@ byte-there s i c rest e =
     let more : i < length s = omega (arith, ap length e, length-drop i s) in
     let first = drop-cons s i 0 more in
     (rw (lt-ltb i (length s) more) (cc), cc)
+
+-- What is found is made into the same by functions that agree on it.
+
+pub then-same : {A B : Type 0} (g : Got A) (f h : A → ℕ → Got B) → ((a : A) (k : ℕ) → f a k ≡ h a k) → onGot {B = Got B} f (λ why. refused why) g ≡ onGot {B = Got B} h (λ why. refused why) g
+then-same (got a k) f h same = same a k
+then-same (refused why) f h same = refl

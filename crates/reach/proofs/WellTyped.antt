@@ -11,7 +11,7 @@ use lib.Dec.{ltb, leb, eqb}
 use borrow.Author.Tests.{ltb-true, eqb-true}
 use native.Mathlib.Omega.{arith}
 use native.Mathlib.Nat.{not-suc-le-zero, le-of-suc-le-suc}
-use Rattle.reach.specs.Typing.{Signature, Exists, HasType, HaveTypes, Covers, signatureOf, signatures, FunctionTyped, WellTyped}
+use Rattle.reach.specs.Typing.{Signature, Exists, HasType, HaveTypes, Covers, signatureOf, FunctionTyped, WellTyped}
 use Rattle.reach.specs.declared.Refusal.{Refusal}
 use Rattle.reach.specs.declared.Refusal.the-variants.{OutOfRange, UnknownNumber, UnknownCode, TypeMismatch, TrailingBytes, EmptyType, DepthTooSmall, BadSpelling}
 use Rattle.reach.specs.Base.{pick, Each}

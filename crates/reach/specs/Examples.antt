@@ -1,15 +1,14 @@
 -- The starred examples of 01 as one table. The checker computes each row from the bytes of P, with its label, D and S changed, and finds what
 -- stands beside it: the lines of the list and the verdict, or the end of a closed run. A second table has what P cannot show, missing
--- alternatives, a third buffers that are just long enough and one too short, a fourth what `reachlist` prints, and a fifth lists that are handed in with their
--- rule file, by 02, Slip 2.
+-- alternatives, a third buffers that are just long enough and one too short, and a fourth how deep inputs are. What is printed, and lists that are handed in,
+-- stand in Examples of crate lists.
 -- Rests on the definitions alone.
 use Prim.Native.Nat.{ℕ, _+_, _*_}
 use mathlib.Core.Path.{_≡_, refl}
-use mathlib.Core.Bool.{Bool, true, false}
 use mathlib.Core.List
 use mathlib.Core.List.{List, [], _∷_, _++_, map}
 use mathlib.Core.Option.{Option, none, some, Option·map}
-use Rattle.reach.specs.declared.Refusal.the-variants.{BadInput, Truncated, WorkTooShort, TextTooShort, BadList}
+use Rattle.reach.specs.declared.Refusal.the-variants.{BadInput, WorkTooShort}
 use Rattle.reach.specs.declared.Kind.{Kind}
 use Rattle.reach.specs.declared.Kind.the-variants.{RE, UN, MI}
 use Rattle.reach.specs.declared.Verdict.{Verdict}
@@ -29,12 +28,7 @@ use Rattle.reach.specs.Input
 use Rattle.reach.specs.Lists
 use Rattle.reach.specs.Lists.{listBytes}
 use Rattle.reach.specs.Answers
-use Rattle.reach.specs.Text
-use Rattle.reach.specs.Text.{decimal, share, text}
 use Rattle.reach.specs.Partial
-use Rattle.reach.specs.Handed
-use Rattle.reach.specs.Printouts
-use Rattle.reach.specs.Printouts.{TextAnswer, noText, ofLength, printoutOf, lengthAnswer, writeAnswer}
 use Rattle.reach.specs.Answers.{RunAnswer, noRun, ran, searchAnswer, listed, refusalOf, verdictOf, runAnswer}
 
 -- P with this label, D and S; P itself has 7, 4 and 20. (S is below 256.)
@@ -50,16 +44,12 @@ Line = Kind × ℕ × List ℕ
 abbrev pub shown : Entry → Line
 shown e = (e .kind, e .steps, prefix (e .input))
 
--- What a row asks: the search of a file, the bytes of its list, its printed text, or the closed run of a file on an input; and, where the buffers are not those
--- of `reachlist`, with which. Or the length of the text of a list that is handed in with its file, and whether its search ended in 12; or what the writer
--- answers, with a text slice of so many bytes.
+-- What a row asks: the search of a file, the bytes of its list, or the closed run of a file on an input; and, where the buffers are not those of `reachlist`,
+-- with which.
 pub data Asked : Type 0 where
   search-of : List ℕ → Asked
   bytes-of : List ℕ → Asked
-  text-of : List ℕ → Asked
   run-of : List ℕ → List ℕ → Asked
-  length-of : List ℕ → List ℕ → Bool → Asked
-  write-of : List ℕ → List ℕ → Bool → ℕ → Asked
   -- with a work slice of so many words
   _with-work_ : Asked → ℕ → Asked
   -- with a list slice of so many bytes
@@ -68,12 +58,11 @@ pub data Asked : Type 0 where
 infixl 80 _with-work_
 infixl 80 _with-list_
 -- What stands beside it: of a search the lines of its list, with its verdict, or with the number of its refusal and no verdict; bytes; or the
--- answer of the run or of the call.
+-- answer of the run.
 pub data Answer : Type 0 where
   searched : List Line → Option Verdict → Option ℕ → Answer
   bytes : List ℕ → Answer
   answers : RunAnswer → Answer
-  tells : TextAnswer → Answer
 
 abbrev pub lists : List Line → Verdict → Answer
 lists lines v = searched lines (some v) none
@@ -87,10 +76,7 @@ given work list (search-of file) =
     let a = searchAnswer file work list in
     searched (map shown (listed a)) (verdictOf a) (Option·map numberOf (refusalOf a))
 given work list (bytes-of file) = bytes (listBytes (listed (searchAnswer file work list)))
-given work list (text-of file) = bytes (text (searchAnswer file work list))
 given work list (run-of file input) = answers (runAnswer file input work)
-given work list (length-of file l full) = tells (lengthAnswer (printoutOf file l full))
-given work list (write-of file l full room) = tells (writeAnswer room (printoutOf file l full))
 given work list (a with-work n) = given n list a
 given work list (a with-list n) = given work n a
 
@@ -98,16 +84,17 @@ given work list (a with-list n) = given work n a
 abbrev pub computed : Asked → Answer
 computed a = given 16384 32768 a
 
-pub record Row : Type 0 where
-  pub asked : Asked
-  pub expected : Answer
+-- A question of this kind, and what answers it.
+pub record Row (Q A : Type 0) : Type 0 where
+  pub asked : Q
+  pub expected : A
 
 -- every row's answer is the one that stands beside it
-abbrev pub AsExpected : List Row → Type 0
-AsExpected rows = map (λ r. computed (r .asked)) rows ≡ map (λ r. r .expected) rows
+abbrev pub AsExpected : {Q A : Type 0} → (Q → A) → List (Row Q A) → Type 0
+AsExpected answer rows = map (λ r. answer (r .asked)) rows ≡ map (λ r. r .expected) rows
 
 infix 70 _⇒_
-abbrev pub _⇒_ : Asked → Answer → Row
+abbrev pub _⇒_ : {Q A : Type 0} → Q → A → Row Q A
 _⇒_ a b = record { asked = a; expected = b }
 
 -- as `reachlist` prints them: `reach`, `unfinished`, `missing`, and `_` for an open part
@@ -120,11 +107,11 @@ unfinished n s = (UN, n, s)
 abbrev missing : ℕ → List ℕ → Line
 missing n s = (MI, n, s)
 
-abbrev ○ : ℕ
+abbrev pub ○ : ℕ
 ○ = 0xff
 
 -- 01's table, row by row: P with its label, D and S, and what the row says; at the end the bytes of P's own list
-abbrev pub starred : List Row
+abbrev pub starred : List (Row Asked Answer)
 starred =
     search-of (p-with 7 4 20) ⇒ lists (reach 6 (1 ∷ 1 ∷ ○ ∷ []) ∷ []) Found
     ∷ search-of (p-with 7 3 20) ⇒ lists (reach 6 (1 ∷ 1 ∷ ○ ∷ []) ∷ []) Found
@@ -165,7 +152,7 @@ lacking s =
     ∷ 0x47 ∷ 0x4f ∷ 0x00 ∷ 0x07 ∷ 0x04 ∷ s ∷ 0x00 ∷ []
 
 -- a missing alternative is found at its step, the sixth, the third or the second; before it the path is unfinished; and no verdict comes of it
-abbrev pub at-missing : List Row
+abbrev pub at-missing : List (Row Asked Answer)
 at-missing =
     search-of (p-no-end 6) ⇒ lists (missing 6 (1 ∷ 1 ∷ ○ ∷ []) ∷ []) None
     ∷ search-of (p-no-end 5) ⇒ lists (unfinished 5 (1 ∷ ○ ∷ []) ∷ []) Undecided
@@ -187,7 +174,7 @@ at-missing =
 
 -- P's list has 9 bytes, and its S of 20 asks for 2,304 words: with one less the search is refused, and a closed run too; a missing alternative's entry
 -- is among those that must fit
-abbrev pub rooms : List Row
+abbrev pub rooms : List (Row Asked Answer)
 rooms =
     search-of (p-without 8 20) with-list 6 ⇒ refused 12 []
     ∷ search-of (p-with 7 4 20) with-list 9 ⇒ lists (reach 6 (1 ∷ 1 ∷ ○ ∷ []) ∷ []) Found
@@ -196,53 +183,6 @@ rooms =
     ∷ search-of (p-with 7 4 20) with-work (64 * 20 + 1023) ⇒ refused 11 []
     ∷ run-of (p-with 7 4 20) (0 ∷ []) with-work (64 * 20 + 1024) ⇒ answers (ran (Ended 3) 1)
     ∷ run-of (p-with 7 4 20) (0 ∷ []) with-work (64 * 20 + 1023) ⇒ answers (noRun WorkTooShort)
-    ∷ []
-
--- what `reachlist` prints of P, of P with S 5 and with D 2, of P without an alternative with S 3 and with label 8, of P with a list slice that is one
--- too short, and of an empty file:
--- "reach 6 1 1 _" / "total 1 0 0 0 found"
--- "unfinished 5 1 _" / "total 0 1 0 100 undecided"
--- "total 0 0 0 0 none"
--- "missing 3 0" / "unfinished 3 1 _" / "total 0 1 1 100 undecided"
--- "missing 3 0" / "total 0 0 1 0 none"
--- "refused 12"
--- "refused 1"
-abbrev pub printed : List Row
-printed =
-    text-of (p-with 7 4 20) ⇒ bytes (0x72 ∷ 0x65 ∷ 0x61 ∷ 0x63 ∷ 0x68 ∷ 0x20 ∷ 0x36 ∷ 0x20 ∷ 0x31 ∷ 0x20 ∷ 0x31 ∷ 0x20 ∷ 0x5f ∷ 0x0a ∷ 0x74 ∷ 0x6f ∷ 0x74 ∷ 0x61 ∷ 0x6c ∷ 0x20 ∷ 0x31 ∷ 0x20 ∷ 0x30 ∷ 0x20 ∷ 0x30 ∷ 0x20 ∷ 0x30 ∷ 0x20 ∷ 0x66 ∷ 0x6f ∷ 0x75 ∷ 0x6e ∷ 0x64 ∷ 0x0a ∷ [])
-    ∷ text-of (p-with 7 4 5) ⇒ bytes (0x75 ∷ 0x6e ∷ 0x66 ∷ 0x69 ∷ 0x6e ∷ 0x69 ∷ 0x73 ∷ 0x68 ∷ 0x65 ∷ 0x64 ∷ 0x20 ∷ 0x35 ∷ 0x20 ∷ 0x31 ∷ 0x20 ∷ 0x5f ∷ 0x0a ∷ 0x74 ∷ 0x6f ∷ 0x74 ∷ 0x61 ∷ 0x6c ∷ 0x20 ∷ 0x30 ∷ 0x20 ∷ 0x31 ∷ 0x20 ∷ 0x30 ∷ 0x20 ∷ 0x31 ∷ 0x30 ∷ 0x30 ∷ 0x20 ∷ 0x75 ∷ 0x6e ∷ 0x64 ∷ 0x65 ∷ 0x63 ∷ 0x69 ∷ 0x64 ∷ 0x65 ∷ 0x64 ∷ 0x0a ∷ [])
-    ∷ text-of (p-with 7 2 20) ⇒ bytes (0x74 ∷ 0x6f ∷ 0x74 ∷ 0x61 ∷ 0x6c ∷ 0x20 ∷ 0x30 ∷ 0x20 ∷ 0x30 ∷ 0x20 ∷ 0x30 ∷ 0x20 ∷ 0x30 ∷ 0x20 ∷ 0x6e ∷ 0x6f ∷ 0x6e ∷ 0x65 ∷ 0x0a ∷ [])
-    ∷ text-of (p-without 7 3) ⇒ bytes (0x6d ∷ 0x69 ∷ 0x73 ∷ 0x73 ∷ 0x69 ∷ 0x6e ∷ 0x67 ∷ 0x20 ∷ 0x33 ∷ 0x20 ∷ 0x30 ∷ 0x0a ∷ 0x75 ∷ 0x6e ∷ 0x66 ∷ 0x69 ∷ 0x6e ∷ 0x69 ∷ 0x73 ∷ 0x68 ∷ 0x65 ∷ 0x64 ∷ 0x20 ∷ 0x33 ∷ 0x20 ∷ 0x31 ∷ 0x20 ∷ 0x5f ∷ 0x0a ∷ 0x74 ∷ 0x6f ∷ 0x74 ∷ 0x61 ∷ 0x6c ∷ 0x20 ∷ 0x30 ∷ 0x20 ∷ 0x31 ∷ 0x20 ∷ 0x31 ∷ 0x20 ∷ 0x31 ∷ 0x30 ∷ 0x30 ∷ 0x20 ∷ 0x75 ∷ 0x6e ∷ 0x64 ∷ 0x65 ∷ 0x63 ∷ 0x69 ∷ 0x64 ∷ 0x65 ∷ 0x64 ∷ 0x0a ∷ [])
-    ∷ text-of (p-without 8 20) ⇒ bytes (0x6d ∷ 0x69 ∷ 0x73 ∷ 0x73 ∷ 0x69 ∷ 0x6e ∷ 0x67 ∷ 0x20 ∷ 0x33 ∷ 0x20 ∷ 0x30 ∷ 0x0a ∷ 0x74 ∷ 0x6f ∷ 0x74 ∷ 0x61 ∷ 0x6c ∷ 0x20 ∷ 0x30 ∷ 0x20 ∷ 0x30 ∷ 0x20 ∷ 0x31 ∷ 0x20 ∷ 0x30 ∷ 0x20 ∷ 0x6e ∷ 0x6f ∷ 0x6e ∷ 0x65 ∷ 0x0a ∷ [])
-    ∷ text-of (p-with 7 4 20) with-list 8 ⇒ bytes (0x72 ∷ 0x65 ∷ 0x66 ∷ 0x75 ∷ 0x73 ∷ 0x65 ∷ 0x64 ∷ 0x20 ∷ 0x31 ∷ 0x32 ∷ 0x0a ∷ [])
-    ∷ text-of [] ⇒ bytes (0x72 ∷ 0x65 ∷ 0x66 ∷ 0x75 ∷ 0x73 ∷ 0x65 ∷ 0x64 ∷ 0x20 ∷ 0x31 ∷ 0x0a ∷ [])
-    ∷ []
-
--- P's list, behind it these bytes; and an unfinished entry of 5 steps
-abbrev pub p-list : List ℕ → List ℕ
-p-list more = 0x52 ∷ 0x45 ∷ 0x06 ∷ 0x00 ∷ 0x03 ∷ 0x00 ∷ 0x01 ∷ 0x01 ∷ more
-
-abbrev pub given-up : List ℕ
-given-up = 0x55 ∷ 0x4e ∷ 0x05 ∷ 0x00 ∷ 0x01 ∷ 0x00 ∷ 0xff ∷ []
-
--- Lists handed in with P. Its own has a text of 34 bytes, of 25 where the search ended in 12. It fits D 3 and S 6, and no less: below two constructors stands
--- an open part, whose type's least depth is 1. A byte too few or too many is 14 too; an entry that is false, unfinished with 5 steps where S is 20, is not. The
--- file's refusal comes first, then 14, then 13.
-abbrev pub handed-in : List Row
-handed-in =
-    length-of (p-with 7 4 20) (p-list (○ ∷ [])) false ⇒ tells (ofLength 34)
-    ∷ length-of (p-with 7 4 20) (p-list (○ ∷ [])) true ⇒ tells (ofLength 25)
-    ∷ length-of (p-with 7 3 6) (p-list (○ ∷ [])) false ⇒ tells (ofLength 34)
-    ∷ length-of (p-with 7 2 6) (p-list (○ ∷ [])) false ⇒ tells (noText BadList)
-    ∷ length-of (p-with 7 3 5) (p-list (○ ∷ [])) false ⇒ tells (noText BadList)
-    ∷ length-of (p-with 7 4 20) (p-list []) false ⇒ tells (noText BadList)
-    ∷ length-of (p-with 7 4 20) (p-list (○ ∷ 0 ∷ [])) false ⇒ tells (noText BadList)
-    ∷ length-of (p-with 7 4 20) given-up false ⇒ tells (ofLength 41)
-    ∷ length-of (p-with 7 4 20) [] false ⇒ tells (ofLength 19)
-    ∷ write-of (p-with 7 4 20) (p-list (○ ∷ [])) false 34 ⇒ tells (ofLength 34)
-    ∷ write-of (p-with 7 4 20) (p-list (○ ∷ [])) false 33 ⇒ tells (noText TextTooShort)
-    ∷ write-of (p-with 7 4 20) (p-list []) false 0 ⇒ tells (noText BadList)
-    ∷ write-of [] (p-list []) false 0 ⇒ tells (noText Truncated)
     ∷ []
 
 -- numbers, and a function of no or two of them that gives zero, with D 4 and S 20
@@ -254,7 +194,7 @@ constant parameters =
 
 -- The depth of an input is that of its deepest parameter, wherever it stands, and 0 without parameters. At D 4 an input that is 4 deep is run, and one that
 -- is 5 deep is refused.
-abbrev pub inputs-deep : List Row
+abbrev pub inputs-deep : List (Row Asked Answer)
 inputs-deep =
     run-of (constant (2 ∷ 0 ∷ 0 ∷ [])) (1 ∷ 1 ∷ 0 ∷ 0 ∷ []) ⇒ answers (ran (Ended 0) 3)
     ∷ run-of (constant (2 ∷ 0 ∷ 0 ∷ [])) (0 ∷ 1 ∷ 0 ∷ []) ⇒ answers (ran (Ended 0) 2)
@@ -264,7 +204,7 @@ inputs-deep =
     ∷ []
 
 -- all the definitions that an answer is made of: to unfold this is to unfold them
-definitions : Unit {0}
+unfoldable pub definitions : Unit {0}
 unfolding
     Syntax.count Syntax.nthExpr Syntax.fieldTypes Syntax.functionAt Syntax.sourceTypes
     Parts.width Parts.allOpen Parts.part Parts.within Parts.at Parts.bindAt Parts.prefix
@@ -285,50 +225,26 @@ unfolding
     Lists.wordBytes Lists.kindBytes Lists.entryBytes Lists.listBytes Lists.cut Lists.roomOf Lists.isMark Lists.kindOf
     Answers.check Answers.cutAnswer Answers.searchChecked Answers.searchAnswer Answers.listed Answers.refusalOf Answers.verdictOf Answers.outcomeOf
     Answers.runInput Answers.runChecked Answers.runAnswer
-    Text.spaced Text.lineFrom Text.digitsBy Text.decimal Text.kindWord Text.partWord Text.lineSaying Text.share Text.totalLine
-    Text.refusalLine Text.lastLine Text.textOf Text.text
     Partial.valuesBy Partial.valueFrom Partial.value Partial.slotted
-    Handed.kindMark Handed.spanning Handed.entryBy Handed.entriesBy Handed.handed
-    Printouts.printoutChecked Printouts.printoutOf Printouts.lengthAnswer Printouts.writeAnswer
     List.flatMap List.zipWith
 definitions = tt
 
 -- the starred examples of 01
-pub examples : AsExpected starred
+pub examples : AsExpected computed starred
 unfolding definitions
 examples = refl
 
 -- finding that there is no alternative costs a step: with S steps done before it, the path is unfinished
-pub missing-alternative : AsExpected at-missing
+pub missing-alternative : AsExpected computed at-missing
 unfolding definitions
 missing-alternative = refl
 
 -- a buffer that is just long enough is enough, and one that is one too short is refused
-pub just-enough : AsExpected rooms
+pub just-enough : AsExpected computed rooms
 unfolding definitions
 just-enough = refl
 
--- the printed text of 01's example, and of the other ends of a search
-pub printed-text : AsExpected printed
-unfolding definitions
-printed-text = refl
-
--- lists that are handed in with their rule file
-pub handed-lists : AsExpected handed-in
-unfolding definitions
-handed-lists = refl
-
 -- depths of inputs
-pub input-depths : AsExpected inputs-deep
+pub input-depths : AsExpected computed inputs-deep
 unfolding definitions
 input-depths = refl
-
--- numbers of one digit and more, and the share of 0 of 0, of 1 of 3 and of 2 of 3
-pub decimals : map decimal (0 ∷ 9 ∷ 10 ∷ 4096 ∷ [])
-    ≡ (0x30 ∷ []) ∷ (0x39 ∷ []) ∷ (0x31 ∷ 0x30 ∷ []) ∷ (0x34 ∷ 0x30 ∷ 0x39 ∷ 0x36 ∷ []) ∷ []
-unfolding definitions
-decimals = refl
-
-pub shares : share 0 0 ∷ share 2 1 ∷ share 1 2 ∷ [] ≡ 0 ∷ 33 ∷ 66 ∷ []
-unfolding definitions
-shares = refl

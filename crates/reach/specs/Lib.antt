@@ -13,10 +13,7 @@ pub mod Conditions
 pub mod Partial
 pub mod Input
 pub mod Lists
-pub mod Handed
 pub mod Answers
-pub mod Text
-pub mod Printouts
 pub mod Names
 pub mod Examples
 pub mod Encoding

@@ -9,7 +9,7 @@ use mathlib.Core.Option.{Option, none, some}
 use lib.ListN.{getD}
 use lib.Dec.{eqb, leb}
 use Rattle.reach.specs.declared.Refusal.{Refusal}
-use Rattle.reach.specs.declared.Refusal.the-variants.{BadInput, BadList}
+use Rattle.reach.specs.declared.Refusal.the-variants.{BadInput}
 use Rattle.reach.specs.Base.{pick}
 use Rattle.reach.specs.Syntax.{Types, fieldTypes}
 use Rattle.reach.specs.Parts.{Parts, end, opened, bound}
@@ -70,10 +70,6 @@ valuesBy value (t ∷ ts) = do
 pub record Manner : Type 0 where
   pub open-part : ℕ → Option ℕ
   pub misfit : Refusal
-
--- the entries of a list: an open part is as deep as this table of least depths says; 02, Slip 2
-abbrev pub inEntries : List ℕ → Manner
-inEntries table = record { open-part = λ t. some (getD table t 0); misfit = BadList }
 
 -- a closed input: nothing is open; 02, Slip 3
 abbrev pub inInputs : Manner

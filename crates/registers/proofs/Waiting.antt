@@ -1,6 +1,6 @@
 -- Where a case waits on an open part: only a case that looks at an input part waits, and the registers say so.
 -- Rests on specs/Stepping, on machine's Records and on reach's Evaluation.
-use Prim.Native.Nat.{ℕ, _<_}
+use Prim.Native.Nat.{ℕ}
 use mathlib.Core.Path.{_≡_, sym, ap, subst}
 use mathlib.Core.Bool.{Bool, true, false}
 use mathlib.Core.List.{List, [], _∷_}

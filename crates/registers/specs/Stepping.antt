@@ -1,6 +1,6 @@
 -- What the registers and the lent words stand for, and what a step promises: it is one step of the published evaluation.
 -- Rests on machine's Cells, Records and Walks, on skipping's Ends, on reach's Eval, Places and States, and on the types of src/lib.rt.
-use Prim.Native.Nat.{ℕ, zero, suc, _+_, _*_, _-_, _≤_, _<_}
+use Prim.Native.Nat.{ℕ, zero, suc, _+_, _*_, _≤_, _<_}
 use mathlib.Core.Path.{_≡_}
 use mathlib.Core.List.{List, map}
 use mathlib.Core.Option.{some}

@@ -1,6 +1,6 @@
 -- The bounds that keep the number of an answer below 2 to the 64th: of a list and of a text.
 -- Rests on search's Called (the list stands in the bytes that count) and on printout's Demands (the longest text).
-use Prim.Native.Nat.{ℕ, _+_, _*_, _≤_, _<_}
+use Prim.Native.Nat.{ℕ, _≤_, _<_}
 use native.Mathlib.Omega.{arith}
 use mathlib.Core.Path.{_≡_, refl, ap, _∙_}
 use mathlib.Core.Bool.{Bool}

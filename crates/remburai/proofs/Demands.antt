@@ -20,8 +20,8 @@ use Rattle.reach.specs.Syntax.{Program}
 use Rattle.reach.specs.Limits.{workWords, listLimit, stepLimit, depthLimit}
 use Rattle.reach.specs.Lists.{listBytes, roomOf, entryPart}
 use Rattle.reach.specs.Answers.{Checked, accepted, turnedBack, check, SearchAnswer, noSearch, complete, cutShort, searchAnswer, listed, refusalOf, RunAnswer, noRun, ran, runAnswer}
-use Rattle.reach.specs.Text as Text
-use Rattle.reach.specs.Printouts.{wasCut, Printout, TextAnswer, noText, ofLength, printoutOf, lengthAnswer, writeAnswer}
+use Rattle.lists.specs.Text as Text
+use Rattle.lists.specs.Printouts.{wasCut, Printout, TextAnswer, noText, ofLength, printoutOf, lengthAnswer, writeAnswer}
 use Rattle.reach.proofs.Base.{clash}
 use Rattle.reach.proofs.Limits.{accepted-keeps}
 use Rattle.results.specs.declared.TextResult.the-variants as TextResult

@@ -6,7 +6,7 @@ use mathlib.Core.Bool.{Bool}
 use mathlib.Core.List.{List}
 use lib.ListN.{length}
 use Rattle.reach.specs.Answers.{check, searchAnswer, runAnswer}
-use Rattle.reach.specs.Printouts.{printoutOf, lengthAnswer, writeAnswer, textSlice}
+use Rattle.lists.specs.Printouts.{printoutOf, lengthAnswer, writeAnswer, textSlice}
 use Rattle.search.specs.Answering.{Searched}
 use Rattle.closed.specs.Answering.{HasRun}
 use Rattle.packing.specs.Packing.{checkNumber, searchNumber, runNumber, textNumber, partNumber, PartAt}

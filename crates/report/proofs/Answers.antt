@@ -2,15 +2,15 @@
 -- Rests on reach's Text (the text by the bytes of a list), on reporting's Reports and on printing's Lengths.
 use Prim.Native.Nat.{ℕ}
 use native.Mathlib.Omega.{arith}
-use mathlib.Core.Path.{_≡_, refl, sym, ap, _∙_}
+use mathlib.Core.Path.{_≡_, sym, ap, _∙_}
 use mathlib.Core.Bool.{Bool, true, false}
 use mathlib.Core.List.{List}
 use lib.ListN.{length, take, length-take}
 use Rattle.reach.specs.Base.{pick}
 use Rattle.reach.specs.Lists.{listBytes}
 use Rattle.reach.specs.Answers.{SearchAnswer, complete, cutShort, searchAnswer, listed}
-use Rattle.reach.specs.Text.{text, listText}
-use Rattle.reach.proofs.Text.{textBy, text-written}
+use Rattle.lists.specs.Text.{text, listText}
+use Rattle.lists.proofs.Text.{textBy, text-written}
 use Rattle.writing.specs.Writing.{Fronts}
 use Rattle.printing.proofs.Lengths.{Bytes, part-bytes, text-short}
 use Rattle.search.specs.Answering.{Searched}

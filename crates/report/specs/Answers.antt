@@ -3,7 +3,7 @@
 use Prim.Native.Nat.{ℕ}
 use mathlib.Core.List.{List}
 use Rattle.reach.specs.Answers.{searchAnswer}
-use Rattle.reach.specs.Text.{text}
+use Rattle.lists.specs.Text.{text}
 
 -- the text of the answer that 01 defines for a rule file, with so many words and so many bytes for the list
 abbrev pub reportText : List ℕ → ℕ → ℕ → List ℕ

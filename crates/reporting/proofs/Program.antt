@@ -11,7 +11,7 @@ use lib.Seq.{take-all, take-append-seam, drop-append-seam}
 use borrow.Author.Tests.{leb-true, leb-false}
 use Rattle.reach.specs.declared.Refusal.the-variants.{OutOfRange}
 use Rattle.reach.specs.Limits.{fileLimit}
-use Rattle.reach.specs.Text.{refusalLine}
+use Rattle.lists.specs.Text.{refusalLine}
 use Rattle.reach.proofs.Answers.{search-turned-back}
 use Rattle.reach.proofs.Stages.{size-refused}
 use Rattle.writing.specs.Writing.{fronted, Fronts}

@@ -11,7 +11,7 @@ use Rattle.reach.specs.declared.Verdict.{Verdict}
 use Rattle.reach.specs.Base.{pick}
 use Rattle.reach.specs.Lists.{listBytes}
 use Rattle.reach.specs.Answers.{SearchAnswer, noSearch, complete, cutShort, searchAnswer, listed}
-use Rattle.reach.specs.Text.{refusalLine}
+use Rattle.lists.specs.Text.{refusalLine}
 use Rattle.writing.specs.Writing.{Fronts}
 use Rattle.printing.specs.Bound.{textBound}
 use Rattle.printing.proofs.Lengths.{refusal-short}

@@ -9,7 +9,7 @@ use Rattle.reach.specs.declared.Verdict.{Verdict}
 use Rattle.reach.specs.Search.{verdict}
 use Rattle.reach.specs.Lists.{listBytes}
 use Rattle.reach.specs.Answers.{Checked, accepted, turnedBack, SearchAnswer, noSearch, complete, cutShort, RunAnswer, noRun, ran}
-use Rattle.reach.specs.Printouts.{TextAnswer, noText, ofLength}
+use Rattle.lists.specs.Printouts.{TextAnswer, noText, ofLength}
 use Rattle.results.specs.declared.CheckResult.{CheckResult}
 use Rattle.results.specs.declared.CheckResult.the-variants as CheckResult
 use Rattle.results.specs.declared.SearchResult.{SearchResult}

@@ -15,7 +15,8 @@ use Rattle.reach.specs.declared.Refusal.the-variants.{Truncated}
 use Rattle.reach.specs.Syntax.{Types, fieldTypes}
 use Rattle.reach.specs.Parts.{Parts}
 use Rattle.reach.specs.Reader.{Got, got, refused, onGot, Reader, _>>=_, give, refuse, orRefuse, byte}
-use Rattle.reach.specs.Partial.{Value, unbound, built, _before_, deepOf, valuesBy, Manner, inEntries, inInputs, valueFrom, value}
+use Rattle.reach.specs.Partial.{Value, unbound, built, _before_, deepOf, valuesBy, Manner, inInputs, valueFrom, value}
+use Rattle.lists.specs.Handed.{inEntries}
 use Rattle.reach.specs.Places.{bytesAt}
 use Rattle.reach.proofs.Base.{clash}
 use Rattle.lookups.proofs.Tables.{bytes-more, bytes-none}

@@ -7,7 +7,8 @@ use Rattle.reach.specs.Limits.{depthLimit}
 use Rattle.reach.specs.Parts.{Parts}
 use Rattle.reach.specs.Types.{slots}
 use Rattle.reach.specs.Reader.{Got, got, refused, Reader}
-use Rattle.reach.specs.Partial.{Value, deepOf, valuesBy, Manner, inEntries, inInputs, value, slotted}
+use Rattle.reach.specs.Partial.{Value, deepOf, valuesBy, Manner, inInputs, value, slotted}
+use Rattle.lists.specs.Handed.{inEntries}
 use Rattle.reach.specs.Places.{typeAt}
 use Rattle.rows.specs.declared.Measured.{Measured}
 use Rattle.rows.specs.declared.Measured.the-variants as Measured

@@ -1,19 +1,19 @@
 -- The answer of the whole search, by what the check and the exploration found; the list slice, of which only its room was lent on; and the words.
 -- Rests on specs/Answering and exploring's Exploring, on exploring's Cutting, and on the laws of loaded files.
-use Prim.Native.Nat.{ℕ, _+_, _≤_, _<_, min}
+use Prim.Native.Nat.{ℕ, _≤_, _<_}
 use mathlib.Core.Path.{_≡_, refl, sym, _∙_, ap, subst}
-use mathlib.Core.List.{List, [], _∷_, _++_}
+use mathlib.Core.List.{List, _++_}
 use native.Mathlib.Omega.{arith}
 use lib.ListN.{length, take, drop, length-take, length-append, List·getD-append}
 use Rattle.reach.specs.declared.Refusal.{Refusal}
 use Rattle.reach.specs.declared.Refusal.the-variants.{WorkTooShort}
-use Rattle.reach.specs.Limits.{workWords, listLimit}
+use Rattle.reach.specs.Limits.{workWords}
 use Rattle.reach.specs.Syntax.{Program, sourceTypes}
 use Rattle.reach.specs.Parts.{Parts}
 use Rattle.reach.specs.Types.{sourceSlots}
-use Rattle.reach.specs.Search.{Entry, openInput, entries, verdict}
+use Rattle.reach.specs.Search.{Entry, openInput, entries}
 use Rattle.reach.specs.Lists.{listBytes, roomOf, written}
-use Rattle.reach.specs.Answers.{check, accepted, SearchAnswer, noSearch, complete, cutShort, searchAnswer, listed}
+use Rattle.reach.specs.Answers.{check, accepted, noSearch, complete, cutShort, searchAnswer, listed}
 use Rattle.machine.specs.Cells.{Cells}
 use Rattle.machine.proofs.Cells.{kept-cells}
 use Rattle.results.specs.declared.CheckResult.the-variants as CheckResult

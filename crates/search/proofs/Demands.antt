@@ -34,7 +34,7 @@ use Rattle.reach.proofs.Base.{nth-member}
 use Rattle.reach.proofs.Lists.{Holds}
 use Rattle.reach.proofs.Lists as Verdicts
 use Rattle.reach.proofs.Answers.{listed-in, complete-is}
-use Rattle.reach.proofs.ReadBack.{listed-fits, written-read-back}
+use Rattle.lists.proofs.ReadBack.{listed-fits, written-read-back}
 use Rattle.reach.proofs.Demands as Reach
 use Rattle.results.specs.declared.SearchResult.{SearchResult}
 use Rattle.results.specs.declared.SearchResult.the-variants as SearchResult

@@ -16,15 +16,16 @@ use Rattle.reach.specs.Parts.{Parts, prefix}
 use Rattle.reach.specs.Types.{Typed, leastDepths}
 use Rattle.reach.specs.Search.{Entry, entries}
 use Rattle.reach.specs.Lists.{entryBytes, listBytes, entryPart, Decoded, decoded}
-use Rattle.reach.specs.Partial.{inEntries}
+use Rattle.lists.specs.Handed.{inEntries}
 use Rattle.reach.specs.Answers.{accepted, check}
 use Rattle.reach.proofs.Base.{clash, nth-member}
 use Rattle.reach.proofs.Limits.{accepted-keeps}
 use Rattle.reach.proofs.Accepted.{entry-typed}
 use Rattle.reach.proofs.EntryLength.{entry-within}
 use Rattle.reach.proofs.WellTyped.{open-apart}
-use Rattle.reach.proofs.Partial.{entries-lawful, row-one}
-use Rattle.reach.proofs.ReadBack.{decoded-entry, entry-read-back, beyond-end}
+use Rattle.readings.proofs.Partial.{row-one}
+use Rattle.lists.proofs.EntryValues.{entries-lawful}
+use Rattle.lists.proofs.ReadBack.{decoded-entry, entry-read-back, beyond-end}
 use Rattle.headers.proofs.Bytes.{entry-length}
 use Rattle.search.specs.Answering.{ReadsAs}
 

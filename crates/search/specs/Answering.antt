@@ -1,7 +1,7 @@
 -- What a caller of `search` reads: the answer, the list in the caller's slice and the words afterwards, in terms of reach's definition; and what a caller
 -- takes from the bytes of its list.
 -- Rests on reach's Answers, Search and Lists, on machine's Cells for what the words stand for, and on Results of crate results.
-use Prim.Native.Nat.{ℕ, _+_, _*_}
+use Prim.Native.Nat.{ℕ}
 use mathlib.Core.Path.{_≡_}
 use mathlib.Core.List.{List, [], _∷_, _++_}
 use lib.ListN.{length, drop}

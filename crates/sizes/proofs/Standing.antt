@@ -5,7 +5,7 @@ use mathlib.Core.List.{List}
 use mathlib.Core.Option.{some}
 use lib.ListN.{length}
 use Rattle.reach.specs.Lists.{entrySize}
-use Rattle.reach.proofs.ReadBack.{size-inside}
+use Rattle.lists.proofs.ReadBack.{size-inside}
 use Rattle.sizes.specs.declared.Size.{Size}
 use Rattle.sizes.specs.declared.Size.the-variants.{Bytes}
 use Rattle.sizes.specs.Sizes.{sizeOf}

@@ -16,10 +16,10 @@ use Rattle.reach.specs.Reader.{got}
 use Rattle.reach.specs.Partial.{Value, inInputs, OpenApart, value}
 use Rattle.reach.specs.Input.{inputOf}
 use Rattle.reach.specs.Answers.{check, accepted}
-use Rattle.reach.proofs.ClosedInputs.{input-exactly}
+use Rattle.readings.proofs.ClosedInputs.{input-exactly}
 use Rattle.reach.proofs.Depths.{typed-width, fits-depth}
 use Rattle.reach.proofs.Limits.{within-limit}
-use Rattle.reach.proofs.Partial.{inputs-lawful, value-read}
+use Rattle.readings.proofs.Partial.{inputs-lawful, value-read}
 use Rattle.reach.proofs.Reading.{byte-there}
 use Rattle.reach.proofs.Slots.{even-types, source-types}
 use Rattle.values.specs.Positions.{RowStands, byteOf}

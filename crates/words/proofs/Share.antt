@@ -6,7 +6,7 @@ use mathlib.Core.Bool.{Bool, true, false}
 use lib.Dec.{eqb}
 use native.Mathlib.Nat.{div-le-of-le-mul}
 use Rattle.reach.specs.Base.{pick}
-use Rattle.reach.specs.Text.{share}
+use Rattle.lists.specs.Text.{share}
 
 pub share-most : (a b : ℕ) → share a b ≤ 100
 unfolding share

@@ -5,7 +5,7 @@ ghost use mathlib.Core.List.{_∷_};
 ghost use Prim.Native.Nat.{_≤_, _<_};
 ghost use Rattle.reach.specs.Search.{verdictBy};
 ghost use Rattle.reach.specs.Words.{verdictWord};
-ghost use Rattle.reach.specs.Text.{space, kindWord, partWord, share};
+ghost use Rattle.lists.specs.Text.{space, kindWord, partWord, share};
 ghost use Rattle.writing.specs.Writing.{Puts};
 use marks::wide;
 use reach::Counts;

@@ -9,7 +9,7 @@ use lib.ListN.{length, length-append}
 use lib.Dec.{ltb, eqb}
 use borrow.Author.Tests.{ltb-true, ltb-false, lt-ltb, le-ltb}
 use Rattle.reach.specs.Base.{pick}
-use Rattle.reach.specs.Text.{digit, digitsBy, decimal, partWord, space}
+use Rattle.lists.specs.Text.{digit, digitsBy, decimal, partWord, space}
 
 -- a number is enough
 enough : (f g n : ℕ) → n ≤ f → n ≤ g → digitsBy f n ≡ digitsBy g n

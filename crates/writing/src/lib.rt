@@ -4,7 +4,7 @@ ghost use mathlib.Core.Path.{_≡_};
 ghost use mathlib.Core.List.{[], _∷_};
 ghost use Prim.Native.Nat.{_+_, _≤_, _<_};
 ghost use lib.ListN.{length};
-ghost use Rattle.reach.specs.Text.{space, digit, decimal};
+ghost use Rattle.lists.specs.Text.{space, digit, decimal};
 ghost use Rattle.writing.specs.Writing.{Puts};
 
 // Writes one byte.

@@ -1,6 +1,5 @@
 -- `cases::print_bytes` is safe and ends: what is left of the slice gets shorter.
 use Prim.Native.Nat.{_-_}
-use native.Mathlib.Omega.{arith}
 use lib.ListN.{length}
 use borrow.Author.Needs.{needs}
 use Rattle.cases.proofs.print_bytes.Statement.{statement}

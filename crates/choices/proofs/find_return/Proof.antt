@@ -1,8 +1,7 @@
 -- `choices::find_return` meets its contract. The invariant: from the beginning the return came to here. The measure is the height. Rests on Returning.
-use Prim.Native.Nat.{_≤_, _<_}
+use Prim.Native.Nat.{_≤_}
 use mathlib.Core.Path.{_≡_, refl, _∙_}
 use lib.ListN.{length}
-use Rattle.choices.proofs.Keeping.{reopened-length}
 use Rattle.choices.proofs.Returning.{CameTo, came-first, came-bounds, came-nowhere, drops, leads}
 use native.Mathlib.Omega.{arith}
 use borrow.Author.Needs.{needs}

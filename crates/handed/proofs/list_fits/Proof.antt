@@ -7,8 +7,8 @@ use lib.ListN.{length}
 use borrow.Author.Needs.{needs}
 use borrow.Author.Tests.{not-true, not-false}
 use Rattle.reach.specs.Syntax.{Program}
-use Rattle.reach.specs.Handed.{entry, entriesBy}
-use Rattle.reach.proofs.ReadBack.{size-inside}
+use Rattle.lists.specs.Handed.{entry, entriesBy}
+use Rattle.lists.proofs.ReadBack.{size-inside}
 use Rattle.sizes.specs.Sizes.{sizeOf}
 use Rattle.handed.specs.Fits.{Given}
 use Rattle.handed.proofs.Lists.{found, all-read, too-long, at-last, over, none-there, unfit, fit}

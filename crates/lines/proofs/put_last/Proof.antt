@@ -1,7 +1,7 @@
 -- `lines::put_last` meets its contract: a list that was cut short is tried first.
 -- Rests on nothing of this crate.
 use borrow.Author.Needs.{needs}
-use Rattle.reach.specs.Text.{lastLine}
+use Rattle.lists.specs.Text.{lastLine}
 use Rattle.lines.proofs.put_last.Tie as tie
 use Rattle.lines.proofs.put_last.Statement.{statement}
 

@@ -5,7 +5,7 @@ use Prim.Native.Nat.{_+_, _*_, _-_, _≤_}
 use mathlib.Core.List.{map}
 use native.Mathlib.Omega.{arith}
 use lib.ListN.{length, getD, drop}
-use Rattle.reach.specs.Text.{spaced, partWord}
+use Rattle.lists.specs.Text.{spaced, partWord}
 use Rattle.writing.proofs.Writing.{Left, left-whole, puts-length}
 use Rattle.lines.proofs.Lines.{parts-next, parts-done, part-end}
 use Rattle.lines.proofs.put_parts.Tie as tie

@@ -1,6 +1,6 @@
 -- `namelines::put_entry` meets its contract: each turn of the loop writes the line of one parameter, if it is a name, and passes over it.
 -- Rests on Onward.
-use Prim.Native.Nat.{_+_, _-_}
+use Prim.Native.Nat.{_+_}
 use mathlib.Core.Path.{_≡_, refl, sym, _∙_}
 use mathlib.Core.List.{map}
 use native.Mathlib.Omega.{arith}

@@ -1,5 +1,4 @@
 -- `packing::part_number` meets its contract: place and size leave room for each other in 64 bits.
-use Prim.Native.Nat.{_+_}
 use mathlib.Core.Path.{sym, ap}
 use native.Mathlib.Omega.{arith}
 use Rattle.entries.specs.declared.Span.{Span}

@@ -1,5 +1,4 @@
 -- `points::candidate` meets its contract: the words that it reads are those of the choice point's cell, and `next_fork` answers for them.
-use native.Mathlib.Omega.{arith}
 use borrow.Author.Needs.{needs}
 use Rattle.points.proofs.candidate.Statement.{statement}
 use Rattle.points.proofs.candidate.Tie as tie

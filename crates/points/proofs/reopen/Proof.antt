@@ -1,6 +1,5 @@
 -- `points::reopen` meets its contract: the cell is opened again and its word 1 is as it was. Rests on Writing.
 use Rattle.points.proofs.Writing.{reopened-written}
-use native.Mathlib.Omega.{arith}
 use borrow.Author.Needs.{needs}
 use Rattle.points.proofs.reopen.Statement.{statement}
 use Rattle.points.proofs.reopen.Tie as tie

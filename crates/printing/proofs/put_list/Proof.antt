@@ -1,12 +1,12 @@
 -- `printing::put_list` meets its contract. The invariant: what is left of the text, from a place inside the list and with the counts so far,
 -- gives what the whole gives.
 -- Rests on Walk, on writing's Writing and on sizes' Standing.
-use Prim.Native.Nat.{_*_, _-_, _≤_}
+use Prim.Native.Nat.{_*_, _≤_}
 use native.Mathlib.Omega.{arith}
 use lib.ListN.{length}
 use borrow.Author.Needs.{needs}
 use Rattle.reach.specs.Lists.{decodedFrom}
-use Rattle.reach.specs.Text.{textOf}
+use Rattle.lists.specs.Text.{textOf}
 use Rattle.sizes.proofs.Standing.{stands-inside}
 use Rattle.lines.specs.Counting.{Few}
 use Rattle.writing.proofs.Writing.{Left, left-whole, puts-length}

@@ -1,7 +1,7 @@
 -- `remburai::remburai_text_length` meets its contract: the number is that of the call's answer. Rests on Answers.
 use native.Mathlib.Omega.{arith}
 use borrow.Author.Needs.{needs}
-use Rattle.reach.specs.Printouts.{printoutOf, lengthAnswer}
+use Rattle.lists.specs.Printouts.{printoutOf, lengthAnswer}
 use Rattle.remburai.proofs.Answers.{length-text-small}
 use Rattle.remburai.proofs.remburai_text_length.Statement.{statement}
 use Rattle.remburai.proofs.remburai_text_length.Tie as tie

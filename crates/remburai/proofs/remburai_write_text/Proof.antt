@@ -2,7 +2,7 @@
 use native.Mathlib.Omega.{arith}
 use borrow.Author.Needs.{needs}
 use lib.ListN.{length}
-use Rattle.reach.specs.Printouts.{printoutOf, writeAnswer}
+use Rattle.lists.specs.Printouts.{printoutOf, writeAnswer}
 use Rattle.remburai.proofs.Answers.{write-text-small}
 use Rattle.remburai.proofs.remburai_write_text.Statement.{statement}
 use Rattle.remburai.proofs.remburai_write_text.Tie as tie

@@ -1,7 +1,7 @@
 -- `words::put_kind` meets its contract: each byte string is the word of its kind.
 -- Rests on nothing of this crate.
 use borrow.Author.Needs.{needs}
-use Rattle.reach.specs.Text.{kindWord}
+use Rattle.lists.specs.Text.{kindWord}
 use Rattle.words.proofs.put_kind.Tie as tie
 use Rattle.words.proofs.put_kind.Statement.{statement}
 

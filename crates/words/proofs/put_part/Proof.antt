@@ -2,7 +2,7 @@
 -- Rests on nothing of this crate.
 use borrow.Author.Tests.{eq-eqb, ne-eqb}
 use borrow.Author.Needs.{needs}
-use Rattle.reach.specs.Text.{partWord}
+use Rattle.lists.specs.Text.{partWord}
 use Rattle.words.proofs.put_part.Tie as tie
 use Rattle.words.proofs.put_part.Statement.{statement}
 

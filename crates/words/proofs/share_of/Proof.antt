@@ -4,7 +4,7 @@ use Prim.Native.Nat.{_+_}
 use borrow.Author.Tests.{eq-eqb, ne-eqb}
 use borrow.Author.Needs.{needs}
 use native.Mathlib.Omega.{arith}
-use Rattle.reach.specs.Text.{share}
+use Rattle.lists.specs.Text.{share}
 use Rattle.words.proofs.Share.{share-most}
 use Rattle.words.proofs.share_of.Tie as tie
 use Rattle.words.proofs.share_of.Statement.{statement}

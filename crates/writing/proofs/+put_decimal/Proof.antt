@@ -1,6 +1,6 @@
 -- `writing::put_decimal` meets its contract: the digits of the tenth are written first. The measure is the number.
 -- Rests on Writing and Digits.
-use Prim.Native.Nat.{ℕ, _+_, _/_, _<_}
+use Prim.Native.Nat.{ℕ, _/_, _<_}
 use native.Mathlib.Omega.{arith}
 use borrow.Author.Needs.{needs}
 use borrow.Fn.Kinds.{In}

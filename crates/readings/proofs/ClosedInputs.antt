@@ -11,20 +11,20 @@ use native.Mathlib.Omega.{arith}
 use lib.ListN.{length, drop, length-drop, drop-of-length-le}
 use lib.Dec.{ltb, leb}
 use borrow.Author.Tests.{ltb-false, le-ltb, leb-true, leb-false}
 use Rattle.reach.specs.declared.Refusal.the-variants.{BadInput}
 use Rattle.reach.specs.Limits.{depthLimit}
 use Rattle.reach.specs.Syntax.{Types, Program, sourceTypes}
 use Rattle.reach.specs.Parts.{Parts, end, opened, bound, Closed, depth, prefix}
 use Rattle.reach.specs.Types.{Typed, Slot, slotTypes, sourceSlots, depthOf, ClosedInput, Fits, WithinDepth, ValueOf}
 use Rattle.reach.specs.Reader.{Got, got, refused, onGot, Reader, _>>=_, _>>_, give, atEnd}
 use Rattle.reach.specs.Partial.{deepest, Keeps, built, inInputs, value, slotted}
 use Rattle.reach.specs.Input.{inputBy, readInput, inputOf}
 use Rattle.reach.specs.Answers.{accepted, check}
 use Rattle.reach.proofs.Base.{picked}
 use Rattle.reach.proofs.Limits.{IfFound, if-found-then, accepted-rooms, within-depth}
 use Rattle.reach.proofs.Slots.{source-types}
 use Rattle.reach.proofs.WellTyped.{open-apart}
-use Rattle.reach.proofs.Partial.{AllBelow, inputs-lawful, closed-deepest, row-one, value-read, slotted-finds, slotted-meets}
+use Rattle.readings.proofs.Partial.{AllBelow, inputs-lawful, closed-deepest, row-one, value-read, slotted-finds, slotted-meets}
 
 -- a closed row keeps its slots' depths exactly if it fits them
 keeps-fits : (types : Types) (ss : List Slot) (j : Parts) → Closed j → Keeps types ss j ↔ Fits ss j

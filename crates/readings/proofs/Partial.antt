@@ -5,21 +5,20 @@ use Prim.Native.Nat.{ℕ, zero, suc, max, _+_, _≤_, _<_}
 use mathlib.Core.Path.{_≡_, refl, sym, ap, subst, _∙_}
 use mathlib.Core.List.{List, [], _∷_, _++_, append-assoc, append-nil, head?, tail}
 use mathlib.Core.Logic.{_↔_}
-use mathlib.Core.Option.{some, Option·some-injective, Option·none-ne-some}
+use mathlib.Core.Option.{some, Option·none-ne-some}
 use native.Mathlib.Omega.{arith}
 use lib.ListN.{length, drop, getD}
 use lib.Dec.{eqb, leb}
 use borrow.Author.Tests.{eqb-true, ne-eqb, leb-true, le-leb}
-use Rattle.reach.specs.declared.Refusal.the-variants.{BadList}
-use Rattle.reach.specs.Base.{pick, Each}
+use Rattle.reach.specs.Base.{Each}
 use Rattle.reach.specs.Syntax.{Types, fieldTypes}
 use Rattle.reach.specs.Parts.{Parts, end, opened, bound, Closed, depth, prefix}
 use Rattle.reach.specs.Types.{Typed, Slot, slotTypes, leastDepths}
-use Rattle.reach.specs.Reader.{Got, got, refused, onGot, Reader, _>>=_, _>>_, refuse, orRefuse, demand, byte}
-use Rattle.reach.specs.Partial.{fieldsIn, deepest, Keeps, Value, unbound, built, _before_, deepOf, valuesBy, Manner, inEntries, inInputs, OpenApart, valueFrom, value, slotted}
+use Rattle.reach.specs.Reader.{Got, got, refused, Reader, _>>=_, _>>_, refuse, orRefuse, demand, byte}
+use Rattle.reach.specs.Partial.{fieldsIn, deepest, Keeps, Value, unbound, built, _before_, deepOf, valuesBy, Manner, inInputs, OpenApart, valueFrom, value, slotted}
 use Rattle.reach.proofs.Base.{clash, picked}
 use Rattle.reach.proofs.Limits.{IfFound, if-found-then}
 use Rattle.reach.proofs.Reading.{found-at, Reads, reads-none, reads-then, byte-finds, looked-finds, demand-finds, Found, byte-there}
 
 -- One value before the rest of its row.
 
@@ -47,16 +46,7 @@ pub record Lawful (types : Types) (m : Manner) (Allowed : Parts → Type 0) : Ty
   pub found : (t d : ℕ) → m .open-part t ≡ some d → (d ≡ getD (leastDepths types) t 0) × Allowed (opened end)
   pub met : Allowed (opened end) → (t : ℕ) → m .open-part t ≡ some (getD (leastDepths types) t 0)
 
--- entries may have open parts, and closed inputs have none
-pub entries-lawful : (types : Types) → Lawful types (inEntries (leastDepths types)) (λ e. Unit {0})
-entries-lawful types = record {
-  none-open = tt;
-  opens = λ r. (λ h. (tt, tt), λ h. tt);
-  bounds = λ c fs r. (λ h. (tt, tt), λ h. tt);
-  found = λ t d is. (sym (Option·some-injective _ d is), tt);
-  met = λ h t. refl;
-}
-
+-- closed inputs have no open part
 pub inputs-lawful : (types : Types) → Lawful types inInputs Closed
 inputs-lawful types = record {
   none-open = tt;
@@ -306,37 +296,3 @@ module _ (types : Types) (m : Manner) (Allowed : Parts → Type 0) (lawful : Law
       let first = (value-meets few levels s) .building (x .type) c us fs i (prefix r ++ rest) has inner (may .0) shallow (w ∙ ap (λ (y : List ℕ). c ∷ y) (append-assoc (prefix fs) (prefix r) rest)) in
       let outer = slotted-meets few levels s ss (below .1) (first .0) r rest (others, keeps .1) (may .1) (first .2) in
       (outer .0, rw (first .1, le-leb (suc (deepest types us fs)) (x .room) deep, outer .1, has) refl, outer .2)
-
--- Manners that read the same open parts read the same values.
-
-pub then-same : {A B : Type 0} (g : Got A) (f h : A → ℕ → Got B) → ((a : A) (k : ℕ) → f a k ≡ h a k) → onGot {B = Got B} f (λ why. refused why) g ≡ onGot {B = Got B} h (λ why. refused why) g
-then-same (got a k) f h same = same a k
-then-same (refused why) f h same = refl
-
-values-same : (one other : ℕ → Reader Value) (s : List ℕ) → ((t i : ℕ) → one t s i ≡ other t s i) → (ts : List ℕ) (i : ℕ) → valuesBy one ts s i ≡ valuesBy other ts s i
-unfolding valuesBy
-values-same one other s same [] i = refl
-values-same one other s same (t ∷ ts) i = rw (same t i) (then-same (other t s i) _ _ (λ v k. rw (values-same one other s same ts k) refl))
-
-module _ (types : Types) (table other : List ℕ) (same : (t : ℕ) → getD table t 0 ≡ getD other t 0) where
-  from-same : (s : List ℕ) (one two : List ℕ → Reader (Parts × ℕ)) → ((us : List ℕ) (i : ℕ) → one us s i ≡ two us s i) → (t b k : ℕ)
-      → valueFrom types (inEntries table) one t b s k ≡ valueFrom types (inEntries other) two t b s k
-  unfolding valueFrom
-  from-same s one two rows t b k =
-      rw (same t)
-      (ap (pick {A = Got Value} (eqb b 0xff) (got (unbound (getD other t 0)) k)) (then-same (orRefuse BadList (fieldTypes types t b) s k) _ _ (λ us j. rw (rows us j) refl)))
-
-  pub value-same : (levels : ℕ) (s : List ℕ) (t i : ℕ) → value types (inEntries table) levels t s i ≡ value types (inEntries other) levels t s i
-  unfolding value
-  value-same zero s t i = then-same (byte s i) _ _ (λ b k. from-same s _ _ (λ us j. refl) t b k)
-  value-same (suc levels) s t i =
-      then-same (byte s i) _ _
-      (λ b k. from-same s _ _ (λ us j. values-same (value types (inEntries table) levels) (value types (inEntries other) levels) s (λ u n. value-same levels s u n) us j) t b k)
-
-  pub slotted-same : (levels : ℕ) (s : List ℕ) (ss : List Slot) (i : ℕ) → slotted types (inEntries table) levels ss s i ≡ slotted types (inEntries other) levels ss s i
-  unfolding slotted
-  slotted-same levels s [] i = refl
-  slotted-same levels s (x ∷ ss) i =
-      rw (value-same levels s (x .type) i)
-      (then-same (value types (inEntries other) levels (x .type) s i) _ _
-      (λ v k. then-same (demand (leb (deepOf v) (x .room)) BadList s k) _ _ (λ u l. rw (slotted-same levels s ss l) refl)))

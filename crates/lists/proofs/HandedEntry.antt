@@ -10,24 +10,25 @@ use native.Mathlib.Omega.{arith}
 use lib.ListN.{length, getD, take, drop, length-take, take-append-drop}
 use lib.Dec.{leb}
 use borrow.Author.Tests.{lt-ltb}
 use Rattle.reach.specs.declared.Refusal.{Refusal}
 use Rattle.reach.specs.declared.Refusal.the-variants.{BadList}
 use Rattle.reach.specs.declared.Kind.{Kind}
 use Rattle.reach.specs.Base.{pick}
 use Rattle.reach.specs.Limits.{depthLimit}
 use Rattle.reach.specs.Syntax.{Types, Program}
 use Rattle.reach.specs.Places.{wordAt}
 use Rattle.reach.specs.Types.{Slot}
 use Rattle.reach.specs.Search.{Entry}
 use Rattle.reach.specs.Lists.{entryBytes, kindOf, entrySize}
 use Rattle.reach.specs.Reader.{Got, got, refused, onGot, _>>=_, _>>_, give, demand, byte, word}
-use Rattle.reach.specs.Partial.{inEntries, slotted}
-use Rattle.reach.specs.Handed.{Fitting, kindMark, spanning, entryBy, entry}
+use Rattle.reach.specs.Partial.{slotted}
+use Rattle.lists.specs.Handed.{Fitting, inEntries, kindMark, spanning, entryBy, entry}
 use Rattle.reach.proofs.Limits.{IfFound}
-use Rattle.reach.proofs.ReadBack.{size-of-entry}
-use Rattle.reach.proofs.Partial.{then-same, slotted-same}
+use Rattle.lists.proofs.ReadBack.{size-of-entry}
+use Rattle.reach.proofs.Reading.{then-same}
+use Rattle.lists.proofs.EntryValues.{slotted-same}
 use Rattle.reach.proofs.Reading.{Reads}
-use Rattle.reach.proofs.Handed.{entry-finds}
+use Rattle.lists.proofs.Handed.{entry-finds}
 
 module _ (types : Types) (table : List ℕ) (ss : List Slot) (limit : ℕ) (s : List ℕ) where
   byte-from : (j k : ℕ) → j < length s → k ≡ j + 1 → byte s j ≡ got (getD s j 0) k

@@ -11,21 +11,21 @@ use lib.ListN.{length, getD, take, drop, length-append, length-drop}
 use lib.Dec.{leb}
 use lib.Seq.{take-append-seam, drop-append-seam}
 use borrow.Author.Tests.{leb-true, leb-false, le-leb, lt-leb}
 use Rattle.reach.specs.declared.Refusal.{Refusal}
 use Rattle.reach.specs.declared.Refusal.the-variants.{TextTooShort, BadList}
 use Rattle.reach.specs.declared.Kind.{Kind}
 use Rattle.reach.specs.Base.{pick}
 use Rattle.reach.specs.Words.{OfFile}
 use Rattle.reach.specs.Syntax.{Program}
 use Rattle.reach.specs.Search.{Entry, kindsOf, counts}
 use Rattle.reach.specs.Lists.{listBytes, onFound, Decoded, sayingOf}
 use Rattle.reach.specs.Answers.{Checked, accepted, turnedBack, check, SearchAnswer, noSearch, complete, cutShort, searchAnswer, listed}
-use Rattle.reach.specs.Text.{lineSaying, lastLine, textOf, text, listText}
-use Rattle.reach.specs.Handed.{IsList, handed}
-use Rattle.reach.specs.Printouts.{wasCut, Printout, noPrintout, printout, printoutChecked, printoutOf, noText, ofLength, lengthAnswer, writeAnswer, textSlice}
+use Rattle.lists.specs.Text.{lineSaying, lastLine, textOf, text, listText}
+use Rattle.lists.specs.Handed.{IsList, handed}
+use Rattle.lists.specs.Printouts.{wasCut, Printout, noPrintout, printout, printoutChecked, printoutOf, noText, ofLength, lengthAnswer, writeAnswer, textSlice}
 use Rattle.reach.proofs.Base.{clash}
 use Rattle.reach.proofs.Refusals.{turned-back-by}
-use Rattle.reach.proofs.Handed.{handed-reads, handed-exactly, listed-handed, handed-text}
+use Rattle.lists.proofs.Handed.{handed-reads, handed-exactly, listed-handed, handed-text}
 
 -- by the answer of the check
 by-check : (file list : List ℕ) (full : Bool) (c : Checked) → check file ≡ c → printoutOf file list full ≡ printoutChecked list full c

@@ -11,34 +11,35 @@ use native.Mathlib.Omega.{arith}
 use lib.ListN.{length, drop, getD, length-append, length-drop, drop-of-length-le}
 use lib.Dec.{eqb, leb, ltb}
 use borrow.Author.Tests.{eqb-true, eq-eqb, leb-true, le-leb, lt-leb}
 use Rattle.reach.specs.declared.Refusal.the-variants.{BadList}
 use Rattle.reach.specs.declared.Kind.{Kind}
 use Rattle.reach.specs.declared.Kind.the-variants.{RE, UN, MI}
 use Rattle.reach.specs.Base.{pick, _∈_, Each}
 use Rattle.reach.specs.Limits.{listLimit, depthLimit}
 use Rattle.reach.specs.Syntax.{Types, Program}
 use Rattle.reach.specs.Parts.{Parts, end, opened, bound, prefix}
 use Rattle.reach.specs.Types.{Typed, Slot, slots, evenSlots, sourceSlots, slotTypes, leastDepths}
 use Rattle.reach.specs.Search.{Entry, entries}
 use Rattle.reach.specs.Lists.{wordBytes, kindBytes, entryBytes, listBytes, isMark, kindOf, sayingOf}
 use Rattle.reach.specs.Answers.{accepted, check, searchAnswer, listed}
-use Rattle.reach.specs.Text.{textOf, listText}
+use Rattle.lists.specs.Text.{textOf, listText}
 use Rattle.reach.specs.Reader.{Got, got, refused, onGot, Reader, orRefuse, demand, byte, word}
-use Rattle.reach.specs.Partial.{deepest, Keeps, inEntries, slotted, OpenApart}
-use Rattle.reach.specs.Handed.{Fitting, IsList, kindMark, spanning, entryBy, entry, entriesBy, handed}
+use Rattle.reach.specs.Partial.{deepest, Keeps, slotted, OpenApart}
+use Rattle.lists.specs.Handed.{Fitting, IsList, inEntries, kindMark, spanning, entryBy, entry, entriesBy, handed}
 use Rattle.reach.proofs.Base.{clash, picked, each-member, member-each}
 use Rattle.reach.proofs.Limits.{IfFound, if-found-then, accepted-keeps, accepted-rooms}
 use Rattle.reach.proofs.Slots.{source-types}
 use Rattle.reach.proofs.LeastDepths.{shallow-head}
 use Rattle.reach.proofs.Depths.{Fit}
 use Rattle.reach.proofs.EntryLength.{entry-within}
 use Rattle.reach.proofs.Answers.{listed-in}
 use Rattle.reach.proofs.Accepted.{entry-typed, entry-fit}
-use Rattle.reach.proofs.ReadBack.{two-bytes, listed-fits}
-use Rattle.reach.proofs.Text.{entry-some, list-some, list-text}
+use Rattle.lists.proofs.ReadBack.{two-bytes, listed-fits}
+use Rattle.lists.proofs.Text.{entry-some, list-some, list-text}
 use Rattle.reach.proofs.Reading.{found-at, found-as, Reads, reads-none, reads-then, byte-finds, looked-finds, demand-finds, Found, byte-there}
 use Rattle.reach.proofs.WellTyped.{open-apart}
-use Rattle.reach.proofs.Partial.{AllBelow, entries-lawful, slotted-finds, slotted-meets}
+use Rattle.readings.proofs.Partial.{AllBelow, slotted-finds, slotted-meets}
+use Rattle.lists.proofs.EntryValues.{entries-lawful}
 
 -- two bytes that are the mark of a kind are that mark
 mark-is : (k : Kind) (a b : ℕ) → isMark k a b ≡ true → kindBytes k ≡ a ∷ b ∷ []

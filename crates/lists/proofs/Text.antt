@@ -1,7 +1,7 @@
 -- The printed text by the bytes of a list is the text of the list: what `reachlist` prints of the bytes that a search wrote is what 01 says
 -- of the search's answer.
 -- Rests on Text of specs/ and on ReadBack (an entry is read back from its bytes).
-use Prim.Native.Nat.{ℕ, zero, suc, _+_, _≤_, _<_}
+use Prim.Native.Nat.{ℕ, zero, suc, _≤_, _<_}
 use native.Mathlib.Omega.{arith}
 use mathlib.Core.Path.{_≡_, refl, ap, _∙_}
 use mathlib.Core.Bool.{Bool, true, false}
@@ -9,17 +9,17 @@ use mathlib.Core.List.{List, [], _∷_, _++_, map, flatMap, append-assoc, List·
 use mathlib.Core.Option.{none}
 use lib.ListN.{length, take, length-append}
 use lib.Seq.{take-append-seam, drop-append-seam, take-all}
 use Rattle.reach.specs.declared.Refusal.{Refusal}
 use Rattle.reach.specs.Base.{_∈_}
 use Rattle.reach.specs.Limits.{listLimit}
 use Rattle.reach.specs.declared.Kind.{Kind}
 use Rattle.reach.specs.declared.Kind.the-variants.{RE, UN, MI}
 use Rattle.reach.specs.Search.{Entry}
 use Rattle.reach.specs.Lists.{kindBytes, entryBytes, listBytes, entrySize, Decoded, sayingOf, decodedFrom}
 use Rattle.reach.specs.Answers.{Checked, accepted, turnedBack, check, SearchAnswer, noSearch, complete, cutShort, searchChecked, searchAnswer, listed}
-use Rattle.reach.specs.Text.{refusalLine, textOf, text, listText}
+use Rattle.lists.specs.Text.{refusalLine, textOf, text, listText}
 use Rattle.reach.proofs.Answers.{listed-in}
-use Rattle.reach.proofs.ReadBack.{Small, size-behind, size-of-entry, decoded-entry, entry-steps, listed-small, listed-fits}
+use Rattle.lists.proofs.ReadBack.{Small, size-behind, size-of-entry, decoded-entry, entry-steps, listed-small, listed-fits}
 
 -- the steps of each entry fit their two bytes
 abbrev pub FewSteps : List Entry → Type 0

@@ -6,13 +6,13 @@ use mathlib.Core.Bool.{Bool, true, false}
 use mathlib.Core.List.{List, _++_, map}
 use lib.ListN.{length, drop}
 use lib.Dec.{leb}
 use Rattle.reach.specs.declared.Refusal.{Refusal}
 use Rattle.reach.specs.declared.Refusal.the-variants.{TextTooShort, BadList}
 use Rattle.reach.specs.Base.{pick}
 use Rattle.reach.specs.Lists.{onFound, sayingOf}
 use Rattle.reach.specs.Answers.{Checked, accepted, turnedBack, check, SearchAnswer, noSearch, complete, cutShort}
-use Rattle.reach.specs.Text.{textOf}
-use Rattle.reach.specs.Handed.{handed}
+use Rattle.lists.specs.Text.{textOf}
+use Rattle.lists.specs.Handed.{handed}
 
 -- whether a search ended in 12, which both calls are told
 abbrev pub wasCut : SearchAnswer → Bool

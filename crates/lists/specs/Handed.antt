@@ -6,19 +6,19 @@ use Prim.Native.Nat.{ℕ, zero, suc, _+_, _≤_, _<_}
 use mathlib.Core.Path.{_≡_}
 use mathlib.Core.List.{List, [], _∷_}
 use mathlib.Core.Option.{Option, none, some}
-use lib.ListN.{length}
+use lib.ListN.{length, getD}
 use lib.Dec.{leb, eqb}
 use Rattle.reach.specs.declared.Refusal.the-variants.{BadList}
 use Rattle.reach.specs.declared.Kind.{Kind}
 use Rattle.reach.specs.Base.{pick, Each}
 use Rattle.reach.specs.Limits.{listLimit, depthLimit}
 use Rattle.reach.specs.Syntax.{Types, Program, sourceTypes}
 use Rattle.reach.specs.Parts.{prefix}
 use Rattle.reach.specs.Types.{Typed, Slot, sourceSlots, leastDepths}
 use Rattle.reach.specs.Search.{Entry}
 use Rattle.reach.specs.Lists.{listBytes, kindOf}
 use Rattle.reach.specs.Reader.{Got, got, refused, onGot, Reader, _>>=_, _>>_, give, orRefuse, demand, byte, word}
-use Rattle.reach.specs.Partial.{Keeps, inEntries, slotted}
+use Rattle.reach.specs.Partial.{Keeps, Manner, slotted}
 
 -- an entry that may stand in such a list: "with parameters of the rule file's types and depths (an open part is as deep as its type's least depth) and at most
 -- S steps"; and two bytes hold the length of its parameters
@@ -33,6 +33,10 @@ pub record IsList (p : Program) (list : List ℕ) (es : List Entry) : Type 0 whe
   pub bytes-are : listBytes es ≡ list
   pub each-fits : Each (Fitting p) es
   pub in-limit : length list ≤ listLimit
+
+-- the entries of a list: an open part is as deep as this table of least depths says; 02, Slip 2
+abbrev pub inEntries : List ℕ → Manner
+inEntries table = record { open-part = λ t. some (getD table t 0); misfit = BadList }
 
 -- the mark of an entry
 unfoldable pub kindMark : Reader Kind

@@ -1,0 +1,4 @@
+pub mod Text
+pub mod Handed
+pub mod Printouts
+pub mod Examples

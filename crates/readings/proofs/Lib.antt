@@ -1,0 +1,3 @@
+pub mod Partial
+pub mod ClosedInputs
+pub mod Demands
