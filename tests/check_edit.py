@@ -5,7 +5,9 @@ import importlib.util
 import os
 import subprocess
 import sys
+from contextlib import redirect_stdout
 from importlib.machinery import SourceFileLoader
+from io import StringIO
 from tempfile import TemporaryDirectory
 
 sys.dont_write_bytecode = True
@@ -48,15 +50,18 @@ SAID = [  # what a check says, its exit status; how many errors are shown, the e
 ]
 
 
+def write(path, text):
+    os.makedirs(os.path.dirname(path), exist_ok=True)
+    with open(path, "w", encoding="utf-8") as file:
+        file.write(text)
+
+
 def check_edits(folder):
     """Edits of a crate whose code is CODE."""
-    os.makedirs(os.path.join(folder, "crates", "c", "src"))
-    with open(os.path.join(folder, "crates", "c", "src", "lib.rt"), "w", encoding="utf-8") as file:
-        file.write(CODE)
+    write(os.path.join(folder, "crates", "c", "src", "lib.rt"), CODE)
     edit.ROOT, path = folder, os.path.join(folder, "try.edit")
     for text, wanted in {**FITTING, **FAULTY}.items():
-        with open(path, "w", encoding="utf-8") as file:
-            file.write(text)
+        write(path, text)
         try:
             got = edit.edited("c", path)["src/lib.rt"]
         except edit.Fault as fault:
@@ -69,6 +74,26 @@ def check_sayings():
         found = edit.errors(log, "/room")
         same(f"the errors of {log!r}", found, shown)
         same(f"the exit status for {log!r}", edit.judged("c/try", log, status, found)[1], wanted)
+
+
+def check_kept(folder):
+    """The logs that were kept of two edits: both false, one that names what is not there, one that was not refused, and one that has no log."""
+    edit.ROOT = folder
+    for name in "first", "second":
+        write(os.path.join(folder, "crates", "c", "must-fail", name + ".edit"), "")
+    for log, wanted in [(FALSE, 0), (UNFIT, 1), ("logic=proved functions=1\n", 1), (None, "there is no log of c/second: 'rt must-fail' writes it")]:
+        room = os.path.join(folder, "target", "must-fail", "c")
+        write(os.path.join(room, "first", ".log"), FALSE)
+        if log is None:
+            os.remove(os.path.join(room, "second", ".log"))
+        else:
+            write(os.path.join(room, "second", ".log"), log)
+        try:
+            with redirect_stdout(StringIO()):
+                got = edit.check_logs()
+        except edit.Fault as fault:
+            got = str(fault)
+        same(f"what is said of the logs with {log!r}", got, wanted)
 
 
 def check_commands():
@@ -85,6 +110,7 @@ def main():
         check_sayings()
         with TemporaryDirectory() as folder:
             check_edits(folder)
+            check_kept(folder)
     except Different as different:
         print(f"tools/edit: {different}", file=sys.stderr)
         return 1
