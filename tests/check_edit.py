@@ -37,11 +37,11 @@ FAULTY = {
     "file: src/../must-fail/try.edit\nold: one\nnew: two\n": "'file: src/../must-fail/try.edit' is neither in src/ nor in specs/",
     "old: one\nnew: two\n": "'file: None' is neither in src/ nor in specs/",
 }
-FALSE = "/room/crates/c/proofs/one/Proof.antt:2:5: error: `returns`: 1 is not 2\n  so it is not\nnote: of this\n  nothing\nlogic=not-proved\n"
+FALSE = "/room/crates/c/proofs/one/Proof.antt:2:5: error: `returns`: 1 is not 2\n  `A` is not in scope here\nnote: of this\n  nothing\nlogic=not-proved\n"
 MADE = "note: /room/crates/c/src/lib.rt:7:1: it is not proved\nfn c::one: not proved\nlogic=not-proved\n"
 UNFIT = "/room/crates/c/proofs/one/Proof.antt:2:5: error: `returns`: record `After` has no field `two`\nlogic=not-proved\n"
 SAID = [  # what a check says, its exit status; how many errors are shown, the exit status of the tool
-    (FALSE, 1, ["crates/c/proofs/one/Proof.antt:2:5: error: `returns`: 1 is not 2\n  so it is not"], 0),
+    (FALSE, 1, ["crates/c/proofs/one/Proof.antt:2:5: error: `returns`: 1 is not 2\n  `A` is not in scope here"], 0),
     (MADE, 1, ["note: crates/c/src/lib.rt:7:1: it is not proved"], 0),
     (UNFIT, 1, ["crates/c/proofs/one/Proof.antt:2:5: error: `returns`: record `After` has no field `two`"], 1),
     ("logic=proved functions=1\n", 0, [], 1),

@@ -24,7 +24,7 @@ use Rattle.lookups.specs.Heads.{headOf}
 use Rattle.lookups.proofs.Tables.{parameters-many}
 use Rattle.bodies.specs.declared.Judged.{Judged}
 use Rattle.bodies.specs.declared.Judged.the-variants as Judged
-use Rattle.expressions.specs.Readers.{declared, expressionAt, Small}
+use Rattle.expressions.specs.Readers.{declared, expressionAt, TablesSmall}
 use Rattle.expressions.proofs.Passing.{both-next}
 use Rattle.bodies.specs.Check.{bodyAt, BodyThere, bodiesOf}
 
@@ -69,7 +69,7 @@ module _ (file : List ℕ) (place : ℕ) (h : Looked.Head) (is : headOf file h �
 
 -- a function of the table has few parameters
 pub few-parameters :
-    {file types functions : List ℕ} {f : ℕ} → Small file types functions → f < length functions
+    {file types functions : List ℕ} {f : ℕ} → TablesSmall file types functions → f < length functions
     → (h : Looked.Head) → headOf file h ≡ headAt file (getD functions f 0) → h .count ≤ 8
 few-parameters {file} {f = f} small more h is = omega (arith, parameters-many file h is, small .parameters-limit f more)
 

@@ -4,7 +4,7 @@ ghost use mathlib.Core.Path.{_≡_};
 ghost use Prim.Native.Nat.{_<_};
 ghost use lib.ListN.{length, getD};
 ghost use Rattle.typerecord.specs.Passed.{passedOf};
-ghost use Rattle.expressions.specs.Readers.{Small};
+ghost use Rattle.expressions.specs.Readers.{TablesSmall};
 ghost use Rattle.bodies.specs.Check.{BodyThere, bodyAt, BodiesThere, functionsAt, bodiesOf};
 use expressions::View;
 use expressions::expression;
@@ -23,7 +23,7 @@ pub enum Judged {
 
 // The body of function f, and nothing behind its expression.
 fn body_of<'a>(file: &'a [u8], types: &'a [u16], functions: &'a [u16], f: usize) -> Passed
-    requires { ⌜ Small (now file) (now types) (now functions) × (f < length (now functions)) × BodyThere (now file) (getD (now functions) f 0) ⌝ }
+    requires { ⌜ TablesSmall (now file) (now types) (now functions) × (f < length (now functions)) × BodyThere (now file) (getD (now functions) f 0) ⌝ }
     ensures { λ r. ⌜ r ≡ passedOf (bodyAt (now (file .entry)) (now (types .entry)) (now (functions .entry)) (getD (now (functions .entry)) f 0)) ⌝ }
 {
     let head = head_of(file, functions, f);
@@ -55,7 +55,7 @@ fn body_of<'a>(file: &'a [u8], types: &'a [u16], functions: &'a [u16], f: usize)
 
 // All bodies, in file order.
 pub fn bodies<'a>(file: &'a [u8], types: &'a [u16], functions: &'a [u16]) -> Judged
-    requires { ⌜ Small (now file) (now types) (now functions) × BodiesThere (now file) (now functions) ⌝ }
+    requires { ⌜ TablesSmall (now file) (now types) (now functions) × BodiesThere (now file) (now functions) ⌝ }
     ensures { λ r. ⌜ r ≡ bodiesOf (passedOf (functionsAt (now (file .entry)) (now (types .entry)) (now (functions .entry)))) ⌝ }
 {
     let mut f: usize = 0;

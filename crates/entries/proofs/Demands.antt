@@ -1,5 +1,5 @@
 -- What the contract of `entry` says of the part that is handed back, in one: its bytes are those that stand in the caller's list from its place on.
--- Rests on specs/Spans and on reach's ReadBack.
+-- Rests on specs/Spans and on lists' ReadBack.
 use Prim.Native.Nat.{ℕ, _+_, _≤_}
 use mathlib.Core.Path.{_≡_, refl}
 use mathlib.Core.List.{List, []}

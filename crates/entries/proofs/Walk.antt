@@ -1,5 +1,5 @@
 -- The walk from entry to entry, for the proof of `span_of`: what one size that was found, or not found, says of the whole.
--- Rests on sizes' Standing and on ReadBack of crate reach, for the definition's own steps.
+-- Rests on sizes' Standing and on ReadBack of crate lists, for the definition's own steps.
 use Prim.Native.Nat.{ℕ, _+_, _-_, _≤_, _<_}
 use mathlib.Core.Path.{_≡_, sym, ap, _∙_}
 use mathlib.Core.List.{List}

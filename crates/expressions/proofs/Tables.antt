@@ -8,7 +8,7 @@ use Rattle.reach.specs.Places.{bytesAt, constructorsAt, typeAt}
 use Rattle.reach.proofs.Places.{bytes-length}
 use Rattle.lookups.specs.declared.Constructors.{Constructors}
 use Rattle.lookups.proofs.Tables.{constructors-more, constructor-first}
-use Rattle.expressions.specs.Readers.{Narrow, Small}
+use Rattle.expressions.specs.Readers.{Narrow, TablesSmall}
 
 -- narrow constructors: the first has few fields, and the others are narrow
 module _ (s : List ℕ) (i n : ℕ) (more : 0 < n) (narrow : Narrow (constructorsAt s i n)) {fields : ℕ} (same : fields ≡ getD s i 0) where
@@ -21,6 +21,6 @@ module _ (s : List ℕ) (i n : ℕ) (more : 0 < n) (narrow : Narrow (constructor
 
 -- the constructors of a type that the table has are narrow
 pub narrow-type : {file types functions : List ℕ} {t : ℕ} (all : Constructors)
-    → Small file types functions → t < length types → constructorsAt file (all .at) (all .count) ≡ typeAt file (getD types t 0)
+    → TablesSmall file types functions → t < length types → constructorsAt file (all .at) (all .count) ≡ typeAt file (getD types t 0)
     → Narrow (constructorsAt file (all .at) (all .count))
 narrow-type {t} all small h is = rw is (small .fields-limit t h)

@@ -30,7 +30,7 @@ abbrev pub Narrow : List (List ℕ) → Type 0
 Narrow cs = (c : ℕ) (us : List ℕ) → getElem? cs c ≡ some us → length us ≤ fieldLimit
 
 -- The tables keep to the limits of the first pass.
-pub record Small (file types functions : List ℕ) : Type 0 where
+pub record TablesSmall (file types functions : List ℕ) : Type 0 where
   pub fields-limit : (t : ℕ) → t < length types → Narrow (typeAt file (getD types t 0))
   pub parameters-limit : (f : ℕ) → f < length functions → length ((headAt file (getD functions f 0)) .parameters) ≤ parameterLimit
 

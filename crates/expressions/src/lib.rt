@@ -5,7 +5,7 @@ ghost use mathlib.Core.List.{[], _∷_, _++_};
 ghost use Prim.Native.Nat.{_+_, _≤_};
 ghost use Rattle.reach.specs.Places.{bytesAt, constructorsAt};
 ghost use Rattle.typerecord.specs.Passed.{passedOf};
-ghost use Rattle.expressions.specs.Readers.{viewOf, Limits, Small, Narrow, variableAt, callAt, constructAt, caseAt, letAt, targetAt, expressionAt, operandsAt, alternativeAt, alternativesAt};
+ghost use Rattle.expressions.specs.Readers.{viewOf, Limits, TablesSmall, Narrow, variableAt, callAt, constructAt, caseAt, letAt, targetAt, expressionAt, operandsAt, alternativeAt, alternativesAt};
 use lookups::Fields;
 use lookups::constructors_of;
 use lookups::fields_of;
@@ -98,7 +98,7 @@ pub fn expression<'a>(
     view: View,
     expected: usize,
 ) -> Passed
-    requires { ⌜ Small (now file) (now types) (now functions) × (view .count ≤ 38) ⌝ }
+    requires { ⌜ TablesSmall (now file) (now types) (now functions) × (view .count ≤ 38) ⌝ }
     ensures { λ r. ⌜ r ≡ passedOf (expressionAt (now (file .entry)) (now (types .entry)) (now (functions .entry)) left (viewOf view) expected (now (body .entry)) at) ⌝ }
 {
     let Taken::Byte(code, next) = take_byte(body, at) else {
@@ -126,7 +126,7 @@ fn call<'a>(
     view: View,
     expected: usize,
 ) -> Passed
-    requires { ⌜ Small (now file) (now types) (now functions) × (view .count ≤ 38) ⌝ }
+    requires { ⌜ TablesSmall (now file) (now types) (now functions) × (view .count ≤ 38) ⌝ }
     ensures { λ r. ⌜ r ≡ passedOf (callAt (now (file .entry)) (now (types .entry)) (now (functions .entry)) left (viewOf view) expected (now (body .entry)) at) ⌝ }
 {
     let Taken::Byte(number, next) = take_byte(body, at) else {
@@ -167,7 +167,7 @@ fn construct<'a>(
     view: View,
     expected: usize,
 ) -> Passed
-    requires { ⌜ Small (now file) (now types) (now functions) × (view .count ≤ 38) ⌝ }
+    requires { ⌜ TablesSmall (now file) (now types) (now functions) × (view .count ≤ 38) ⌝ }
     ensures { λ r. ⌜ r ≡ passedOf (constructAt (now (file .entry)) (now (types .entry)) (now (functions .entry)) left (viewOf view) expected (now (body .entry)) at) ⌝ }
 {
     let Taken::Byte(number, middle) = take_byte(body, at) else {
@@ -210,7 +210,7 @@ fn case<'a>(
     view: View,
     expected: usize,
 ) -> Passed
-    requires { ⌜ Small (now file) (now types) (now functions) × (view .count ≤ 38) ⌝ }
+    requires { ⌜ TablesSmall (now file) (now types) (now functions) × (view .count ≤ 38) ⌝ }
     ensures { λ r. ⌜ r ≡ passedOf (caseAt (now (file .entry)) (now (types .entry)) (now (functions .entry)) left (viewOf view) expected (now (body .entry)) at) ⌝ }
 {
     let Taken::Byte(number, next) = take_byte(body, at) else {
@@ -253,7 +253,7 @@ fn let_expression<'a>(
     view: View,
     expected: usize,
 ) -> Passed
-    requires { ⌜ Small (now file) (now types) (now functions) × (view .count ≤ 38) ⌝ }
+    requires { ⌜ TablesSmall (now file) (now types) (now functions) × (view .count ≤ 38) ⌝ }
     ensures { λ r. ⌜ r ≡ passedOf (letAt (now (file .entry)) (now (types .entry)) (now (functions .entry)) left (viewOf view) expected (now (body .entry)) at) ⌝ }
 {
     let Taken::Byte(number, next) = take_byte(body, at) else {
@@ -293,7 +293,7 @@ fn target<'a>(
     view: View,
     expected: usize,
 ) -> Passed
-    requires { ⌜ Small (now file) (now types) (now functions) × (view .count ≤ 38) ⌝ }
+    requires { ⌜ TablesSmall (now file) (now types) (now functions) × (view .count ≤ 38) ⌝ }
     ensures { λ r. ⌜ r ≡ passedOf (targetAt (now (file .entry)) (now (types .entry)) (now (functions .entry)) left (viewOf view) expected (now (body .entry)) at) ⌝ }
 {
     let Taken::Byte(_, next) = take_byte(body, at) else {
@@ -317,7 +317,7 @@ fn operands<'a>(
     first: usize,
     n: usize,
 ) -> Passed
-    requires { ⌜ Small (now file) (now types) (now functions) × (view .count ≤ 38) × (first ≤ 1000000) × (n ≤ 255) ⌝ }
+    requires { ⌜ TablesSmall (now file) (now types) (now functions) × (view .count ≤ 38) × (first ≤ 1000000) × (n ≤ 255) ⌝ }
     ensures { λ r. ⌜ r ≡ passedOf (operandsAt (now (file .entry)) (now (types .entry)) (now (functions .entry)) left (viewOf view) (bytesAt (now (file .entry)) first n) (now (body .entry)) at) ⌝ }
 {
     let mut place = at;
@@ -357,7 +357,7 @@ fn alternatives<'a>(
     n: usize,
     expected: usize,
 ) -> Passed
-    requires { ⌜ Small (now file) (now types) (now functions) × (view .count ≤ 32) × (constructors ≤ 65536) × (n ≤ 255) × Narrow (constructorsAt (now file) constructors n) ⌝ }
+    requires { ⌜ TablesSmall (now file) (now types) (now functions) × (view .count ≤ 32) × (constructors ≤ 65536) × (n ≤ 255) × Narrow (constructorsAt (now file) constructors n) ⌝ }
     ensures { λ r. ⌜ r ≡ passedOf (alternativesAt (now (file .entry)) (now (types .entry)) (now (functions .entry)) left (viewOf view) expected (constructorsAt (now (file .entry)) constructors n) (now (body .entry)) at) ⌝ }
 {
     let mut place = at;
@@ -400,7 +400,7 @@ fn alternative<'a>(
     n: usize,
     expected: usize,
 ) -> Passed
-    requires { ⌜ Small (now file) (now types) (now functions) × (view .count ≤ 32) × (fields ≤ 1000000) × (n ≤ 6) ⌝ }
+    requires { ⌜ TablesSmall (now file) (now types) (now functions) × (view .count ≤ 32) × (fields ≤ 1000000) × (n ≤ 6) ⌝ }
     ensures { λ r. ⌜ r ≡ passedOf (alternativeAt (now (file .entry)) (now (types .entry)) (now (functions .entry)) left (viewOf view) expected (bytesAt (now (file .entry)) fields n) (now (body .entry)) at) ⌝ }
 {
     let Taken::Byte(b, next) = take_byte(body, at) else {

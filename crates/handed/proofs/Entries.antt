@@ -1,5 +1,5 @@
 -- One entry of a list that is handed in: its header, then its parameters.
--- Rests on Fits, on rows' Values and Rows, and on reach's HandedEntry.
+-- Rests on Fits, on rows' Values and Rows, and on lists' HandedEntry.
 use Prim.Native.Nat.{ℕ, _+_, _≤_, _<_}
 use mathlib.Core.Path.{_≡_, refl, sym, _∙_, ap}
 use mathlib.Core.Bool.{Bool, true, false}

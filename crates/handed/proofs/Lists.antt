@@ -1,5 +1,5 @@
 -- A list that is handed in, entry by entry: what the loop over its entries comes to.
--- Rests on Fits and on reach's Handed and HandedEntry.
+-- Rests on Fits and on lists' Handed and HandedEntry.
 use Prim.Native.Nat.{ℕ, zero, suc, _-_, _≤_, _<_}
 use mathlib.Core.Path.{_≡_, refl, sym, _∙_, subst}
 use mathlib.Core.Bool.{Bool, true, false}
@@ -20,7 +20,7 @@ use Rattle.reach.specs.Lists.{onFound, entrySize}
 use Rattle.reach.specs.Reader.{Got, got, refused, onGot}
 use Rattle.lists.specs.Handed.{entry, entriesBy, handed}
 use Rattle.lists.proofs.HandedEntry.{none-read, entry-same}
-use Rattle.handed.specs.Fits.{entryAt, Told, Given}
+use Rattle.handed.specs.Fits.{entryAt, Told, AcceptedTables}
 
 -- entries were found
 abbrev pub found : Got (List Entry) → Bool
@@ -31,7 +31,7 @@ found-is : (g : Got (List Entry)) → onFound false (λ es. true) (onGot {B = Op
 found-is (got es next) = refl
 found-is (refused why) = refl
 
-module _ {file types functions table : List ℕ} {source : ℕ} {depths : List ℕ} {steps : ℕ} {p : Program} (given : Given file types functions table source depths steps p) (list : List ℕ) where
+module _ {file types functions table : List ℕ} {source : ℕ} {depths : List ℕ} {steps : ℕ} {p : Program} (given : AcceptedTables file types functions table source depths steps p) (list : List ℕ) where
   -- the file's entries are read as the places tell
   pub entry-is : (i : ℕ) → entry p list i ≡ entryAt file types functions table source depths steps list i
   unfolding sourceSlots

@@ -1,5 +1,5 @@
--- Entries of a list that is handed in, as reach's Handed reads them, the types being those at the places of a checked file.
--- Rests on reach's Handed and Places.
+-- Entries of a list that is handed in, as lists' Handed reads them, the types being those at the places of a checked file.
+-- Rests on lists' Handed and reach's Places.
 use Prim.Native.Nat.{ℕ}
 use mathlib.Core.Path.{_≡_}
 use mathlib.Core.Bool.{Bool, true, false}
@@ -26,7 +26,7 @@ Told g next true = (e : Entry) × (g ≡ got e next)
 Told g next false = (why : Refusal) × (g ≡ refused why)
 
 -- The tables and the goal are those of an accepted file.
-pub record Given (file types functions table : List ℕ) (source : ℕ) (depths : List ℕ) (steps : ℕ) (p : Program) : Type 0 where
+pub record AcceptedTables (file types functions table : List ℕ) (source : ℕ) (depths : List ℕ) (steps : ℕ) (p : Program) : Type 0 where
   pub checked : check file ≡ accepted p
   pub types-there : p .types ≡ map (typeAt file) types
   pub source-there : sourceTypes p ≡ (headAt file (getD functions source 0)) .parameters
@@ -37,4 +37,4 @@ pub record Given (file types functions table : List ℕ) (source : ℕ) (depths 
 -- refusal 14 is not given: the list is read as entries
 abbrev pub FitsList : List ℕ → List ℕ → List ℕ → List ℕ → ℕ → List ℕ → ℕ → List ℕ → Bool → Type 0
 FitsList file types functions table source depths steps list r =
-    (p : Program) → Given file types functions table source depths steps p → r ≡ onFound false (λ es. true) (handed p list)
+    (p : Program) → AcceptedTables file types functions table source depths steps p → r ≡ onFound false (λ es. true) (handed p list)

@@ -1,5 +1,5 @@
 -- The pieces of a line behind one another, and how long they are.
--- Rests on Writing and Digits of crate writing, and on Text of crate reach.
+-- Rests on Writing and Digits of crate writing, and on Text of crate lists.
 use Prim.Native.Nat.{ℕ, suc, _+_, _≤_, _<_}
 use mathlib.Core.List.{List, [], _∷_, map, flatMap}
 use native.Mathlib.Omega.{arith}

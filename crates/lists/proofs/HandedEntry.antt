@@ -1,6 +1,6 @@
 -- One entry of a list that is handed in, read by its size: where an entry stands with a whole header and inside the bytes, it fits exactly if its steps and its
 -- parameters do; where none stands, none is read.
--- Rests on Handed and ReadBack.
+-- Rests on Handed, EntryValues and ReadBack.
 use Prim.Native.Nat.{ℕ, suc, _+_, _≤_, _<_}
 use mathlib.Core.Path.{_≡_, refl, sym, ap, _∙_}
 use mathlib.Core.Bool.{Bool, true, false}

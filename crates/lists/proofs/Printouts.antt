@@ -1,5 +1,5 @@
 -- The printed text of a list that is handed in: each refusal is given under its condition, and of what a search wrote the text is that of the search's answer.
--- Rests on specs/Printouts, on Handed (refusal 14) and on Refusals (those of the file).
+-- Rests on specs/Printouts, on Handed (refusal 14) and on reach's Refusals (those of the file).
 use Prim.Native.Nat.{ℕ, _≤_, _<_}
 use mathlib.Core.Path.{_≡_, refl, sym, ap, _∙_}
 use mathlib.Core.Bool.{Bool, true, false}

@@ -1,7 +1,7 @@
 -- Reading a list back: 01, "The list". The entry of a given number of a list that a search wrote is that entry's bytes, whatever stands
 -- behind the list. Beyond the last entry of a list with nothing behind it the part is empty. An entry's bytes determine its kind, its steps
 -- and its prefix form.
--- Rests on Lists of specs/, on EntryLength and Limits (what fits two bytes) and on Answers (a written list fits its room).
+-- Rests on reach's Lists, on its EntryLength and Limits (what fits two bytes) and its Answers (a written list fits its room).
 use Prim.Native.Nat.{ℕ, zero, suc, _+_, _*_, _-_, _/_, _%_, _≤_, _<_, min}
 use native.Mathlib.Omega.{arith}
 use mathlib.Core.Path.{_≡_, refl, sym, ap, subst, _∙_}

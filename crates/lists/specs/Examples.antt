@@ -8,7 +8,7 @@ use mathlib.Core.List.{List, [], _∷_, map}
 use Rattle.reach.specs.declared.Refusal.the-variants.{Truncated, TextTooShort, BadList}
 use Rattle.reach.specs.Answers.{searchAnswer}
 use Rattle.reach.specs.Examples as Reach
-use Rattle.reach.specs.Examples.{p-with, p-without, ○, Row, AsExpected, _⇒_}
+use Rattle.reach.specs.Examples.{p-with, p-without, ○, Example, AsExpected, _⇒_}
 use Rattle.lists.specs.Text
 use Rattle.lists.specs.Text.{decimal, share, text}
 use Rattle.lists.specs.Handed
@@ -44,7 +44,7 @@ computed (write-of file l full room) = tells (writeAnswer room (printoutOf file 
 -- "missing 3 0" / "total 0 0 1 0 none"
 -- "refused 12"
 -- "refused 1"
-abbrev pub printed : List (Row Asked Answer)
+abbrev pub printed : List (Example Asked Answer)
 printed =
     text-of (p-with 7 4 20) ⇒ bytes (0x72 ∷ 0x65 ∷ 0x61 ∷ 0x63 ∷ 0x68 ∷ 0x20 ∷ 0x36 ∷ 0x20 ∷ 0x31 ∷ 0x20 ∷ 0x31 ∷ 0x20 ∷ 0x5f ∷ 0x0a ∷ 0x74 ∷ 0x6f ∷ 0x74 ∷ 0x61 ∷ 0x6c ∷ 0x20 ∷ 0x31 ∷ 0x20 ∷ 0x30 ∷ 0x20 ∷ 0x30 ∷ 0x20 ∷ 0x30 ∷ 0x20 ∷ 0x66 ∷ 0x6f ∷ 0x75 ∷ 0x6e ∷ 0x64 ∷ 0x0a ∷ [])
     ∷ text-of (p-with 7 4 5) ⇒ bytes (0x75 ∷ 0x6e ∷ 0x66 ∷ 0x69 ∷ 0x6e ∷ 0x69 ∷ 0x73 ∷ 0x68 ∷ 0x65 ∷ 0x64 ∷ 0x20 ∷ 0x35 ∷ 0x20 ∷ 0x31 ∷ 0x20 ∷ 0x5f ∷ 0x0a ∷ 0x74 ∷ 0x6f ∷ 0x74 ∷ 0x61 ∷ 0x6c ∷ 0x20 ∷ 0x30 ∷ 0x20 ∷ 0x31 ∷ 0x20 ∷ 0x30 ∷ 0x20 ∷ 0x31 ∷ 0x30 ∷ 0x30 ∷ 0x20 ∷ 0x75 ∷ 0x6e ∷ 0x64 ∷ 0x65 ∷ 0x63 ∷ 0x69 ∷ 0x64 ∷ 0x65 ∷ 0x64 ∷ 0x0a ∷ [])
@@ -65,7 +65,7 @@ given-up = 0x55 ∷ 0x4e ∷ 0x05 ∷ 0x00 ∷ 0x01 ∷ 0x00 ∷ 0xff ∷ []
 -- Lists handed in with P. Its own has a text of 34 bytes, of 25 where the search ended in 12. It fits D 3 and S 6, and no less: below two constructors stands
 -- an open part, whose type's least depth is 1. A byte too few or too many is 14 too; an entry that is false, unfinished with 5 steps where S is 20, is not. The
 -- file's refusal comes first, then 14, then 13.
-abbrev pub handed-in : List (Row Asked Answer)
+abbrev pub handed-in : List (Example Asked Answer)
 handed-in =
     length-of (p-with 7 4 20) (p-list (○ ∷ [])) false ⇒ tells (ofLength 34)
     ∷ length-of (p-with 7 4 20) (p-list (○ ∷ [])) true ⇒ tells (ofLength 25)

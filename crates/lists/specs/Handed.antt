@@ -1,7 +1,7 @@
 -- A list that is handed in with its rule file: 02, Slip 2, refusal 14 ("scrap"). `IsList` is the sentence of the request: whole entries of known kinds, with
 -- one partial value for each source parameter, of its type and no deeper than it may be, and at most S steps. `handed` reads the bytes. That the two agree is
 -- `list-exactly` in proofs/Demands.antt.
--- Rests on Lists, Partial and Reader.
+-- Rests on reach's Lists, Partial and Reader.
 use Prim.Native.Nat.{ℕ, zero, suc, _+_, _≤_, _<_}
 use mathlib.Core.Path.{_≡_}
 use mathlib.Core.List.{List, [], _∷_}

@@ -1,6 +1,6 @@
 -- The printed text of a list that is handed in with its rule file, and what the two calls answer that give its length and write it: 02, Slip 2. The rule file's
 -- refusals come first, then 14, then, of the writer, 13; there is no 11.
--- Rests on Answers, Handed and Text.
+-- Rests on reach's Answers, and on Handed and Text.
 use Prim.Native.Nat.{ℕ}
 use mathlib.Core.Bool.{Bool, true, false}
 use mathlib.Core.List.{List, _++_, map}

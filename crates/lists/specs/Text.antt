@@ -1,7 +1,7 @@
 -- What `reachlist` prints: 01, "The program `reachlist`". A line is its items, parted by single spaces, and a line feed; text is in ASCII.
 -- It is defined of what the entries say, be they those of a search's answer or those that the bytes of a list hold; proofs/Text.antt shows that the two
 -- agree on what a search wrote.
--- Rests on Search, Lists, Words and Answers.
+-- Rests on reach's Search, Lists, Words and Answers.
 use Prim.Native.Nat.{ℕ, zero, suc, _+_, _*_, _/_, _%_}
 use mathlib.Core.Bool.{Bool, true, false}
 use mathlib.Core.List.{List, [], _∷_, _++_, map, flatMap}

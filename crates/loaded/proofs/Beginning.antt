@@ -31,7 +31,7 @@ use Rattle.machine.specs.Records.{Code, RecordIs, Wrote, EnvAt, empty-at, parts
 use Rattle.machine.proofs.Cells.{walk-part, kept-cells}
 use Rattle.machine.proofs.Records.{holds-kept}
 use Rattle.machine.proofs.Words.{records-same}
-use Rattle.registers.specs.Stepping.{declarationsOf, Few, StandsFor}
+use Rattle.registers.specs.Stepping.{declarationsOf, CountsSmall, StandsFor}
 use Rattle.loaded.specs.Beginning.{GivenFile, Opened, startRegisters}
 
 -- At the start: the parameters' cells are open, record 0 is zeros, record 1 the group of the parameters, and the source's body is to be evaluated.
@@ -84,7 +84,7 @@ stands-start {file} {types} {functions} {w₁} {w₂} {w₃} p base i n g source
         let as-many : n ≡ length (g .parameters) = many ∙ ap length (source-is p g source) in
         parts-at {k = length (g .parameters)} {outer = empty} {row = parameters} (group .holds) (omega arith) (omega (arith, as-many)) empty-at (λ j below. walk-part w₃ 0 j)
 
-    few-records : Few w₃ base 2
+    few-records : CountsSmall w₃ base 2
     few-records zero below = rw (kept-zeros .word-1) (omega arith)
     few-records (suc zero) below = rw (group .holds .word-1) (omega arith)
     few-records (suc (suc j)) below = absurd (omega arith)

@@ -1,5 +1,5 @@
 -- One entry of a list after the other: what the loop of put_entries knows, and why it stays so.
--- Rests on Lists of specs/, on Onward and Rows, and on reach's ReadBack and Text.
+-- Rests on Lists of specs/, on Onward and Rows, and on lists' ReadBack and Text.
 use Prim.Native.Nat.{ℕ, _+_, _*_, _≤_, _<_}
 use mathlib.Core.Path.{_≡_, refl, sym, ap, subst, _∙_}
 use mathlib.Core.List.{List, [], _∷_, _++_, map, flatMap, append-nil, append-assoc}
@@ -84,7 +84,7 @@ module _ (types : Types) (table : List ℕ) (named : ℕ) (legible : Legible typ
       ap (flatMap (decodedNames types named ts)) (rw are at decoded) ∙ said-names es all
 
 -- What is left of a list: its entries stand from this place on, and their names are still to be written.
-pub record Going (types : Types) (named : ℕ) (ts list text whole now-text : List ℕ) (at to : ℕ) : Type 0 where
+pub record NamesLeft (types : Types) (named : ℕ) (ts list text whole now-text : List ℕ) (at to : ℕ) : Type 0 where
   pub before : List ℕ
   pub rest : List Entry
   pub split : list ≡ before ++ listBytes rest
@@ -95,7 +95,7 @@ pub record Going (types : Types) (named : ℕ) (ts list text whole now-text : Li
 module _ (types : Types) (table : List ℕ) (named : ℕ) (legible : Legible types table named) (ts list text : List ℕ) where
   -- nothing is written yet
   pub going-whole : (es : List Entry) → listBytes es ≡ list → Each (Fitted types ts) es
-      → Going types named ts list text (listNames types named ts list) text 0 0
+      → NamesLeft types named ts list text (listNames types named ts list) text 0 0
   going-whole es are all = record {
     before = [];
     rest = es;
@@ -108,7 +108,7 @@ module _ (types : Types) (table : List ℕ) (named : ℕ) (legible : Legible typ
 
   -- how far the text goes
   pub going-end : {now-text : List ℕ} {at to : ℕ} (es : List Entry) → listBytes es ≡ list → Each (Fitted types ts) es
-      → Going types named ts list text (listNames types named ts list) now-text at to → to ≤ 4 * length list
+      → NamesLeft types named ts list text (listNames types named ts list) now-text at to → to ≤ 4 * length list
   going-end es are all going =
       omega (arith, going .left .place, ap length (names-are types table named legible ts list es are all), names-length types named (legible .spells) ts es all, ap length are)
 
@@ -120,7 +120,7 @@ module _ (types : Types) (table : List ℕ) (named : ℕ) (legible : Legible typ
     pub room : at + length (entryBytes entry) ≤ length list
     pub some-bytes : 6 ≤ length (entryBytes entry)
     pub later : {text′ : List ℕ} {to′ : ℕ} → Puts now-text to (rowNames types named ts (rowRead types ts list (at + 6))) text′ to′
-        → Going types named ts list text whole text′ (at + length (entryBytes entry)) to′
+        → NamesLeft types named ts list text whole text′ (at + length (entryBytes entry)) to′
 
   standing : {whole now-text : List ℕ} {at to : ℕ} (before : List ℕ) (e : Entry) (es : List Entry) → list ≡ before ++ (entryBytes e ++ listBytes es) → at ≡ length before
       → Fitted types ts e → Each (Fitted types ts) es
@@ -163,7 +163,7 @@ module _ (types : Types) (table : List ℕ) (named : ℕ) (legible : Legible typ
   unfolding flatMap
   names-first e es left = left
 
-  pub going-more : {whole now-text : List ℕ} {at to : ℕ} → Going types named ts list text whole now-text at to → at < length list → Standing whole now-text at to
+  pub going-more : {whole now-text : List ℕ} {at to : ℕ} → NamesLeft types named ts list text whole now-text at to → at < length list → Standing whole now-text at to
   going-more {whole} {now-text} {at} {to} going more = by-rest (going .rest) (going .split) (going .fitted) (going .left)
     where
       by-rest : (es : List Entry) → list ≡ going .before ++ listBytes es → Each (Fitted types ts) es
@@ -172,7 +172,7 @@ module _ (types : Types) (table : List ℕ) (named : ℕ) (legible : Legible typ
       by-rest (e ∷ es) split (first, all) left = standing (going .before) e es (split ∙ ap (λ (x : List ℕ). going .before ++ x) (list-first e es)) (going .place) first all (names-first e es left)
 
   -- all of it is written
-  pub going-done : {whole now-text : List ℕ} {at to : ℕ} → Going types named ts list text whole now-text at to → length list ≤ at → Puts text 0 whole now-text to
+  pub going-done : {whole now-text : List ℕ} {at to : ℕ} → NamesLeft types named ts list text whole now-text at to → length list ≤ at → Puts text 0 whole now-text to
   unfolding flatMap
   going-done {whole} {now-text} {at} {to} going over = by-rest (going .rest) (going .split) (going .left)
     where

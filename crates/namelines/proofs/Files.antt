@@ -1,5 +1,5 @@
 -- The tables of a loaded file, as what the names of its list are written by.
--- Rests on Entries, on names' Entries, on rulefile's Tabled and on reach's Limits, WellTyped and Handed.
+-- Rests on Entries, on names' Entries, on rulefile's Tabled and on reach's Limits and WellTyped and on lists' Handed.
 use Prim.Native.Nat.{ℕ, _*_, _≤_, _<_}
 use mathlib.Core.Path.{_≡_, refl, sym, ap, _∙_}
 use mathlib.Core.List.{List, [], _∷_, map, flatMap}
@@ -18,7 +18,7 @@ use Rattle.reach.specs.Answers.{check, accepted}
 use Rattle.lists.specs.Handed.{Fitting, IsList}
 use Rattle.reach.specs.Places.{typeAt, headAt}
 use Rattle.reach.proofs.Base.{clash, member-each, each-member}
-use Rattle.reach.proofs.Limits.{Kept, accepted-keeps, accepted-rooms}
+use Rattle.reach.proofs.Limits.{KeepsLimits, accepted-keeps, accepted-rooms}
 use Rattle.reach.proofs.Slots.{source-types}
 use Rattle.reach.proofs.Places.{bytes-length}
 use Rattle.reach.proofs.WellTyped.{accepted-typed, open-apart}
@@ -81,7 +81,7 @@ all-empty (e ∷ es) = all-empty es
 
 -- The entries of a list of an accepted file.
 module _ (file : List ℕ) (p : Program) (checked : check file ≡ accepted p) (list : List ℕ) (es : List Entry) (is : IsList p list es) where
-  kept : Kept p
+  kept : KeepsLimits p
   kept = accepted-keeps file p checked
 
   fitted-one : (e : Entry) → Fitting p e → Fitted (p .types) (sourceTypes p) e

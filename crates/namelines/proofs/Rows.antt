@@ -1,6 +1,6 @@
 -- A row of an entry, value by value: the lines of its names are that of its first value, if it has the named type, and those of the rest; and the rest stands
 -- behind the first value.
--- Rests on Rows of specs/, on Letters, on names' Filling and Names, and on reach's Partial and Slots.
+-- Rests on Rows of specs/, on Letters, on names' Filling and Names, and on readings' Partial, lists' EntryValues and reach's Slots.
 use Prim.Native.Nat.{ℕ, _≤_, _<_}
 use mathlib.Core.Path.{_≡_, refl, sym, ap, subst, _∙_}
 use mathlib.Core.Bool.{Bool, true, false}

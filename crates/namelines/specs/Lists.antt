@@ -1,5 +1,5 @@
 -- The entries of a list and the lines of their names.
--- Rests on Rows and on reach's Lists and Handed.
+-- Rests on Rows and on reach's Lists and lists' Handed.
 use Prim.Native.Nat.{ℕ, _≤_, _<_}
 use mathlib.Core.Path.{_≡_}
 use mathlib.Core.Bool.{Bool}

@@ -1,5 +1,5 @@
 -- The parameters of an entry as they stand in a list, and the lines of the names among them.
--- Rests on names' Filling and NameList, on reach's Partial and on the struct of src/lib.rt.
+-- Rests on names' Filling and NameList, on reach's Partial, on lists' Handed and on the struct of src/lib.rt.
 use Prim.Native.Nat.{ℕ, _≤_, _<_}
 use mathlib.Core.Path.{_≡_}
 use mathlib.Core.List.{List, _++_, map}

@@ -1,5 +1,5 @@
 -- The names of an answer, by the answer that the search gave and the bytes that it wrote.
--- Rests on names' NameList, on namelines' Files, on reporting's Reports and on reach's Handed.
+-- Rests on names' NameList, on namelines' Files, on reporting's Reports and on lists' Handed.
 use Prim.Native.Nat.{ℕ, _≤_}
 use native.Mathlib.Omega.{arith}
 use mathlib.Core.Path.{_≡_, refl, sym, ap, subst}

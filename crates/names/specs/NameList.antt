@@ -1,6 +1,6 @@
 -- What `namelist` prints: 02, Slip 4. For each entry, each source parameter of the named type is filled and printed on a line, "its Latin-1 bytes and then its
 -- UTF-8 bytes in decimal".
--- Rests on Filling and Spelling, and on reach's Text and Answers.
+-- Rests on Filling and Spelling, and on lists' Text and reach's Answers.
 use Prim.Native.Nat.{ℕ, _+_, _/_, _%_}
 use mathlib.Core.List.{List, [], _∷_, _++_, head?, tail, map, flatMap}
 use mathlib.Core.Option.{Option}

@@ -1,5 +1,5 @@
 -- The numbers of a line, each behind a space, and how long they are.
--- Rests on Letters, on Writing and Digits of crate writing, and on reach's Text and names' NameList.
+-- Rests on Letters, on Writing and Digits of crate writing, and on lists' Text and names' NameList.
 use Prim.Native.Nat.{ℕ, _+_, _*_, _/_, _%_, _≤_, _<_}
 use mathlib.Core.Path.{_≡_, refl}
 use mathlib.Core.Bool.{Bool, true, false}

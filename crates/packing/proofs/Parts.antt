@@ -1,4 +1,4 @@
--- The part of a list that the number for an entry says. Rests on specs/Packing and on reach's ReadBack.
+-- The part of a list that the number for an entry says. Rests on specs/Packing and on lists' ReadBack.
 use Prim.Native.Nat.{ℕ, _≤_}
 use native.Mathlib.Omega.{arith}
 use mathlib.Core.Path.{_≡_, refl, sym, ap, _∙_}

@@ -60,9 +60,9 @@ pub refused-parted : (why : Refusal) → Parted (numberOf why) (numberOf why) 0 
 refused-parted why = parted (numberOf why) (numberOf why) 0 0 (number-byte why) (omega arith) (omega arith)
 
 -- a run's number has its steps and its depth in place of the count: the steps fill 16 bits at most, and the depth 8
-abbrev pub Small : RunAnswer → Type 0
-Small (noRun why) = Unit {0}
-Small (ran o deep) = (stepsOf o < 65536) × (deep < 256)
+abbrev pub FitsBits : RunAnswer → Type 0
+FitsBits (noRun why) = Unit {0}
+FitsBits (ran o deep) = (stepsOf o < 65536) × (deep < 256)
 
 pub record RanParted (number : ℕ) (o : Outcome) (deep : ℕ) : Type 0 where
   pub low-is : refusalBits number ≡ 0
@@ -70,7 +70,7 @@ pub record RanParted (number : ℕ) (o : Outcome) (deep : ℕ) : Type 0 where
   pub steps-are : stepBits number ≡ stepsOf o
   pub depth-is : depthBits number ≡ deep
 
-pub ran-parted : (o : Outcome) (deep : ℕ) → Small (ran o deep) → RanParted (runNumber (ran o deep)) o deep
+pub ran-parted : (o : Outcome) (deep : ℕ) → FitsBits (ran o deep) → RanParted (runNumber (ran o deep)) o deep
 ran-parted o deep small =
     let few = outcome-named o .0 in
     record { low-is = omega arith; middle-is = omega arith; steps-are = omega arith; depth-is = omega arith }
@@ -92,7 +92,7 @@ search-reads (cutShort es) =
     let z = parted (searchNumber (cutShort es)) (numberOf ListFull) 0 (length (listBytes es)) (omega arith) (omega arith) (omega arith) in
     rw (z .low-is, z .middle-is, z .count-is, refusal-named ListFull, none-named .1)
 
-pub run-reads : (a : RunAnswer) → Small a → decodedRun (runNumber a) ≡ runRead a
+pub run-reads : (a : RunAnswer) → FitsBits a → decodedRun (runNumber a) ≡ runRead a
 run-reads (noRun why) small =
     let z = refused-parted why in
     let few = number-byte why in

@@ -1,7 +1,7 @@
 -- The number that each call for C answers with. Bits 0 to 7 are the number of the refusal, or 0; bits 8 to 15 are the number of the verdict or of the outcome,
 -- or 0 where none is given; from bit 16 on stands the length of the list or of the text. A closed run has the count of its steps in bits 16 to 31 and the depth
 -- of its input in bits 32 to 39. The number for an entry has its place in bits 0 to 31 and its size from bit 32 on.
--- Rests on reach's Words, Answers, Search, Lists and Printouts.
+-- Rests on reach's Words, Answers, Search and Lists and on lists' Printouts.
 use Prim.Native.Nat.{ℕ, _+_, _*_, _≤_}
 use mathlib.Core.Path.{_≡_}
 use mathlib.Core.List.{List}

@@ -1,6 +1,6 @@
 -- What a caller in C reads off the number that a call answered with: the parts of an answer, as the functions at the end of include/remburai.h take
 -- them, and the cases that their numbers name there. And what the definition's answer says, for the theorems that the two are the same.
--- Rests on reach's enums, Words, Answers, Lists and Printouts.
+-- Rests on reach's enums, Words, Answers and Lists and on lists' Printouts.
 use Prim.Native.Nat.{ℕ, _/_, _%_}
 use mathlib.Core.List.{[], _∷_}
 use mathlib.Core.Option.{Option, none, some}

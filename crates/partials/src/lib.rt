@@ -2,7 +2,7 @@
 // the table of the types' least depths, or empty: then nothing may be open, and the values are closed. Rests on crates marks and rows.
 ghost use mathlib.Core.Path.{_≡_};
 ghost use Prim.Native.Nat.{_≤_};
-ghost use Rattle.rows.specs.Values.{ofValue, valueAt, Near};
+ghost use Rattle.rows.specs.Values.{ofValue, valueAt, DeepAtMost};
 ghost use Rattle.rows.specs.Stack.{Low, ofRest};
 use marks::byte_or_zero;
 use marks::wide;
@@ -26,7 +26,7 @@ fn values<'a>(
 ) -> Measured
     requires { ⌜ Low levels row × (levels ≤ 64) ⌝ }
     ensures { λ r. ⌜ r ≡ ofRest (now (file .entry)) (now (types .entry)) (now (least .entry)) levels (now (list .entry)) at row ⌝ }
-    ensures near { λ r. ⌜ Near levels r ⌝ }
+    ensures near { λ r. ⌜ DeepAtMost levels r ⌝ }
 {
     let mut stack = [row; 64];
     let mut top: usize = 0;
@@ -67,7 +67,7 @@ pub fn value<'a>(
 ) -> Measured
     requires { ⌜ levels ≤ 64 ⌝ }
     ensures { λ r. ⌜ r ≡ ofValue (valueAt (now (file .entry)) (now (types .entry)) (now (least .entry)) levels t (now (list .entry)) at) ⌝ }
-    ensures near { λ r. ⌜ Near levels r ⌝ }
+    ensures near { λ r. ⌜ DeepAtMost levels r ⌝ }
 {
     match first_byte(file, types, least, list, at, t, levels) {
         First::Bad => Measured::Bad,

@@ -1,5 +1,5 @@
 -- How long the text of a list is: at most four times the list, and a last line, which is no longer than the text of an empty list may be.
--- Rests on specs/Bound and Walk, on writing's Digits and lines' Lines, and on Text of crate reach.
+-- Rests on specs/Bound and Walk, on writing's Digits and lines' Lines, and on Text of crate lists.
 use Prim.Native.Nat.{ℕ, zero, suc, _+_, _*_, _-_, _≤_, _<_}
 use mathlib.Core.Path.{_≡_, refl, sym, ap, subst}
 use mathlib.Core.Bool.{Bool, true, false}

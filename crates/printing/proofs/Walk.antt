@@ -1,5 +1,5 @@
 -- The walk from entry to entry that writes a list's text: what one more line, and the last line, leave of the text.
--- Rests on writing's Writing, on sizes' Standing (the size that was found) and on Lists and Text of crate reach.
+-- Rests on writing's Writing, on sizes' Standing (the size that was found) and on reach's Lists and lists' Text.
 use Prim.Native.Nat.{ℕ, zero, suc, _+_, _-_, _≤_, _<_, min}
 use mathlib.Core.Path.{_≡_, refl, sym, ap, _∙_}
 use mathlib.Core.Bool.{Bool, _&&_}

@@ -1,5 +1,5 @@
 -- The answers of both calls, by what the check of the file, the reading of the list and the printing found.
--- Rests on specs/Answering, on reach's Printouts, on handed's Fits, and on the laws of loaded files.
+-- Rests on specs/Answering, on lists' Printouts, on handed's Fits, and on the laws of loaded files.
 use Prim.Native.Nat.{ℕ, _<_, _≤_}
 use mathlib.Core.Path.{_≡_, refl, sym, ap, subst, _∙_}
 use mathlib.Core.Bool.{Bool, true, false}
@@ -28,16 +28,16 @@ use Rattle.rulefile.specs.declared.Loaded.{Loaded}
 use Rattle.rulefile.specs.Loading.{typePlaces, functionPlaces, Tabled, Loads}
 use Rattle.rulefile.proofs.Tabled.{program-types, program-goal, program-source-types, program-least}
 use Rattle.loaded.proofs.Loaded.{loaded-accepted, loaded-refused}
-use Rattle.handed.specs.Fits.{Given, FitsList}
+use Rattle.handed.specs.Fits.{AcceptedTables, FitsList}
 use Rattle.writing.specs.Writing.{fronted, Fronts}
 use Rattle.results.specs.declared.TextResult.{TextResult}
 use Rattle.results.specs.declared.TextResult.the-variants as TextResult
 use Rattle.results.specs.Results.{textResult}
-use Rattle.printout.specs.Answering.{judgedOf, Judges, Measures, Writes}
+use Rattle.printout.specs.Answering.{judgedOf, Judges, LengthPromise, WritePromise}
 
 -- the tables of a loaded file are what the reading of a list asks for
 given : {file : List ℕ} {r : Loaded} {p : Program} → Answers.check file ≡ Answers.accepted p → Tabled file r p
-    → Given file (typePlaces r) (functionPlaces r) (r .least) (r .goal .source) (r .goal .depths) (r .goal .steps) p
+    → AcceptedTables file (typePlaces r) (functionPlaces r) (r .least) (r .goal .source) (r .goal .depths) (r .goal .steps) p
 given checked t = record {
   checked = checked;
   types-there = program-types t;
@@ -92,16 +92,16 @@ module _ (file list : List ℕ) (bytes : (i : ℕ) → getD list i 0 < 256) (ful
       checked (Answers.turnedBack why) e = refl
       checked (Answers.accepted p) e = read p e (handed p list) refl
 
-  pub measures-refused : (why : Refusal) → Judges file list (CheckResult.Refused why) → Measures file list full (TextResult.Refused why)
+  pub measures-refused : (why : Refusal) → Judges file list (CheckResult.Refused why) → LengthPromise file list full (TextResult.Refused why)
   unfolding lengthAnswer
   measures-refused why judges = record { answer-is = rw (printed-judged (CheckResult.Refused why) judges) refl }
 
-  pub measures-length : (n : ℕ) → Judges file list CheckResult.Accepted → n ≡ length (listText full list) → Measures file list full (TextResult.Length n)
+  pub measures-length : (n : ℕ) → Judges file list CheckResult.Accepted → n ≡ length (listText full list) → LengthPromise file list full (TextResult.Length n)
   unfolding lengthAnswer
   measures-length n judges is = record { answer-is = rw (printed-judged CheckResult.Accepted judges) (ap TextResult.Length is) }
 
   -- the text of which the length was given
-  measured-text : (n : ℕ) → Measures file list full (TextResult.Length n) → (printoutOf file list full ≡ printout (listText full list)) × (n ≡ length (listText full list))
+  measured-text : (n : ℕ) → LengthPromise file list full (TextResult.Length n) → (printoutOf file list full ≡ printout (listText full list)) × (n ≡ length (listText full list))
   unfolding lengthAnswer
   measured-text n measures = by-printout (printoutOf file list full) refl (measures .answer-is)
     where
@@ -114,23 +114,23 @@ module _ (file list : List ℕ) (bytes : (i : ℕ) → getD list i 0 < 256) (ful
 
   -- the writer, with a slice that held these bytes
   module _ (text : List ℕ) where
-    pub writes-refused : (why : Refusal) → Measures file list full (TextResult.Refused why) → Writes file list full text text (TextResult.Refused why)
+    pub writes-refused : (why : Refusal) → LengthPromise file list full (TextResult.Refused why) → WritePromise file list full text text (TextResult.Refused why)
     unfolding lengthAnswer writeAnswer textSlice
     writes-refused why measures = by-printout (printoutOf file list full) refl (measures .answer-is)
       where
-        by-printout : (x : Printout) → printoutOf file list full ≡ x → TextResult.Refused why ≡ textResult (lengthAnswer x) → Writes file list full text text (TextResult.Refused why)
+        by-printout : (x : Printout) → printoutOf file list full ≡ x → TextResult.Refused why ≡ textResult (lengthAnswer x) → WritePromise file list full text text (TextResult.Refused why)
         by-printout (noPrintout by) e is = record { answer-is = rw e is; text-is = rw e refl }
         by-printout (printout t) e is = absurd (clash (cc))
 
-    pub writes-short : (n : ℕ) → Measures file list full (TextResult.Length n) → length text < n → Writes file list full text text (TextResult.Refused TextTooShort)
+    pub writes-short : (n : ℕ) → LengthPromise file list full (TextResult.Length n) → length text < n → WritePromise file list full text text (TextResult.Refused TextTooShort)
     unfolding writeAnswer textSlice
     writes-short n measures short =
         let (is, long) = measured-text n measures in
         let test = lt-leb (length (listText full list)) (length text) (omega (arith, long)) in
         record { answer-is = rw (is, test) refl; text-is = rw (is, test) refl }
 
-    pub writes-text : (n m : ℕ) (text′ : List ℕ) → Measures file list full (TextResult.Length n) → n ≤ length text → Fronts text (listText full list) text′ m
-        → Writes file list full text text′ (TextResult.Length m)
+    pub writes-text : (n m : ℕ) (text′ : List ℕ) → LengthPromise file list full (TextResult.Length n) → n ≤ length text → Fronts text (listText full list) text′ m
+        → WritePromise file list full text text′ (TextResult.Length m)
     unfolding writeAnswer textSlice fronted
     writes-text n m text′ measures room wrote =
         let (is, long) = measured-text n measures in

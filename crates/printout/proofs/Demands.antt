@@ -3,7 +3,7 @@
 -- `Measures file list full r` and `Writes file list full text text′ r` are the contracts: the call answered r for a list that was handed in with its file,
 -- `full` says that the search ended in 12, and the text slice that held the bytes `text` holds `text′`. `IsList p list es` says that the list is the entries
 -- es, each of which fits. Nothing is asked of the file and of the slices, but that the list is bytes.
--- Rests on reach's Printouts and on printing's Lengths.
+-- Rests on lists' Printouts and on printing's Lengths.
 use Prim.Native.Nat.{ℕ, _≤_, _<_}
 use mathlib.Core.Path.{_≡_, refl, sym, ap, _∙_}
 use mathlib.Core.Bool.{Bool}
@@ -28,7 +28,7 @@ use Rattle.printing.proofs.Lengths.{text-short}
 use Rattle.results.specs.declared.TextResult.{TextResult}
 use Rattle.results.specs.declared.TextResult.the-variants as TextResult
 use Rattle.results.specs.Results.{textResult}
-use Rattle.printout.specs.Answering.{Measures, Writes}
+use Rattle.printout.specs.Answering.{LengthPromise, WritePromise}
 
 -- what the enum shows is what the definition answers
 shows-refused : (a : TextAnswer) (why : Refusal) → (textResult a ≡ TextResult.Refused why) ↔ (a ≡ noText why)
@@ -46,14 +46,14 @@ module _ (file list : List ℕ) (bytes : (i : ℕ) → getD list i 0 < 256) (ful
   shown = printoutOf file list full
 
   -- the call of the length answers so
-  refusing : (why : Refusal) → Measures file list full (TextResult.Refused why) ↔ (lengthAnswer shown ≡ noText why)
+  refusing : (why : Refusal) → LengthPromise file list full (TextResult.Refused why) ↔ (lengthAnswer shown ≡ noText why)
   refusing why = (λ m. (shows-refused (lengthAnswer shown) why) .0 (sym (m .answer-is)), λ e. record { answer-is = sym (ap textResult e) })
 
-  measuring : (n : ℕ) → Measures file list full (TextResult.Length n) ↔ (lengthAnswer shown ≡ ofLength n)
+  measuring : (n : ℕ) → LengthPromise file list full (TextResult.Length n) ↔ (lengthAnswer shown ≡ ofLength n)
   measuring n = (λ m. (shows-length (lengthAnswer shown) n) .0 (sym (m .answer-is)), λ e. record { answer-is = sym (ap textResult e) })
 
   -- The length: "the exact length of that text in bytes from the list without writing it".
-  module _ (r : TextResult) (call : Measures file list full r) where
+  module _ (r : TextResult) (call : LengthPromise file list full r) where
     -- "14 scrap: the list has more than 16,777,216 bytes or is not whole entries of known kinds, with parameters of the rule file's types and depths [..] and
     -- at most S steps, tested [..] after the rule file's 1 to 9", and 15. No other number is given.
     pub length-refused : (why : Refusal)
@@ -88,11 +88,11 @@ module _ (file list : List ℕ) (bytes : (i : ℕ) → getD list i 0 < 256) (ful
         omega (arith, size, ap length (printout-bytes file list bytes full t prints), text-short full list bytes)
 
   -- The writer: "a writer of the printed text into a lent slice".
-  module _ (before after : List ℕ) (r : TextResult) (call : Writes file list full before after r) where
+  module _ (before after : List ℕ) (r : TextResult) (call : WritePromise file list full before after r) where
     -- "13 page: the text slice is shorter than that length"; 14 is "tested before 13". The length is the one that the other call gives.
     pub write-refused : (why : Refusal)
         → (r ≡ TextResult.Refused why)
-        ↔ (Measures file list full (TextResult.Refused why) ⊎ ((why ≡ TextTooShort) × ((n : ℕ) × Measures file list full (TextResult.Length n) × (length before < n))))
+        ↔ (LengthPromise file list full (TextResult.Refused why) ⊎ ((why ≡ TextTooShort) × ((n : ℕ) × LengthPromise file list full (TextResult.Length n) × (length before < n))))
     write-refused why =
         let shows = shows-refused (writeAnswer (length before) shown) why in
         let told = write-refuses shown (length before) why in
@@ -102,7 +102,7 @@ module _ (file list : List ℕ) (bytes : (i : ℕ) → getD list i 0 < 256) (ful
         )
 
     -- the two calls agree
-    pub write-exact : (n : ℕ) → (r ≡ TextResult.Length n) ↔ (Measures file list full (TextResult.Length n) × (n ≤ length before))
+    pub write-exact : (n : ℕ) → (r ≡ TextResult.Length n) ↔ (LengthPromise file list full (TextResult.Length n) × (n ≤ length before))
     write-exact n =
         let shows = shows-length (writeAnswer (length before) shown) n in
         let told = write-measures shown (length before) n in
@@ -140,10 +140,10 @@ module _ (file : List ℕ) (work room : ℕ) (p : Program) (checked : check file
   measured : lengthAnswer (printoutOf file (listBytes (listed a)) (wasCut a)) ≡ ofLength (length (text a))
   measured = (length-measures (printoutOf file (listBytes (listed a)) (wasCut a)) (length (text a))) .1 (text a, prints, refl)
 
-  pub searched-length : (r : TextResult) → Measures file (listBytes (listed a)) (wasCut a) r → r ≡ TextResult.Length (length (text a))
+  pub searched-length : (r : TextResult) → LengthPromise file (listBytes (listed a)) (wasCut a) r → r ≡ TextResult.Length (length (text a))
   searched-length r call = call .answer-is ∙ ap textResult measured
 
-  pub searched-text : (before after : List ℕ) (r : TextResult) → Writes file (listBytes (listed a)) (wasCut a) before after r → length (text a) ≤ length before
+  pub searched-text : (before after : List ℕ) (r : TextResult) → WritePromise file (listBytes (listed a)) (wasCut a) before after r → length (text a) ≤ length before
       → (r ≡ TextResult.Length (length (text a))) × (take (length (text a)) after ≡ text a)
   searched-text before after r call l =
       let slice = slice-text before (text a) (length (text a)) refl l in

@@ -1,5 +1,5 @@
--- What the two calls promise of the printed text of a list that is handed in with its rule file, in terms of reach's definitions.
--- Rests on reach's Answers, Handed and Printouts, and on Results of crate results.
+-- What the two calls promise of the printed text of a list that is handed in with its rule file, in terms of the definitions of crate lists.
+-- Rests on reach's Answers, on lists' Handed and Printouts, and on Results of crate results.
 use Prim.Native.Nat.{ℕ}
 use mathlib.Core.Path.{_≡_}
 use mathlib.Core.Bool.{Bool}
@@ -24,10 +24,10 @@ pub record Judges (file list : List ℕ) (r : CheckResult) : Type 0 where
   pub answer-is : r ≡ judgedOf list (Answers.check file)
 
 -- What `text_length` promises, and all that it promises: its answer is the definition's.
-pub record Measures (file list : List ℕ) (full : Bool) (r : TextResult) : Type 0 where
+pub record LengthPromise (file list : List ℕ) (full : Bool) (r : TextResult) : Type 0 where
   pub answer-is : r ≡ textResult (lengthAnswer (printoutOf file list full))
 
 -- What `write_text` promises, and all that it promises: its answer, and the slice that held `text` and holds `text′`, are the definition's.
-pub record Writes (file list : List ℕ) (full : Bool) (text text′ : List ℕ) (r : TextResult) : Type 0 where
+pub record WritePromise (file list : List ℕ) (full : Bool) (text text′ : List ℕ) (r : TextResult) : Type 0 where
   pub answer-is : r ≡ textResult (writeAnswer (length text) (printoutOf file list full))
   pub text-is : text′ ≡ textSlice text (printoutOf file list full)

@@ -1,6 +1,6 @@
 // The printed text of a list that is handed in with its rule file: its length, and the text itself, written into a lent slice. Both calls test the rule file
 // first, then the list (refusal 14), and the writer then its slice (13), before it writes. Rests on crates rulefile, depths, handed, printing and results.
-ghost use Rattle.printout.specs.Answering.{Judges, Measures, Writes};
+ghost use Rattle.printout.specs.Answering.{Judges, LengthPromise, WritePromise};
 use depths::Depths;
 use handed::list_fits;
 use printing::list_length;
@@ -40,7 +40,7 @@ fn judge<'a>(file: &'a [u8], list: &'a [u8]) -> CheckResult
 
 // The exact length of the text of a list, which is handed in with its rule file. `full` says that the search ended in 12.
 pub fn text_length<'a>(file: &'a [u8], list: &'a [u8], full: bool) -> TextResult
-    ensures { λ r. ⌜ Measures (now (file .entry)) (now (list .entry)) full r ⌝ }
+    ensures { λ r. ⌜ LengthPromise (now (file .entry)) (now (list .entry)) full r ⌝ }
 {
     match judge(file, list) {
         CheckResult::Refused(why) => TextResult::Refused(why),
@@ -50,7 +50,7 @@ pub fn text_length<'a>(file: &'a [u8], list: &'a [u8], full: bool) -> TextResult
 
 // Writes that text to the front of a slice, and answers with its length.
 pub fn write_text<'a>(file: &'a [u8], list: &'a [u8], full: bool, text: &mut [u8]) -> TextResult
-    ensures { λ r. ⌜ Writes (now (file .entry)) (now (list .entry)) full (now (text .entry)) (now (text .exit)) r ⌝ }
+    ensures { λ r. ⌜ WritePromise (now (file .entry)) (now (list .entry)) full (now (text .entry)) (now (text .exit)) r ⌝ }
 {
     match text_length(file, list, full) {
         TextResult::Refused(why) => return TextResult::Refused(why),

@@ -28,7 +28,7 @@ use Rattle.reach.proofs.Slots.{source-types, source-length}
 use Rattle.reach.proofs.Depths.{Fit, Roomy, roomy-each, open-fit, bind-fit, fit-typed, typed-fit, typed-width, completion}
 use Rattle.reach.specs.States.{StateIn}
 use Rattle.reach.proofs.Evaluation.{start-in, waits-free}
-use Rattle.reach.proofs.Entries.{Finds, at-target, at-missing, at-limit, at-limit-waiting, by-step, by-fork, entry-found, entry-holds, entry-reopens}
+use Rattle.reach.proofs.Entries.{EntryBelow, at-target, at-missing, at-limit, at-limit-waiting, by-step, by-fork, entry-found, entry-holds, entry-reopens}
 use Rattle.reach.proofs.Cover.{covers, apart, apart-numbers}
 use Rattle.reach.proofs.Limits.{accepted-keeps}
 use Rattle.reach.proofs.Lists.{Holds, none-without}
@@ -52,7 +52,7 @@ module _ (file : List ℕ) (p : Program) (h : check file ≡ accepted p) where
   start-fit = subst (λ (n : ℕ). Fit (p .types) (sourceSlots p) (allOpen n)) (source-length p) (open-fit (p .types) (sourceSlots p) source-roomy)
 
   -- a fork keeps to the depth, so that every entry fits
-  found-fit : {left n : ℕ} {i : Parts} {s : State} {e : Entry} → Finds p (leastDepths (p .types)) left n i s e
+  found-fit : {left n : ℕ} {i : Parts} {s : State} {e : Entry} → EntryBelow p (leastDepths (p .types)) left n i s e
       → Fit (p .types) (sourceSlots p) i → Fit (p .types) (sourceSlots p) (e .input)
   unfolding branches
   found-fit (at-target w) f = f

@@ -26,16 +26,16 @@ branch p table left n i q f = search p table left n (inputBehind q f i) (stateBe
 
 -- How the search finds an entry below a state: the target is demanded there, an alternative is missing there, the steps are used up there, or it lies
 -- behind a step or a fork.
-pub data Finds (p : Program) (table : List ℕ) : ℕ → ℕ → Parts → State → Entry → Type 0 where
-  at-target : {left n : ℕ} {i : Parts} {s : State} → next p i s ≡ demands → Finds p table left n i s (record { kind = RE; steps = n; input = i })
-  at-missing : {left n : ℕ} {i : Parts} {s : State} → next p i s ≡ lacks → Finds p table left n i s (record { kind = MI; steps = n; input = i })
-  at-limit : {n : ℕ} {i : Parts} {s s′ : State} → next p i s ≡ goes s′ → Finds p table zero n i s (record { kind = UN; steps = n; input = i })
+pub data EntryBelow (p : Program) (table : List ℕ) : ℕ → ℕ → Parts → State → Entry → Type 0 where
+  at-target : {left n : ℕ} {i : Parts} {s : State} → next p i s ≡ demands → EntryBelow p table left n i s (record { kind = RE; steps = n; input = i })
+  at-missing : {left n : ℕ} {i : Parts} {s : State} → next p i s ≡ lacks → EntryBelow p table left n i s (record { kind = MI; steps = n; input = i })
+  at-limit : {n : ℕ} {i : Parts} {s s′ : State} → next p i s ≡ goes s′ → EntryBelow p table zero n i s (record { kind = UN; steps = n; input = i })
   at-limit-waiting : {n : ℕ} {i : Parts} {s : State} {q : Question} → next p i s ≡ waits q
-      → Finds p table zero n i s (record { kind = UN; steps = n; input = i })
-  by-step : {left n : ℕ} {i : Parts} {s s′ : State} {e : Entry} → next p i s ≡ goes s′ → Finds p table left (suc n) i s′ e
-      → Finds p table (suc left) n i s e
+      → EntryBelow p table zero n i s (record { kind = UN; steps = n; input = i })
+  by-step : {left n : ℕ} {i : Parts} {s s′ : State} {e : Entry} → next p i s ≡ goes s′ → EntryBelow p table left (suc n) i s′ e
+      → EntryBelow p table (suc left) n i s e
   by-fork : {left n : ℕ} {i : Parts} {s : State} {e : Entry} (q : Question) (f : Fork) → next p i s ≡ waits q → f ∈ branches p table i q
-      → Finds p table left (suc n) (inputBehind q f i) (stateBehind q f) e → Finds p table (suc left) n i s e
+      → EntryBelow p table left (suc n) (inputBehind q f i) (stateBehind q f) e → EntryBelow p table (suc left) n i s e
 
 module _ (p : Program) (table : List ℕ) where
   -- the search, by what comes next
@@ -51,7 +51,7 @@ module _ (p : Program) (table : List ℕ) where
   search-next left n i s N w = rw w
 
   found-last : (n : ℕ) (i : Parts) (s : State) (e : Entry) (N : Next) → next p i s ≡ N
-      → e ∈ gather (λ s′. spent n i) (λ q. spent n i) n i N → Finds p table zero n i s e
+      → e ∈ gather (λ s′. spent n i) (λ q. spent n i) n i N → EntryBelow p table zero n i s e
   unfolding gather
   found-last n i s e demands w m = rw (List·Memᴰ·eq-of-singleton m) (at-target w)
   found-last n i s e lacks w m = rw (List·Memᴰ·eq-of-singleton m) (at-missing w)
@@ -60,10 +60,10 @@ module _ (p : Program) (table : List ℕ) where
   found-last n i s e (waits q) w m = rw (List·Memᴰ·eq-of-singleton m) (at-limit-waiting w)
 
   found-step : (left n : ℕ) (i : Parts) (s : State) (e : Entry)
-      → ((i′ : Parts) (s′ : State) → e ∈ search p table left (suc n) i′ s′ → Finds p table left (suc n) i′ s′ e)
+      → ((i′ : Parts) (s′ : State) → e ∈ search p table left (suc n) i′ s′ → EntryBelow p table left (suc n) i′ s′ e)
       → (N : Next) → next p i s ≡ N
       → e ∈ gather (λ s′. search p table left (suc n) i s′) (λ q. flatMap (branch p table left (suc n) i q) (branches p table i q)) n i N
-      → Finds p table (suc left) n i s e
+      → EntryBelow p table (suc left) n i s e
   unfolding gather
   found-step left n i s e ih demands w m = rw (List·Memᴰ·eq-of-singleton m) (at-target w)
   found-step left n i s e ih lacks w m = rw (List·Memᴰ·eq-of-singleton m) (at-missing w)
@@ -74,13 +74,13 @@ module _ (p : Program) (table : List ℕ) where
       by-fork q (below .0) w (below .1) (ih _ _ (below .2))
 
   -- every entry of a search is found so
-  pub finds : (left n : ℕ) (i : Parts) (s : State) (e : Entry) → e ∈ search p table left n i s → Finds p table left n i s e
+  pub finds : (left n : ℕ) (i : Parts) (s : State) (e : Entry) → e ∈ search p table left n i s → EntryBelow p table left n i s e
   unfolding search
   finds zero n i s e m = found-last n i s e (next p i s) refl m
   finds (suc left) n i s e m = found-step left n i s e (λ i′ s′ m′. finds left (suc n) i′ s′ e m′) (next p i s) refl m
 
   -- an entry binds what its path had bound
-  pub refines : {left n : ℕ} {i : Parts} {s : State} {e : Entry} → Finds p table left n i s e → i ⊑ e .input
+  pub refines : {left n : ℕ} {i : Parts} {s : State} {e : Entry} → EntryBelow p table left n i s e → i ⊑ e .input
   refines (at-target {i = i} w) = ⊑-refl i
   refines (at-missing {i = i} w) = ⊑-refl i
   refines (at-limit {i = i} w) = ⊑-refl i
@@ -106,7 +106,7 @@ module _ (p : Program) (table : List ℕ) where
       (⊑-there more (q .place) (asked .0), env-more more (q .environment) (asked .1), frames-more more (q .frames) (asked .2))
 
   -- every input that binds at least what an entry binds ends as the entry says, after exactly its steps
-  pub entry-holds : {left n : ℕ} {i : Parts} {s : State} {e : Entry} → Finds p table left n i s e → StateIn i s
+  pub entry-holds : {left n : ℕ} {i : Parts} {s : State} {e : Entry} → EntryBelow p table left n i s e → StateIn i s
       → (j : Parts) → e .input ⊑ j → eval p j left n s ≡ says (e .kind) (e .steps)
   entry-holds (at-target {left = left} {n = n} {s = s} w) h j a = eval-demands p j left n s (next-more p a s h demands tt w)
   entry-holds (at-missing {left = left} {n = n} {s = s} w) h j a = eval-lacks p j left n s (next-more p a s h lacks tt w)
@@ -139,7 +139,7 @@ module _ (p : Program) (table : List ℕ) where
       (λ (same : r ≡ q). (n, rw (same, open-bind q c k i f) halts, l))
       (bind-new q c k i r h)
 
-  pub entry-reopens : {left n : ℕ} {i : Parts} {s : State} {e : Entry} → Finds p table left n i s e → width i ≡ length (sourceTypes p)
+  pub entry-reopens : {left n : ℕ} {i : Parts} {s : State} {e : Entry} → EntryBelow p table left n i s e → width i ≡ length (sourceTypes p)
       → StateIn i s → Leads i left n s → Reopens i → Reopens (e .input)
   entry-reopens (at-target w) size h l o = o
   entry-reopens (at-missing w) size h l o = o
@@ -157,6 +157,6 @@ module _ (p : Program) (table : List ℕ) where
       (bind-reopens i (q .place) (f .constructor) (f .fields) n size (waits-free p i s q w) halts (omega (arith, l .0)) o)
 
 -- every entry of a program is found from its start
-pub entry-found : (p : Program) (e : Entry) → e ∈ entries p → Finds p (leastDepths (p .types)) (p .steps) 0 (openInput p) (start p) e
+pub entry-found : (p : Program) (e : Entry) → e ∈ entries p → EntryBelow p (leastDepths (p .types)) (p .steps) 0 (openInput p) (start p) e
 unfolding entries
 entry-found p e m = finds p (leastDepths (p .types)) (p .steps) 0 (openInput p) (start p) e m

@@ -15,9 +15,9 @@ use Rattle.reach.specs.Types.{Slot, Fork, forksAt, leastDepths}
 use Rattle.reach.specs.Eval.{State}
 use Rattle.reach.specs.Search.{Entry, branches, openInput, entries}
 use Rattle.reach.specs.Answers.{accepted, check}
-use Rattle.reach.proofs.Limits.{Kept, accepted-keeps}
+use Rattle.reach.proofs.Limits.{KeepsLimits, accepted-keeps}
 use Rattle.reach.proofs.Depths.{forks-of}
-use Rattle.reach.proofs.Entries.{Finds, at-target, at-missing, at-limit, at-limit-waiting, by-step, by-fork, entry-found}
+use Rattle.reach.proofs.Entries.{EntryBelow, at-target, at-missing, at-limit, at-limit-waiting, by-step, by-fork, entry-found}
 
 -- the bytes of a row of open parts
 open-length : (n : ℕ) → length (prefix (allOpen n)) ≡ n
@@ -38,7 +38,7 @@ bind-length (after q) c k (bound d fs r) =
 bind-length (inside q) c k (bound d fs r) =
     omega (arith, bind-length q c k fs, length-append (prefix fs) (prefix r), length-append (prefix (bindAt q c k fs)) (prefix r))
 
-module _ (p : Program) (kept : Kept p) where
+module _ (p : Program) (kept : KeepsLimits p) where
   -- the constructors of a fork have at most 6 fields
   fork-small : (s : Option Slot) (f : Fork) → f ∈ forksAt (p .types) (leastDepths (p .types)) s → f .fields ≤ fieldLimit
   unfolding forksAt
@@ -48,7 +48,7 @@ module _ (p : Program) (kept : Kept p) where
       omega (arith, taken .4, kept .fields-limit (s .type) (f .constructor) (taken .1) (taken .3))
 
   -- each step that is left adds at most 1 to the steps and 6 to the bytes
-  found-within : {left n : ℕ} {i : Parts} {s : State} {e : Entry} → Finds p (leastDepths (p .types)) left n i s e
+  found-within : {left n : ℕ} {i : Parts} {s : State} {e : Entry} → EntryBelow p (leastDepths (p .types)) left n i s e
       → (e .steps ≤ left + n) × (length (prefix (e .input)) ≤ length (prefix i) + fieldLimit * left)
   unfolding branches
   found-within (at-target w) = omega arith

@@ -216,7 +216,7 @@ functions-kept d (h ∷ hs) all =
     (λ fs ks. giving (suc-le-suc (ks .0), (all .0, ks .1))))
 
 -- What an accepted file keeps to.
-pub record Kept (p : Program) : Type 0 where
+pub record KeepsLimits (p : Program) : Type 0 where
   pub types-limit : length (p .types) ≤ typeLimit
   pub constructors-limit : (t : ℕ) → length (getD (p .types) t []) ≤ constructorLimit
   pub fields-limit : (t c : ℕ) (us : List ℕ) → fieldTypes (p .types) t c ≡ some us → length us ≤ fieldLimit
@@ -237,7 +237,7 @@ parameters-of (some f) fs i e all = each-member FunctionKept all (nth-member fs 
 program-kept :
     (o : Outline) (fs : List Function) → OutlineKept o → length fs ≤ length (o .declared .heads) → Each FunctionKept fs
     → noEmptyType (leastDepths (o .declared .types)) ≡ true → deepEnough (programOf o fs) ≡ true → wellSpelled o ≡ true
-    → Kept (programOf o fs)
+    → KeepsLimits (programOf o fs)
 unfolding programOf wellSpelled fieldTypes sourceTypes functionAt
 program-kept o fs kept few all filled deep spelled =
     record {
@@ -257,7 +257,7 @@ program-kept o fs kept few all filled deep spelled =
     type-at : (t : ℕ) → TypeKept (getD (o .declared .types) t [])
     type-at t = each-getD TypeKept (o .declared .types) t [] (kept .types-kept) (zero-le, tt)
 
-file-kept : Promises Kept ruleFile
+file-kept : Promises KeepsLimits ruleFile
 unfolding ruleFile
 file-kept =
     then-on (anything sizeInLimit)
@@ -269,12 +269,12 @@ file-kept =
     (λ y deep. then-on (demanding (wellSpelled o) BadSpelling)
     (λ z spelled. giving (program-kept o fs kept (ks .0) (ks .1) filled deep spelled))))))))
 
-accepting : (g : Got Program) (p : Program) → IfFound (λ q next. Kept q) g → onGot (λ p next. accepted p) turnedBack g ≡ accepted p → Kept p
-accepting (got q next) p kept e = let z : q ≡ p = cc in subst Kept z kept
+accepting : (g : Got Program) (p : Program) → IfFound (λ q next. KeepsLimits q) g → onGot (λ p next. accepted p) turnedBack g ≡ accepted p → KeepsLimits p
+accepting (got q next) p kept e = let z : q ≡ p = cc in subst KeepsLimits z kept
 accepting (refused why) p kept e = absurd (clash (cc))
 
 -- an accepted file is within the limits of 01, and its types have values that fit
-pub accepted-keeps : (file : List ℕ) (p : Program) → check file ≡ accepted p → Kept p
+pub accepted-keeps : (file : List ℕ) (p : Program) → check file ≡ accepted p → KeepsLimits p
 unfolding check
 accepted-keeps file p e = accepting (ruleFile file 0) p (file-kept .found file 0) e
 

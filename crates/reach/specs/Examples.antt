@@ -85,16 +85,16 @@ abbrev pub computed : Asked → Answer
 computed a = given 16384 32768 a
 
 -- A question of this kind, and what answers it.
-pub record Row (Q A : Type 0) : Type 0 where
+pub record Example (Q A : Type 0) : Type 0 where
   pub asked : Q
   pub expected : A
 
 -- every row's answer is the one that stands beside it
-abbrev pub AsExpected : {Q A : Type 0} → (Q → A) → List (Row Q A) → Type 0
+abbrev pub AsExpected : {Q A : Type 0} → (Q → A) → List (Example Q A) → Type 0
 AsExpected answer rows = map (λ r. answer (r .asked)) rows ≡ map (λ r. r .expected) rows
 
 infix 70 _⇒_
-abbrev pub _⇒_ : {Q A : Type 0} → Q → A → Row Q A
+abbrev pub _⇒_ : {Q A : Type 0} → Q → A → Example Q A
 _⇒_ a b = record { asked = a; expected = b }
 
 -- as `reachlist` prints them: `reach`, `unfinished`, `missing`, and `_` for an open part
@@ -111,7 +111,7 @@ abbrev pub ○ : ℕ
 ○ = 0xff
 
 -- 01's table, row by row: P with its label, D and S, and what the row says; at the end the bytes of P's own list
-abbrev pub starred : List (Row Asked Answer)
+abbrev pub starred : List (Example Asked Answer)
 starred =
     search-of (p-with 7 4 20) ⇒ lists (reach 6 (1 ∷ 1 ∷ ○ ∷ []) ∷ []) Found
     ∷ search-of (p-with 7 3 20) ⇒ lists (reach 6 (1 ∷ 1 ∷ ○ ∷ []) ∷ []) Found
@@ -152,7 +152,7 @@ lacking s =
     ∷ 0x47 ∷ 0x4f ∷ 0x00 ∷ 0x07 ∷ 0x04 ∷ s ∷ 0x00 ∷ []
 
 -- a missing alternative is found at its step, the sixth, the third or the second; before it the path is unfinished; and no verdict comes of it
-abbrev pub at-missing : List (Row Asked Answer)
+abbrev pub at-missing : List (Example Asked Answer)
 at-missing =
     search-of (p-no-end 6) ⇒ lists (missing 6 (1 ∷ 1 ∷ ○ ∷ []) ∷ []) None
     ∷ search-of (p-no-end 5) ⇒ lists (unfinished 5 (1 ∷ ○ ∷ []) ∷ []) Undecided
@@ -174,7 +174,7 @@ at-missing =
 
 -- P's list has 9 bytes, and its S of 20 asks for 2,304 words: with one less the search is refused, and a closed run too; a missing alternative's entry
 -- is among those that must fit
-abbrev pub rooms : List (Row Asked Answer)
+abbrev pub rooms : List (Example Asked Answer)
 rooms =
     search-of (p-without 8 20) with-list 6 ⇒ refused 12 []
     ∷ search-of (p-with 7 4 20) with-list 9 ⇒ lists (reach 6 (1 ∷ 1 ∷ ○ ∷ []) ∷ []) Found
@@ -194,7 +194,7 @@ constant parameters =
 
 -- The depth of an input is that of its deepest parameter, wherever it stands, and 0 without parameters. At D 4 an input that is 4 deep is run, and one that
 -- is 5 deep is refused.
-abbrev pub inputs-deep : List (Row Asked Answer)
+abbrev pub inputs-deep : List (Example Asked Answer)
 inputs-deep =
     run-of (constant (2 ∷ 0 ∷ 0 ∷ [])) (1 ∷ 1 ∷ 0 ∷ 0 ∷ []) ⇒ answers (ran (Ended 0) 3)
     ∷ run-of (constant (2 ∷ 0 ∷ 0 ∷ [])) (0 ∷ 1 ∷ 0 ∷ []) ⇒ answers (ran (Ended 0) 2)

@@ -1,6 +1,6 @@
 -- Refusal 10 under exactly its condition: bytes are read as a closed input if and only if they are the prefix form of one that is within the depth. And with it
 -- stands its depth: 02, Slip 3. That the reading goes below 64 constructors only changes no answer, since D is at most 64.
--- Rests on Partial and Reading, and on Limits and WellTyped for accepted files.
+-- Rests on Partial and on reach's Input, and on its Limits and WellTyped for accepted files.
 use Prim.Native.Nat.{ℕ, suc, max, _+_, _≤_, _<_}
 use mathlib.Core.Path.{_≡_, refl, sym, ap, subst, _∙_}
 use mathlib.Core.Bool.{Bool, true, false}

@@ -1,6 +1,6 @@
 -- Values, partial or closed, are read exactly where their prefix form stands: what is found has the types asked for and the depth that the definition gives
 -- it, and what stands there is found, if no more constructors stand one inside another than the reading goes below.
--- Rests on specs/Partial, and on Reading and Limits for what a reader finds.
+-- Rests on reach's Partial, and on its Reading and Limits for what a reader finds.
 use Prim.Native.Nat.{ℕ, zero, suc, max, _+_, _≤_, _<_}
 use mathlib.Core.Path.{_≡_, refl, sym, ap, subst, _∙_}
 use mathlib.Core.List.{List, [], _∷_, _++_, append-assoc, append-nil, head?, tail}

@@ -17,7 +17,7 @@ use Rattle.machine.proofs.Records.{env-kept, frames-kept, operands-added, waiti
 use Rattle.registers.specs.declared.Registers.{Registers}
 use Rattle.registers.specs.declared.Next.{Next}
 use Rattle.registers.specs.declared.Next.the-variants as Next
-use Rattle.registers.specs.Stepping.{declarationsOf, controlIn, Few, StandsFor, Standing, Ready, StepMeans, Leads, Stepped}
+use Rattle.registers.specs.Stepping.{declarationsOf, controlIn, CountsSmall, StandsFor, Standing, Ready, StepMeans, Leads, Stepped}
 use Rattle.machine.proofs.Words.{records-same}
 use Rattle.registers.proofs.Words.{cells-same, few-more}
 use Rattle.registers.proofs.Which.{when-expression}
@@ -132,5 +132,5 @@ module _
 
 -- the counts after a record with such a count was added
 pub few-added :
-    {w w′ : List ℕ} {base top a n b c : ℕ} → Few w base top → Wrote w w′ base top a n b c → n ≤ 255 * top → Few w′ base (top + 1)
+    {w w′ : List ℕ} {base top a n b c : ℕ} → CountsSmall w base top → Wrote w w′ base top a n b c → n ≤ 255 * top → CountsSmall w′ base (top + 1)
 few-added few wrote small = few-more (wrote .only-top) few (rw (wrote .holds .word-1) small)

@@ -14,7 +14,7 @@ use Rattle.machine.specs.Records.{recordWord, OnlyTop}
 use Rattle.machine.proofs.Cells.{kept-cells}
 use Rattle.machine.proofs.Words.{records-same}
 use Rattle.registers.specs.declared.Registers.{Registers}
-use Rattle.registers.specs.Stepping.{Few, StandsFor}
+use Rattle.registers.specs.Stepping.{CountsSmall, StandsFor}
 
 module _ {w w′ : List ℕ} {base top : ℕ} (only : OnlyTop w w′ base top) where
   -- the cells are kept, which stand below all records
@@ -25,10 +25,10 @@ module _ {w w′ : List ℕ} {base top : ℕ} (only : OnlyTop w w′ base top) w
       kept-cells w′ (stands .input) (rw (only .same-length) (stands .input .fits)) (λ i below. only .elsewhere i (λ h. absurd (omega (arith, stands .apart))))
 
   -- the counts stay small, with the new record's
-  pub few-kept : Few w base top → Few w′ base top
+  pub few-kept : CountsSmall w base top → CountsSmall w′ base top
   few-kept few j below = rw (records-same only (base + 4 * j + 1) (omega arith) (omega arith)) (few j below)
 
-  pub few-more : Few w base top → recordWord w′ base top 1 ≤ 255 * top → Few w′ base (top + 1)
+  pub few-more : CountsSmall w base top → recordWord w′ base top 1 ≤ 255 * top → CountsSmall w′ base (top + 1)
   few-more few new j below = by-place (ℕ-discrete j top)
     where
       by-place : Dec (j ≡ top) → recordWord w′ base j 1 ≤ 255 * j

@@ -55,8 +55,8 @@ pub record FileOf (file types functions : List ℕ) (p : Program) : Type 0 where
   pub small : length file ≤ 16384
 
 -- the count word of each of the first t records is at most 255 times the record's number
-abbrev pub Few : List ℕ → ℕ → ℕ → Type 0
-Few w base t = (j : ℕ) → j < t → recordWord w base j 1 ≤ 255 * j
+abbrev pub CountsSmall : List ℕ → ℕ → ℕ → Type 0
+CountsSmall w base t = (j : ℕ) → j < t → recordWord w base j 1 ≤ 255 * j
 
 -- The registers name records that are there, there is room for one record more, and the numbers are small.
 pub record Space (w : List ℕ) (base : ℕ) (r : Registers) : Type 0 where
@@ -65,7 +65,7 @@ pub record Space (w : List ℕ) (base : ℕ) (r : Registers) : Type 0 where
   pub frame-below : r .frame < r .records
   pub room : base + 4 * (r .records + 1) ≤ length w
   pub narrow : length w ≤ 1000000
-  pub few : Few w base (r .records)
+  pub few : CountsSmall w base (r .records)
 
 -- The words and registers stand for a state on an input: the cells are the input's, the records are the state's, and there is room for one record more.
 pub record StandsFor (file types functions : List ℕ) (p : Program) (w : List ℕ) (base cells : ℕ) (r : Registers) (e : Parts) (s : State) : Type 0 where
@@ -102,7 +102,7 @@ pub record Follows (file types functions w′ : List ℕ) (base records : ℕ) (
   pub frame-below : r′ .frame < r′ .records
   pub no-fewer : records ≤ r′ .records
   pub one-more : r′ .records ≤ records + 1
-  pub few : Few w′ base (r′ .records)
+  pub few : CountsSmall w′ base (r′ .records)
 
 module _ (file types functions : List ℕ) (w w′ : List ℕ) (base : ℕ) (r : Registers) (p : Program) where
   -- what a step says of a state that the words stood for: what comes next is the evaluation's

@@ -15,7 +15,7 @@ use Rattle.results.specs.declared.TextResult.the-variants as TextResult
 use Rattle.results.specs.Results.{searchResult, listLengthIn, textLengthIn}
 use Rattle.search.proofs.Called.{length-is, listed-room}
 use Rattle.printing.specs.Bound.{textBound}
-use Rattle.printout.specs.Answering.{Measures, Writes}
+use Rattle.printout.specs.Answering.{LengthPromise, WritePromise}
 use Rattle.printout.proofs.Demands.{length-exact, length-most, write-exact}
 
 -- The search: the length of a list counts at most 16,777,216 bytes.
@@ -30,13 +30,13 @@ list-small file work list r is =
 
 -- no text is longer than that of a list of the 16,777,216 bytes that count may be
 module _ (file list : List ℕ) (bytes : (i : ℕ) → getD list i 0 < 256) (full : Bool) where
-  pub length-text-small : (r : TextResult) → Measures file list full r → textLengthIn r ≤ textBound listLimit
+  pub length-text-small : (r : TextResult) → LengthPromise file list full r → textLengthIn r ≤ textBound listLimit
   length-text-small (TextResult.Refused why) call = omega arith
   length-text-small (TextResult.Length n) call =
       let fits = (length-exact file list bytes full (TextResult.Length n) call n) .0 refl in
       omega (arith, length-most file list bytes full (TextResult.Length n) call n refl, fits .3 .in-limit)
 
-  pub write-text-small : (before after : List ℕ) (r : TextResult) → Writes file list full before after r → textLengthIn r ≤ textBound listLimit
+  pub write-text-small : (before after : List ℕ) (r : TextResult) → WritePromise file list full before after r → textLengthIn r ≤ textBound listLimit
   write-text-small before after (TextResult.Refused why) call = omega arith
   write-text-small before after (TextResult.Length n) call =
       length-text-small (TextResult.Length n) ((write-exact file list bytes full before after (TextResult.Length n) call n) .0 refl .0)

@@ -35,7 +35,7 @@ use Rattle.packing.specs.Packing.{checkNumber, searchNumber, runNumber, textNum
 use Rattle.packing.specs.Unpacking.{refusalBits, countBits, stepBits, depthBits, decodedCheck, checkRead, SearchRead, decodedSearch, searchRead, decodedRun, runRead, TextRead, decodedText, textRead, decodedPart}
 use Rattle.remburai.proofs.Answers.{length-text-small, write-text-small}
 use Rattle.remburai.specs.Answering.{Checks, Searches, Runs, Finds, Measures, Writes}
-use Rattle.packing.proofs.Unpacked.{Small, refused-parted, ran-parted, check-reads, search-reads, run-reads, read-one, text-reads, text-read-one, part-reads}
+use Rattle.packing.proofs.Unpacked.{FitsBits, refused-parted, ran-parted, check-reads, search-reads, run-reads, read-one, text-reads, text-read-one, part-reads}
 
 -- The check. `Checks file r` is the contract of `remburai_check`: the call answered r. Of the other calls likewise.
 
@@ -89,7 +89,7 @@ module _ (file input work work′ : List ℕ) (r : ℕ) (call : Runs file input 
   few : (stepsIn (runAnswer file input (length work)) ≤ stepLimit) × (depthIn (runAnswer file input (length work)) ≤ depthLimit)
   few = within (runAnswer file input (length work)) refl (check file) refl
 
-  small : (a : RunAnswer) → stepsIn a ≤ stepLimit → depthIn a ≤ depthLimit → Small a
+  small : (a : RunAnswer) → stepsIn a ≤ stepLimit → depthIn a ≤ depthLimit → FitsBits a
   small (noRun why) steps deep = tt
   small (ran o d) steps deep = (omega arith, omega arith)
 

@@ -1,5 +1,5 @@
 -- What the calls for C promise, and all that they promise: the number that they answer with, and the slices as the call behind them leaves them.
--- Rests on reach's Answers and Printouts, on packing's Packing, and on Answering of search and closed.
+-- Rests on reach's Answers and lists' Printouts, on packing's Packing, and on Answering of search and closed.
 use Prim.Native.Nat.{ℕ}
 use mathlib.Core.Path.{_≡_}
 use mathlib.Core.Bool.{Bool}

@@ -1,5 +1,5 @@
 -- The text of an answer, by the answer that the search gave and the bytes that it wrote.
--- Rests on reach's Text (the text by the bytes of a list), on reporting's Reports and on printing's Lengths.
+-- Rests on lists' Text (the text by the bytes of a list), on reporting's Reports and on printing's Lengths.
 use Prim.Native.Nat.{ℕ}
 use native.Mathlib.Omega.{arith}
 use mathlib.Core.Path.{_≡_, sym, ap, _∙_}

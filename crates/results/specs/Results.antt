@@ -1,5 +1,5 @@
--- The answers of reach's definitions, as the enums of src/lib.rt show them, and what a caller takes from a result.
--- Rests on the enums, and on reach's Answers, Search, Lists and Printouts.
+-- The answers of the definitions of crates reach and lists, as the enums of src/lib.rt show them, and what a caller takes from a result.
+-- Rests on the enums, and on reach's Answers, Search and Lists and lists' Printouts.
 use Prim.Native.Nat.{ℕ}
 use mathlib.Core.Option.{Option, none, some}
 use lib.ListN.{length}

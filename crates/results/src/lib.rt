@@ -1,5 +1,5 @@
 // What the public calls hand back: of the check, of the search, of the closed run, and of the two calls about the text of a list. specs/Results.antt says
-// which answer of reach's definitions each case stands for. There is no code in this crate. Rests on the enums of crate reach.
+// which answer of the definitions each case stands for. There is no code in this crate. Rests on the enums of crate reach.
 use reach::Outcome;
 use reach::Refusal;
 use reach::Verdict;

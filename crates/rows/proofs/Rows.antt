@@ -1,5 +1,5 @@
 -- A row of partial values, value by value: what the loop over the types of a row comes to, and the reading of one value.
--- Rests on Values and Stack, on reach's Partial and Reader, and on the lookups' Tables.
+-- Rests on Values and Stack, on reach's Partial and Reader, on lists' Handed, and on the lookups' Tables.
 use Prim.Native.Nat.{ℕ, zero, suc, max, _+_, _-_, _≤_, _<_}
 use mathlib.Core.Path.{_≡_, refl, ap}
 use mathlib.Core.Bool.{Bool, true, false}

@@ -1,5 +1,5 @@
 -- Values as reach's Partial reads them, the types being those at the places of a checked file.
--- Rests on reach's Partial and Places and on the enum of src/lib.rt.
+-- Rests on reach's Partial and Places, on lists' Handed and on the enum of src/lib.rt.
 use Prim.Native.Nat.{ℕ, _+_, _≤_}
 use mathlib.Core.List.{List, [], _∷_, map}
 use mathlib.Core.Option.{Option, none, some}
@@ -43,6 +43,6 @@ abbrev pub slotsAt : List ℕ → List ℕ → List ℕ → List ℕ → List �
 slotsAt file types table depths ts = slotted (map (typeAt file) types) (mannerOf table) depthLimit (slots ts depths)
 
 -- no value goes below more constructors than it may, and the least depth of a type is a byte
-abbrev pub Near : ℕ → Measured → Type 0
-Near levels (Measured.At next deep) = deep ≤ 255 + levels
-Near levels Measured.Bad = Unit {0}
+abbrev pub DeepAtMost : ℕ → Measured → Type 0
+DeepAtMost levels (Measured.At next deep) = deep ≤ 255 + levels
+DeepAtMost levels Measured.Bad = Unit {0}

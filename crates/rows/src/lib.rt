@@ -2,7 +2,7 @@
 // depths, or empty: then nothing may be open, and the values are closed. Rests on crates marks and lookups.
 ghost use mathlib.Core.Path.{_≡_};
 ghost use Prim.Native.Nat.{max, _≤_, _<_};
-ghost use Rattle.rows.specs.Values.{ofValue, ofOpen, mannerOf, valueAt, Near};
+ghost use Rattle.rows.specs.Values.{ofValue, ofOpen, mannerOf, valueAt, DeepAtMost};
 ghost use Rattle.rows.specs.Stack.{pastOf, ofFirst, NearFirst};
 use lookups::Fields;
 use lookups::fields_of;
@@ -27,7 +27,7 @@ pub fn larger(a: usize, b: usize) -> usize
 // An open part of type t, if there may be one: as deep as its type's least depth. Behind it stands the next place.
 pub fn open_part(least: &[u8], t: usize, next: usize) -> Measured
     ensures { λ r. ⌜ r ≡ ofOpen next ((mannerOf (now (least .entry))) .open-part t) ⌝ }
-    ensures near { λ r. ⌜ Near 0 r ⌝ }
+    ensures near { λ r. ⌜ DeepAtMost 0 r ⌝ }
 {
     if least.len() == 0 {
         return Measured::Bad;

@@ -28,7 +28,7 @@ use Rattle.results.specs.declared.CheckResult.{CheckResult}
 use Rattle.results.specs.declared.CheckResult.the-variants as CheckResult
 use Rattle.rulefile.specs.declared.Loaded.{Loaded}
 use Rattle.results.specs.Results.{checkResult}
-use Rattle.rulefile.specs.Loading.{typesIn, functionsIn, Outlines, Reads, sourceShallow, namesSpelled, LoadsAs}
+use Rattle.rulefile.specs.Loading.{typesIn, functionsIn, Outlines, AllPassed, sourceShallow, namesSpelled, LoadsAs}
 use Rattle.reach.proofs.Stages.{numbers-refused, bodies-refused, empty-refused, depth-refused, spelling-refused, file-accepted}
 use Rattle.rulefile.proofs.Passes as Passes
 use Rattle.rulefile.proofs.Tabled.{depth-tested}
@@ -89,7 +89,7 @@ module _ (s : List ℕ) (o : Outlined) where
           bodies-refused s (out .size) (out .read) (exist passed)
           (Passes.bodies-refused s (typesIn o) (functionsIn o) (out .behind) told e)
 
-      pub bodies-passed : b ≡ Judged.Fit → Reads s o
+      pub bodies-passed : b ≡ Judged.Fit → AllPassed s o
       bodies-passed e =
           let (fs, end, read) = Passes.bodies-got s (typesIn o) (functionsIn o) (out .behind) told e in
           record {
@@ -99,7 +99,7 @@ module _ (s : List ℕ) (o : Outlined) where
           }
 
   -- the tests of depth, on the array of least depths
-  module _ (reads : Reads s o) {least : List ℕ} (are : least ≡ padded (leastDepths (map (typeAt s) (typesIn o)))) where
+  module _ (reads : AllPassed s o) {least : List ℕ} (are : least ≡ padded (leastDepths (map (typeAt s) (typesIn o)))) where
     module _ {r : Bool} (tested : r ≡ noEmptyType (take (o .types) least)) where
       none-empty-is : noEmptyType (leastDepths (whole .declared .types)) ≡ r
       unfolding declarationsAt outlineAt

@@ -19,7 +19,7 @@ use Rattle.typerecord.specs.Passed.{passedOf}
 use Rattle.lookups.proofs.Tables.{found}
 use Rattle.bodies.specs.declared.Judged.{Judged}
 use Rattle.bodies.specs.declared.Judged.the-variants as Judged
-use Rattle.expressions.specs.Readers.{Small}
+use Rattle.expressions.specs.Readers.{TablesSmall}
 use Rattle.bodies.specs.Check.{BodiesThere, functionsAt, bodiesOf}
 
 -- ---- the tables keep to the limits, and the bodies end inside the file
@@ -36,7 +36,7 @@ module _ (s types functions : List ℕ) (named : Option ℕ) (goal : Goal) {n : 
   unfolding outlineAt
   inside = subst (IfFound (λ o next. Each (BodyInside s) (o .declared .heads))) read (outline-inside s 0)
 
-  pub tables-small : Small s types functions
+  pub tables-small : TablesSmall s types functions
   unfolding declarationsAt outlineAt
   tables-small =
       record {

@@ -48,7 +48,7 @@ pub record Outlines (s : List ℕ) (o : Outlined) : Type 0 where
   pub functions-held : length (o .«function_at») ≡ functionLimit
 
 -- the second and third pass found nothing either
-pub record Reads (s : List ℕ) (o : Outlined) : Type 0 where
+pub record AllPassed (s : List ℕ) (o : Outlined) : Type 0 where
   pub outlined : Outlines s o
   pub functions : List Function
   pub passed : PassesLeave s (typesIn o) (functionsIn o) (namedOf (o .named)) (goalOf (o .goal)) functions

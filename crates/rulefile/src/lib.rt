@@ -5,7 +5,7 @@
 ghost use mathlib.Core.Path.{_≡_};
 ghost use Rattle.goal.specs.Goals.{goalOf, namedOf};
 ghost use Rattle.rulefile.specs.Answering.{CheckPromise};
-ghost use Rattle.rulefile.specs.Loading.{Outlines, Reads, Loads, sourceShallow, namesSpelled};
+ghost use Rattle.rulefile.specs.Loading.{Outlines, AllPassed, Loads, sourceShallow, namesSpelled};
 use bodies::Judged;
 use bodies::bodies;
 use depths::Depths;
@@ -76,7 +76,7 @@ fn well_spelled<'a>(file: &'a [u8], types: &'a [u16], named: Named) -> bool
 
 // The tests of depth and of the form of names, of a file whose passes found nothing.
 fn with_depths(file: &[u8], o: Outlined) -> Loaded
-    requires { ⌜ Reads (now file) o ⌝ }
+    requires { ⌜ AllPassed (now file) o ⌝ }
     ensures { λ r. ⌜ Loads (now (file .entry)) r ⌝ }
 {
     let types = o.types;

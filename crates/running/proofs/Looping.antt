@@ -25,7 +25,7 @@ use Rattle.binding.specs.Underway.{GivenInput, Underway, Advances, NextIs, Adva
 use Rattle.binding.proofs.Reached.{same-demands, same-lacks, same-stops, same-spent}
 use Rattle.binding.proofs.Advancing.{within, went}
 use Rattle.running.specs.Looked.{LookedAt}
-use Rattle.running.specs.Running.{EndsAs, RunBegins, CameTo}
+use Rattle.running.specs.Running.{EndsAs, RunBegins, LedTo}
 
 -- it is the end: nothing comes next, or no step is left
 abbrev Last : Next → Type 0 → Type 0
@@ -58,10 +58,10 @@ stands-there {cells = cells} {p = p} {s = s} h =
     record { program = p; cells = cells; input = h .running .input; state = s; file-of = h .given .of-file .file-of; stands = h .running .stands }
 
 module _ (file types functions input : List ℕ) (label limit : ℕ) (w₀ : List ℕ) (base first : ℕ) (from : Registers) where
-  pub came-first : CameTo file types functions input label limit w₀ base first from w₀ first 0 from
+  pub came-first : LedTo file types functions input label limit w₀ base first from w₀ first 0 from
   came-first p j s h = let z : limit - 0 ≡ limit = omega arith in (s, h, rw z)
 
-  module _ (w : List ℕ) (cells done : ℕ) (r : Registers) (came : CameTo file types functions input label limit w₀ base first from w cells done r) where
+  module _ (w : List ℕ) (cells done : ℕ) (r : Registers) (came : LedTo file types functions input label limit w₀ base first from w cells done r) where
     module _ (w′ : List ℕ) (cells′ : ℕ) (n : Next) (advances : AdvancesAll file types functions input label w w′ base cells r cells′ n) where
       step : (p : Program) (j : Parts) (s : State) (h : Underway file types functions input label limit w₀ base first 0 from p j s)
           → Advances file types functions input label limit w′ base done p j (came p j s h .0) cells′ n
@@ -85,7 +85,7 @@ module _ (file types functions input : List ℕ) (label limit : ℕ) (w₀ : Lis
       -- one step further
       pub came-on :
           {r′ : Registers} → AdvancesAll file types functions input label w w′ base cells r cells′ (Next.Goes r′) → done < limit
-          → CameTo file types functions input label limit w₀ base first from w′ cells′ (done + 1) r′
+          → LedTo file types functions input label limit w₀ base first from w′ cells′ (done + 1) r′
       came-on {r′} advances before p j s h =
           let here = came p j s h in
           let (s′, spent, on, under) = step w′ cells′ (Next.Goes r′) advances p j s h in
@@ -134,26 +134,26 @@ module _ (file types functions input : List ℕ) (label limit : ℕ) (w₀ : Lis
 
   -- one step further, and so many
   far-none :
-      {w : List ℕ} {cells done : ℕ} {r : Registers} → CameTo file types functions input label limit w₀ base first from w cells done r
-      → CameTo file types functions input label limit w₀ base first from w cells (done + 0) r
+      {w : List ℕ} {cells done : ℕ} {r : Registers} → LedTo file types functions input label limit w₀ base first from w cells done r
+      → LedTo file types functions input label limit w₀ base first from w cells (done + 0) r
   far-none {done = done} came = let z : done + 0 ≡ done = omega arith in rw z came
 
   far-on :
-      {w w′ : List ℕ} {cells : ℕ} (done n : ℕ) {r r′ : Registers} → CameTo file types functions input label limit w₀ base first from w cells (done + n) r
+      {w w′ : List ℕ} {cells : ℕ} (done n : ℕ) {r r′ : Registers} → LedTo file types functions input label limit w₀ base first from w cells (done + n) r
       → Stepped file types functions w w′ base label r (Next.Goes r′) → done + suc n ≤ limit
-      → CameTo file types functions input label limit w₀ base first from w′ cells (done + suc n) r′
+      → LedTo file types functions input label limit w₀ base first from w′ cells (done + suc n) r′
   far-on {w} {cells = cells} done n {r} {r′} came stepped few =
       let z : done + suc n ≡ done + n + 1 = omega arith in
       rw z (came-on w cells (done + n) r came cells (went (Next.Goes r′) stepped (λ x is. absurd (clash (cc)))) (omega arith))
 
   came-far :
-      {w w₁ : List ℕ} {cells done n : ℕ} {r r₁ : Registers} → CameTo file types functions input label limit w₀ base first from w cells done r
+      {w w₁ : List ℕ} {cells done n : ℕ} {r r₁ : Registers} → LedTo file types functions input label limit w₀ base first from w cells done r
       → StepsTo file types functions label base n w r w₁ r₁ → done + n ≤ limit
-      → CameTo file types functions input label limit w₀ base first from w₁ cells (done + n) r₁
+      → LedTo file types functions input label limit w₀ base first from w₁ cells (done + n) r₁
   came-far came no-step few = far-none came
   came-far {done = done} came (one-more {n} led stepped) few = far-on done n (came-far came led (omega arith)) stepped few
 
-  module _ (w : List ℕ) (cells done : ℕ) (r : Registers) (came : CameTo file types functions input label limit w₀ base first from w cells done r) (in-time : done ≤ limit) where
+  module _ (w : List ℕ) (cells done : ℕ) (r : Registers) (came : LedTo file types functions input label limit w₀ base first from w cells done r) (in-time : done ≤ limit) where
     -- wherever the steps that are left lead, the words stand for a state
     pub came-onward : RunBegins file types functions input label limit w₀ base first from → Onward file types functions label w base r (limit - done)
     came-onward (p, j, s, h) n w₁ r₁ few led = stands-there (came-far came led (omega arith) p j s h .1)
@@ -163,7 +163,7 @@ module _ (file types functions input : List ℕ) (label limit : ℕ) (w₀ : Lis
       halts : (halt : Halt) → x .halt ≡ halt → ComesToHalt file types functions label (ran .between) w′ base (x .registers) (x .steps) (limit - done) halt
       halts halt is = subst (ComesToHalt file types functions label (ran .between) w′ base (x .registers) (x .steps) (limit - done)) is (ran .comes)
 
-      came-there : CameTo file types functions input label limit w₀ base first from (ran .between) cells (done + x .steps) (x .registers)
+      came-there : LedTo file types functions input label limit w₀ base first from (ran .between) cells (done + x .steps) (x .registers)
       came-there = came-far came (ran .led) (omega (arith, ran .no-more))
 
       pub halt-demands : x .halt ≡ Halt.Demands → EndsAs file types functions input label limit w₀ w′ base first from (Outcome.Reached (done + x .steps))
@@ -194,7 +194,7 @@ module _ (file types functions input : List ℕ) (label limit : ℕ) (w₀ : Lis
             (ends : List ℕ) {w″ : List ℕ} {cells′ : ℕ} {r′ : Registers} (filled : Ends file types functions ends)
             (enters : Enters file types ends input w′ w″ base cells y (x .registers) cells′ r′)
           where
-            pub halt-enters : done + x .steps < limit → CameTo file types functions input label limit w₀ base first from w″ cells′ (done + x .steps + 1) r′
+            pub halt-enters : done + x .steps < limit → LedTo file types functions input label limit w₀ base first from w″ cells′ (done + x .steps + 1) r′
             halt-enters =
                 came-on (ran .between) cells (done + x .steps) (x .registers) came-there cells′ (enters functions (ran .between) label filled (halts (Halt.Waits y) is))
 

@@ -24,7 +24,7 @@ RunBegins file types functions input label limit w base cells r =
     (p : Program) × (j : Parts) × (s : State) × Underway file types functions input label limit w base cells 0 r p j s
 
 -- the run came from the beginning to here
-abbrev pub CameTo : (file types functions input : List ℕ) (label limit : ℕ) (w₀ : List ℕ) (base first : ℕ) (from : Registers) (w : List ℕ) (cells done : ℕ) (r : Registers) → Type 0
-CameTo file types functions input label limit w₀ base first from w cells done r =
+abbrev pub LedTo : (file types functions input : List ℕ) (label limit : ℕ) (w₀ : List ℕ) (base first : ℕ) (from : Registers) (w : List ℕ) (cells done : ℕ) (r : Registers) → Type 0
+LedTo file types functions input label limit w₀ base first from w cells done r =
     (p : Program) (j : Parts) (s : State) → Underway file types functions input label limit w₀ base first 0 from p j s
     → (s′ : State) × Underway file types functions input label limit w base cells done r p j s′ × (eval p j limit 0 s ≡ eval p j (limit - done) done s′)

@@ -1,4 +1,4 @@
--- An entry stands where its size was found. Rests on Sizes and on reach's ReadBack.
+-- An entry stands where its size was found. Rests on Sizes and on lists' ReadBack.
 use Prim.Native.Nat.{ℕ, _+_, _≤_}
 use mathlib.Core.Path.{_≡_, sym, ap, _∙_}
 use mathlib.Core.List.{List}

@@ -21,7 +21,7 @@ use Rattle.reach.proofs.WellTyped.{open-apart}
 use Rattle.machine.specs.Cells.{cellWord, cellOf, Cells, Binds, Unmoved}
 use Rattle.machine.proofs.Cells.{field, walk-part, walk-kept, OneOf, bind-places, bind-elsewhere}
 use Rattle.cells.proofs.Binding.{bound-cells}
-use Rattle.values.specs.Positions.{RowStands, byteOf}
+use Rattle.values.specs.Positions.{ClosedRowStands, byteOf}
 use Rattle.values.specs.Notes.{notedPlace, Noted, NotesStand, FollowsInput}
 use Rattle.values.proofs.Standing.{ValueStands, PartStands, input-stands, input-part}
 
@@ -103,7 +103,7 @@ start-follows {p} file types checked there input {j} {v} {w′} {ts} {n} reads s
   notes = λ r h. by-part r (open-places n r (free-there h));
 }
   where
-    whole : RowStands (map (typeAt file) types) ts input 0 j
+    whole : ClosedRowStands (map (typeAt file) types) ts input 0 j
     whole = rw (source, ← there) (input-stands file checked input reads)
 
     by-part : (r : Place) → OneOf n part r → notedPlace w′ (cellOf w′ r) ≡ byteOf j r 0

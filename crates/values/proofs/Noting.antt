@@ -14,7 +14,7 @@ use Rattle.reach.specs.Partial.{OpenApart}
 use Rattle.reach.specs.Places.{bytesAt, typeAt}
 use Rattle.reach.proofs.Places.{bytes-length}
 use Rattle.cells.proofs.Writing.{bytes-nth}
-use Rattle.values.specs.Positions.{RowStands, byteOf}
+use Rattle.values.specs.Positions.{ClosedRowStands, byteOf}
 use Rattle.values.specs.Notes.{notedPlace, notePlace, behindValue, NotedFirst}
 use Rattle.values.proofs.Standing.{next-read}
 
@@ -45,7 +45,7 @@ module _ (w : List ℕ) (x i : ℕ) where
 module _ (file types input : List ℕ) (ts : List ℕ) (at : ℕ) where
   -- where a row stands, value n of it stands at this place
   abbrev pub Reached : ℕ → ℕ → Type 0
-  Reached n place = OpenApart (map (typeAt file) types) → (j : Parts) → RowStands (map (typeAt file) types) ts input at j → place ≡ byteOf j (part n) at
+  Reached n place = OpenApart (map (typeAt file) types) → (j : Parts) → ClosedRowStands (map (typeAt file) types) ts input at j → place ≡ byteOf j (part n) at
 
   pub reached-first : Reached 0 at
   unfolding byteOf part

@@ -1,6 +1,6 @@
 -- What stands in the bytes at the place of each part of a closed row: the number of its constructor, its fields from the next byte on, and behind them the
 -- next part of its row.
--- Rests on specs/Positions, on reach's ClosedInputs and Depths, and on its Partial for how values are read.
+-- Rests on specs/Positions, on readings' ClosedInputs, and on reach's Depths and Partial for how values are read.
 use Prim.Native.Nat.{ℕ, zero, suc, _+_, _-_, _<_}
 use mathlib.Core.Path.{_≡_, refl, sym, _∙_, ap}
 use mathlib.Core.List.{List, [], _∷_, _++_, append-assoc, append-nil}
@@ -22,7 +22,7 @@ use Rattle.reach.proofs.Limits.{within-limit}
 use Rattle.readings.proofs.Partial.{inputs-lawful, value-read}
 use Rattle.reach.proofs.Reading.{byte-there}
 use Rattle.reach.proofs.Slots.{even-types, source-types}
-use Rattle.values.specs.Positions.{RowStands, byteOf}
+use Rattle.values.specs.Positions.{ClosedRowStands, byteOf}
 
 -- What stands at place i of the bytes s where a closed value of type t begins: the number c of its constructor, and from the next place on its fields.
 pub record ValueStands (types : Types) (t : ℕ) (s : List ℕ) (i c : ℕ) (fs : Parts) : Type 0 where
@@ -30,7 +30,7 @@ pub record ValueStands (types : Types) (t : ℕ) (s : List ℕ) (i c : ℕ) (fs 
   pub number : getD s i 0 ≡ c
   pub fields : List ℕ
   pub known : fieldTypes types t c ≡ some fields
-  pub inner : RowStands types fields s (i + 1) fs
+  pub inner : ClosedRowStands types fields s (i + 1) fs
 
 -- The part at q of a row with these slots stands in the bytes: a value of its slot's type at its place, with a slot that allows it, and its fields behind.
 pub record PartStands (types : Types) (s : List ℕ) (j : Parts) (q : Place) (ss : List Slot) (i : ℕ) : Type 0 where
@@ -59,7 +59,7 @@ drop-behind s i xs ys e = sym (drop-drop (length xs) i s) ∙ ap (drop (length x
 
 module _ {types : Types} {s : List ℕ} where
   -- the first value of a row, and the rest of the row behind it
-  module _ {t : ℕ} {ts : List ℕ} {i c : ℕ} {fs r : Parts} (row : RowStands types (t ∷ ts) s i (bound c fs r)) where
+  module _ {t : ℕ} {ts : List ℕ} {i c : ℕ} {fs r : Parts} (row : ClosedRowStands types (t ∷ ts) s i (bound c fs r)) where
     whole : drop i s ≡ c ∷ (prefix fs ++ (prefix r ++ row .behind))
     unfolding prefix
     whole = row .bytes ∙ ap (λ (x : List ℕ). c ∷ x) (append-assoc (prefix fs) (prefix r) (row .behind))
@@ -91,7 +91,7 @@ module _ {types : Types} {s : List ℕ} where
         let shallow = row .shallow in
         (_, value-read types inInputs Closed (inputs-lawful types) few depthLimit s t c us fs i (prefix r ++ row .behind) known inner (row .closed .0) (omega arith) whole)
 
-    pub rest-stands : RowStands types ts s (i + 1 + length (prefix fs)) r
+    pub rest-stands : ClosedRowStands types ts s (i + 1 + length (prefix fs)) r
     unfolding depth
     rest-stands =
         let shallow = row .shallow in
@@ -104,7 +104,7 @@ module _ {types : Types} {s : List ℕ} where
         }
 
   -- value n of a row is read up to the place of the next one
-  pub next-read : OpenApart types → (j : Parts) (n : ℕ) (ts : List ℕ) (i : ℕ) → RowStands types ts s i j → n < length ts
+  pub next-read : OpenApart types → (j : Parts) (n : ℕ) (ts : List ℕ) (i : ℕ) → ClosedRowStands types ts s i j → n < length ts
       → (v : Value) × (value types inInputs depthLimit (getD ts n 0) s (byteOf j (part n) i) ≡ got v (byteOf j (part (suc n)) i))
   unfolding byteOf part
   next-read few end n [] i row l = absurd (omega arith)
@@ -115,7 +115,7 @@ module _ {types : Types} {s : List ℕ} where
   next-read few (bound c fs r) (suc n) (t ∷ ts) i row l = next-read few r n ts (i + 1 + length (prefix fs)) (rest-stands row) (omega arith)
 
   -- every part of a row that fits its slots stands in the bytes
-  pub part-stands : (j : Parts) (q : Place) (ss : List Slot) (i : ℕ) → RowStands types (slotTypes ss) s i j → Fits ss j → There (at j q) → PartStands types s j q ss i
+  pub part-stands : (j : Parts) (q : Place) (ss : List Slot) (i : ℕ) → ClosedRowStands types (slotTypes ss) s i j → Fits ss j → There (at j q) → PartStands types s j q ss i
   unfolding at slotAt fieldSlots slotTypes byteOf within
   part-stands end q ss i row fits there = absurd there
   part-stands (opened r) q ss i row fits there = absurd (row .closed)
@@ -147,7 +147,7 @@ module _ {types : Types} {s : List ℕ} where
   part-stands (bound c fs r) (inside q) (x ∷ ss) i row fits there =
       let v = first-stands row in
       let d = x .room - 1 in
-      let inner : RowStands types (slotTypes (evenSlots (v .fields) d)) s (i + 1) fs = rw (even-types (v .fields) d) (v .inner) in
+      let inner : ClosedRowStands types (slotTypes (evenSlots (v .fields) d)) s (i + 1) fs = rw (even-types (v .fields) d) (v .inner) in
       let p = part-stands fs q (evenSlots (v .fields) d) (i + 1) inner (fits-depth types (v .fields) d fs (v .inner .typed) .1 (omega (arith, fits .0))) there in
       record {
         slot = p .slot;
@@ -162,7 +162,7 @@ module _ {types : Types} {s : List ℕ} where
 
 -- The closed input of an accepted file's program stands in its bytes from the first one on.
 module _ (file : List ℕ) {p : Program} (checked : check file ≡ accepted p) (input : List ℕ) {j : Parts} (reads : inputOf p input ≡ some j) where
-  pub input-stands : RowStands (p .types) (sourceTypes p) input 0 j
+  pub input-stands : ClosedRowStands (p .types) (sourceTypes p) input 0 j
   input-stands =
       let (within, same) = input-exactly file p checked input j .0 reads in
       record {

@@ -15,7 +15,7 @@ use Rattle.machine.specs.Cells.{cellWord, cellOf, Cells}
 use Rattle.rows.specs.declared.Measured.{Measured}
 use Rattle.rows.specs.declared.Measured.the-variants as Measured
 use Rattle.rows.specs.Values.{ofValue, valueAt}
-use Rattle.values.specs.Positions.{RowStands, byteOf}
+use Rattle.values.specs.Positions.{ClosedRowStands, byteOf}
 
 -- the place noted in cell x: its low half is word 4, its high half word 1
 abbrev pub notedPlace : List ℕ → ℕ → ℕ
@@ -39,7 +39,7 @@ behindValue file types input i t = placeOr i (ofValue (valueAt file types [] dep
 pub record NotedFirst (file types input w w′ : List ℕ) (first : ℕ) (ts : List ℕ) (at n : ℕ) : Type 0 where
   pub same-length : length w′ ≡ length w
   pub elsewhere : (i : ℕ) → ((m : ℕ) → m < n → (i ≢ 5 * (first + m) + 1) × (i ≢ 5 * (first + m) + 4)) → getD w′ i 0 ≡ getD w i 0
-  pub there : OpenApart (map (typeAt file) types) → (j : Parts) → RowStands (map (typeAt file) types) ts input at j → (m : ℕ) → m < n
+  pub there : OpenApart (map (typeAt file) types) → (j : Parts) → ClosedRowStands (map (typeAt file) types) ts input at j → (m : ℕ) → m < n
       → notedPlace w′ (first + m) ≡ byteOf j (part m) at
 
 -- in every cell

@@ -10,7 +10,7 @@ use Rattle.reach.specs.Parts.{Parts, end, opened, bound, Place, here, after, in
 use Rattle.reach.specs.Types.{Typed}
 
 -- A closed row stands in the bytes s from place i on, in prefix form: values of these types, none deeper than values are read.
-pub record RowStands (types : Types) (ts s : List ℕ) (i : ℕ) (j : Parts) : Type 0 where
+pub record ClosedRowStands (types : Types) (ts s : List ℕ) (i : ℕ) (j : Parts) : Type 0 where
   pub closed : Closed j
   pub typed : Typed types ts j
   pub shallow : depth j ≤ depthLimit

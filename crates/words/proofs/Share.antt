@@ -1,5 +1,5 @@
 -- The share is at most 100.
--- Rests on reach's Text.
+-- Rests on lists' Text.
 use Prim.Native.Nat.{ℕ, _+_, _*_, _/_, _≤_}
 use native.Mathlib.Omega.{arith}
 use mathlib.Core.Bool.{Bool, true, false}

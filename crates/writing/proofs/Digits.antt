@@ -1,5 +1,5 @@
 -- Numbers in decimal: the digits before the last are those of the tenth, and how many there are.
--- Rests on Text of crate reach.
+-- Rests on Text of crate lists.
 use Prim.Native.Nat.{ℕ, zero, suc, _+_, _/_, _≤_, _<_}
 use mathlib.Core.Path.{_≡_, refl, ap, _∙_}
 use mathlib.Core.Bool.{Bool, true, false}

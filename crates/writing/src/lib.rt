@@ -1,5 +1,5 @@
 // Text written into a lent slice: a byte, a word, a number. Every function answers with the place behind its text, also where the slice is too short
-// for it: so a caller sees by the place whether all of it was written. Rests on crate reach's definitions.
+// for it: so a caller sees by the place whether all of it was written. Rests on the definitions of crates reach and lists.
 ghost use mathlib.Core.Path.{_≡_};
 ghost use mathlib.Core.List.{[], _∷_};
 ghost use Prim.Native.Nat.{_+_, _≤_, _<_};

@@ -10,7 +10,7 @@ use Rattle.reach.specs.Syntax.{Program}
 use Rattle.lists.specs.Handed.{entry, entriesBy}
 use Rattle.lists.proofs.ReadBack.{size-inside}
 use Rattle.sizes.specs.Sizes.{sizeOf}
-use Rattle.handed.specs.Fits.{Given}
+use Rattle.handed.specs.Fits.{AcceptedTables}
 use Rattle.handed.proofs.Lists.{found, all-read, too-long, at-last, over, none-there, unfit, fit}
 use Rattle.handed.proofs.list_fits.Statement.{statement}
 use Rattle.handed.proofs.list_fits.Tie as tie
@@ -19,7 +19,7 @@ use Rattle.handed.proofs.list_fits.Tie as tie
 abbrev Inv-loop : tie.InvT-loop
 Inv-loop file types functions least goal list end at₀ more₀ at more =
     (end ≡ length list) × (at ≤ length list)
-    × ((p : Program) → Given file types functions (least .of) (goal .source) (goal .depths) (goal .steps) p → found (entriesBy (entry p) more list at) ≡ found (entriesBy (entry p) (length list) list 0))
+    × ((p : Program) → AcceptedTables file types functions (least .of) (goal .source) (goal .depths) (goal .steps) p → found (entriesBy (entry p) more list at) ≡ found (entriesBy (entry p) (length list) list 0))
 
 abbrev μ-loop : tie.MeasureT-loop
 μ-loop file types functions least goal list end at₀ more₀ at more = more

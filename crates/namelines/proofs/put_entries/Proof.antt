@@ -15,14 +15,14 @@ use Rattle.sizes.specs.declared.Size.the-variants as Size
 use Rattle.sizes.specs.Sizes.{sizeOf}
 use Rattle.namelines.specs.Rows.{typesAsked}
 use Rattle.namelines.specs.Lists.{listNames}
-use Rattle.namelines.proofs.Entries.{Going, going-whole, going-end, going-more, going-done}
+use Rattle.namelines.proofs.Entries.{NamesLeft, going-whole, going-end, going-more, going-done}
 use Rattle.namelines.proofs.put_entries.Statement.{statement}
 use Rattle.namelines.proofs.put_entries.Tie as tie
 
 -- the rest of the list stands from the place reached on, and its names are still to be written
 abbrev Inv-loop : tie.InvT-loop
 Inv-loop file types least list asked text₀ at₀ to₀ text at to =
-    Going (map (typeAt file) types) (asked .named) (typesAsked file asked) list text₀
+    NamesLeft (map (typeAt file) types) (asked .named) (typesAsked file asked) list text₀
     (listNames (map (typeAt file) types) (asked .named) (typesAsked file asked) list) text at to
     × (at ≤ length list)
 

@@ -4,7 +4,7 @@ use mathlib.Core.Path.{_≡_, sym, _∙_, ap, subst}
 use native.Mathlib.Omega.{arith}
 use borrow.Author.Needs.{needs}
 use Rattle.rows.specs.declared.Measured.the-variants as Measured
-use Rattle.rows.specs.Values.{Near}
+use Rattle.rows.specs.Values.{DeepAtMost}
 use Rattle.rows.specs.Stack.{above, ofFirst}
 use Rattle.partials.proofs.Frames.{part-near, node-near}
 use Rattle.partials.proofs.value.Statement.{statement}
@@ -29,7 +29,7 @@ returns c =
     (sym (first .ensures .0 ∙ ap (ofFirst (args .file .now) (args .types .now) (args .least .now) (args .levels) (args .list .now)) (c .before .before .before .before .next2 .given .1) ∙ ap above (sym (c .before .before .values .ensures .0) ∙ c .enum-told2 .given .1)), tt)
 
 add-t17 : tie.Need-add-t17
-add-t17 c = omega (arith, subst (Near (c .before .before .before .before .before .before .before .before .before .before .before .before .args .levels - 1)) (c .before .end .given .1) (c .before .before .before .values .ensures .1), c .before .before .before .before .before .before .before .before .before .before .before .before .pre)
+add-t17 c = omega (arith, subst (DeepAtMost (c .before .before .before .before .before .before .before .before .before .before .before .before .args .levels - 1)) (c .before .end .given .1) (c .before .before .before .values .ensures .1), c .before .before .before .before .before .before .before .before .before .before .before .before .pre)
 
 returns-2 : tie.Need-returns-2
 returns-2 c =
@@ -52,7 +52,7 @@ returns-4 c =
     let row = c .before .end .given in
     let one-more : row .0 .1 .0 + 1 ≡ suc (row .0 .1 .0) = omega arith in (
       ap (Measured.At (row .0 .0)) one-more ∙ sym (first .ensures .0 ∙ ap (ofFirst (args .file .now) (args .types .now) (args .least .now) (args .levels) (args .list .now)) (c .before .before .before .before .before .next2 .given .1) ∙ ap above (sym (c .before .before .before .values .ensures .0) ∙ row .1)),
-      omega (arith, subst (Near (args .levels - 1)) (row .1) (c .before .before .before .values .ensures .1), taken .3),
+      omega (arith, subst (DeepAtMost (args .levels - 1)) (row .1) (c .before .before .before .values .ensures .1), taken .3),
     )
 
 pub value-spec : {M : Type 1} → statement M

@@ -8,7 +8,7 @@ use Rattle.marks.proofs.Answers.{byte-got, byte-short}
 use Rattle.lookups.specs.Fields.{fieldsOf}
 use Rattle.lookups.proofs.Tables.{near-at}
 use Rattle.rows.specs.declared.Measured.the-variants as Measured
-use Rattle.rows.specs.Values.{mannerOf, ofRow, rowAt, Near}
+use Rattle.rows.specs.Values.{mannerOf, ofRow, rowAt, DeepAtMost}
 use Rattle.rows.specs.Stack.{above}
 use Rattle.rows.proofs.Rows.{byte-taken, joined-none, value-short, value-opens, value-flat, value-unknown, value-fields, part-next}
 use Rattle.rows.proofs.first_byte.Statement.{statement}
@@ -36,7 +36,7 @@ returns-3 c =
       value-opens _ _ _ _ _ _ byte (c .before .before .before .before .if1 .taken)
           ∙ sym (c .before .before .before .open-part .ensures .0) ∙ part .1
           ∙ ap (λ k. Measured.At k (part .0 .1 .0)) same,
-      (there .0, there .1, subst (Near 0) (part .1) (c .before .before .before .open-part .ensures .1)),
+      (there .0, there .1, subst (DeepAtMost 0) (part .1) (c .before .before .before .open-part .ensures .1)),
     )
 
 returns-4 : tie.Need-returns-4

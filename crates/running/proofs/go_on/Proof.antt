@@ -4,14 +4,14 @@ use mathlib.Core.Path.{_≡_, refl}
 use native.Mathlib.Omega.{arith}
 use lib.ListN.{length}
 use borrow.Author.Needs.{needs}
-use Rattle.running.specs.Running.{CameTo}
+use Rattle.running.specs.Running.{LedTo}
 use Rattle.running.proofs.Looping.{came-first, came-onward, halt-demands, halt-stops, halt-spent, halt-lacks, halt-waits, halt-enters, halt-last}
 use Rattle.running.proofs.go_on.Statement.{statement}
 use Rattle.running.proofs.go_on.Tie as tie
 
 abbrev Inv-loop : tie.InvT-loop
 Inv-loop file types functions ends label input work₀ base first limit r₀ cells₀ done₀ work r cells done =
-    (length work ≡ length work₀) × (done ≤ limit) × CameTo file types functions input label limit work₀ base first r₀ work cells done r
+    (length work ≡ length work₀) × (done ≤ limit) × LedTo file types functions input label limit work₀ base first r₀ work cells done r
 
 abbrev μ-loop : tie.MeasureT-loop
 μ-loop file types functions ends label input work₀ base first limit r₀ cells₀ done₀ work r cells done = limit - done
