@@ -1,6 +1,6 @@
--- The demands of the request, said of the call `run`: its answer, by what its contract promises, is the outcome of the published evaluation on the closed
--- input whose bytes it was given, with exact steps, and the depth of that input, or one refusal under exactly its condition.
--- What is proved of that evaluation stands in reach's Demands, of the reading of its input in readings' Demands; what the search says of the same evaluation, in search's Demands.
+-- The demands of the request, said of the call `run`: its answer, by what its contract promises, is the outcome of the published evaluation on the closed input
+-- whose bytes it was given, with exact steps, and the depth of that input, or one refusal under exactly its condition. What is proved of that evaluation stands
+-- in reach's Demands, of the reading of its input in readings' Demands; what the search says of the same evaluation, in search's Demands.
 -- Rests on both, and on reach's Limits, Evaluation and Refusals.
 use Prim.Native.Nat.{ℕ, _≤_, _<_}
 use mathlib.Core.Path.{_≡_, refl, sym, _∙_, ap, subst}

@@ -1,6 +1,7 @@
 -- Refusal 14 under exactly its condition: a list that is handed in is read as entries if and only if it is those entries, whole and one behind the other, each
 -- fitting the rule file. Every list that a search wrote is one; and the text of a list's bytes is that of its entries.
--- Rests on specs/Handed, on EntryValues, readings' Partial and reach's Reading; for the lists of searches on reach's Accepted, Answers, Depths and EntryLength, on ReadBack and on Text.
+-- Rests on specs/Handed, on EntryValues, readings' Partial and reach's Reading; for the lists of searches on reach's Accepted, Answers, Depths and EntryLength,
+-- on ReadBack and on Text.
 use Prim.Native.Nat.{ℕ, zero, suc, _+_, _*_, _/_, _%_, _≤_, _<_}
 use mathlib.Core.Path.{_≡_, refl, sym, ap, subst, _∙_}
 use mathlib.Core.Bool.{Bool, true, false, and-eq-true-iff}

@@ -1,4 +1,5 @@
--- The text that `report` writes and `reachlist` prints, in terms of the definitions of crates reach and lists. What is promised of it stands in reporting's Answers.
+-- The text that `report` writes and `reachlist` prints, in terms of the definitions of crates reach and lists. What is promised of it stands in reporting's
+-- Answers.
 -- Rests on reach's Answers and lists' Text.
 use Prim.Native.Nat.{ℕ}
 use mathlib.Core.List.{List}

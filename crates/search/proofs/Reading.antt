@@ -1,7 +1,7 @@
--- The bytes of a list determine its entries: a partial input of the source's types is determined by its prefix form, so that an entry is determined by
--- what is read back of it.
--- Rests on specs/Answering, on lists' ReadBack for the bytes of a list, on readings' Partial (prefix forms differ) and reach's WellTyped (a constructor's number is not
--- 0xFF), and on its Accepted and EntryLength (an entry has the source's types).
+-- The bytes of a list determine its entries: a partial input of the source's types is determined by its prefix form, so that an entry is determined by what is
+-- read back of it.
+-- Rests on specs/Answering, on lists' ReadBack for the bytes of a list, on readings' Partial (prefix forms differ) and reach's WellTyped (a constructor's
+-- number is not 0xFF), and on its Accepted and EntryLength (an entry has the source's types).
 use Prim.Native.Nat.{ℕ, zero, suc, _≤_, _<_}
 use native.Mathlib.Omega.{arith}
 use mathlib.Core.Path.{_≡_, refl, sym, ap, _∙_}

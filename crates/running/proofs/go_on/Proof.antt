@@ -1,4 +1,5 @@
--- `running::go_on` meets its contract. The invariant: from the beginning the run came to here. The measure is the steps left: each turn makes at least one. Rests on Looping.
+-- `running::go_on` meets its contract. The invariant: from the beginning the run came to here. The measure is the steps left: each turn makes at least one.
+-- Rests on Looping.
 use Prim.Native.Nat.{_≤_, _-_}
 use mathlib.Core.Path.{_≡_, refl}
 use native.Mathlib.Omega.{arith}
