@@ -10,7 +10,7 @@ from glob import glob
 
 sys.dont_write_bytecode = True
 
-from blind.compare import Different, same
+from blind.compare import judged, same
 
 ROOT = os.path.dirname(os.path.dirname(os.path.abspath(__file__)))
 PAGES = "README.md", "CONTRIBUTING.md", "docs/REVIEW.md", "docs/DECISIONS.md"
@@ -76,18 +76,13 @@ def check_places():
     return found
 
 
-def main():
-    try:
-        check_layout()
-        edits, places = check_edits(), check_places()
-        check_paths()
-        same("whether edits and places were found", (edits > 50, places > 50), (True, True))
-    except Different as different:
-        print(f"documents: {different}", file=sys.stderr)
-        return 1
-    print(f"documents: {edits} edits and {places} places: ok")
-    return 0
+def check():
+    check_layout()
+    edits, places = check_edits(), check_places()
+    check_paths()
+    same("whether edits and places were found", (edits > 50, places > 50), (True, True))
+    return f"{edits} edits and {places} places"
 
 
 if __name__ == "__main__":
-    sys.exit(main())
+    sys.exit(judged("documents", check))

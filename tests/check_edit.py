@@ -12,7 +12,7 @@ from tempfile import TemporaryDirectory
 
 sys.dont_write_bytecode = True
 
-from blind.compare import Different, same
+from blind.compare import judged, same
 
 TOOL = os.path.join(os.path.dirname(os.path.dirname(os.path.abspath(__file__))), "tools", "edit")
 
@@ -104,19 +104,13 @@ def check_commands():
         same(f"tools/edit {' '.join(words)}", (done.returncode, b"Traceback" in done.stderr), (2, False))
 
 
-def main():
-    try:
-        check_commands()
-        check_sayings()
-        with TemporaryDirectory() as folder:
-            check_edits(folder)
-            check_kept(folder)
-    except Different as different:
-        print(f"tools/edit: {different}", file=sys.stderr)
-        return 1
-    print("tools/edit: ok")
-    return 0
+def check():
+    check_commands()
+    check_sayings()
+    with TemporaryDirectory() as folder:
+        check_edits(folder)
+        check_kept(folder)
 
 
 if __name__ == "__main__":
-    sys.exit(main())
+    sys.exit(judged("tools/edit", check))

@@ -10,7 +10,7 @@ import sys
 
 sys.dont_write_bytecode = True
 
-from blind.compare import Different, same
+from blind.compare import Different, judged, same
 
 ROOT = os.path.dirname(os.path.dirname(os.path.abspath(__file__)))
 WORDS = "crates/reach/specs/Words.antt"
@@ -126,15 +126,5 @@ def check():
             same(f"{path}: whether {what} is told", told(path, have(), wanted(other, row)), True)
 
 
-def main():
-    try:
-        check()
-    except Different as different:
-        print(f"refusals: {different}", file=sys.stderr)
-        return 1
-    print("refusals: ok")
-    return 0
-
-
 if __name__ == "__main__":
-    sys.exit(main())
+    sys.exit(judged("refusals", check))

@@ -1,7 +1,8 @@
 // What the programs that run stored cases share: the parts and the numbers of a case are read from standard input, and what became of it is printed. A
 // container is cases, one behind the other. Rests on crates reach and refusals, and on the libraries io and libc.
 ghost use Prim.Native.Nat.{_≤_};
-ghost use lib.ListN.{length};
+ghost use mathlib.Core.Path.{_≡_};
+ghost use lib.ListN.{length, drop};
 ghost use Rattle.io.specs.Counts.{Counts};
 use libc::STDIN_FILENO;
 use libc::STDOUT_FILENO;
@@ -88,10 +89,11 @@ pub fn read_number() -> usize
     low_first(bytes[0], bytes[1]) + 65536 * wide(bytes[2])
 }
 
-// Reads as many bytes to the front of a slice, which has them. How many there were.
+// Reads as many bytes to the front of a slice, which has them. How many there were. Which they are, nothing can tell; those behind are as before.
 pub fn read_bytes(part: &mut [u8], n: usize) -> usize
     requires { ⌜ n ≤ length (now part) ⌝ }
     ensures { λ r. ⌜ r ≤ n ⌝ }
+    ensures kept { λ r. ⌜ drop n (now (part .exit)) ≡ drop n (now (part .entry)) ⌝ }
 {
     least(io::read_full(STDIN_FILENO, &mut part[..n]), n)
 }

@@ -8,20 +8,22 @@ use mathlib.Core.List.{List, [], _∷_, map}
 use Rattle.reach.specs.declared.Refusal.the-variants.{Truncated, TextTooShort, BadList}
 use Rattle.reach.specs.Answers.{searchAnswer}
 use Rattle.reach.specs.Examples as Reach
-use Rattle.reach.specs.Examples.{p-with, p-without, ○, Example, AsExpected, _⇒_}
+use Rattle.reach.specs.Examples.{own-work, own-list, p-with, p-without, ○, Example, AsExpected, _⇒_}
 use Rattle.lists.specs.Text
 use Rattle.lists.specs.Text.{decimal, share, text}
 use Rattle.lists.specs.Handed
 use Rattle.lists.specs.Printouts
 use Rattle.lists.specs.Printouts.{TextAnswer, noText, ofLength, printoutOf, lengthAnswer, writeAnswer}
 
--- What a row asks: what `reachlist` prints of a file, with its own buffers or with a list slice of so many bytes; the length of the text of a list that is
+-- What a row asks: what `reachlist` prints of a file, with a list slice of so many bytes, or with its own; the length of the text of a list that is
 -- handed in with its file, and whether its search ended in 12; or what the writer answers, with a text slice of so many bytes.
 pub data Asked : Type 0 where
-  text-of : List ℕ → Asked
   text-within : ℕ → List ℕ → Asked
   length-of : List ℕ → List ℕ → Bool → Asked
   write-of : List ℕ → List ℕ → Bool → ℕ → Asked
+
+abbrev pub text-of : List ℕ → Asked
+text-of file = text-within own-list file
 
 -- What stands beside it: bytes, or the answer of the call.
 pub data Answer : Type 0 where
@@ -30,8 +32,7 @@ pub data Answer : Type 0 where
 
 -- what the definitions give
 abbrev pub computed : Asked → Answer
-computed (text-of file) = bytes (text (searchAnswer file 16384 32768))
-computed (text-within list file) = bytes (text (searchAnswer file 16384 list))
+computed (text-within list file) = bytes (text (searchAnswer file own-work list))
 computed (length-of file l full) = tells (lengthAnswer (printoutOf file l full))
 computed (write-of file l full room) = tells (writeAnswer room (printoutOf file l full))
 

@@ -80,9 +80,16 @@ given work list (run-of file input) = answers (runAnswer file input work)
 given work list (a with-work n) = given n list a
 given work list (a with-list n) = given work n a
 
--- with the buffers of `reachlist`, but for those that the row states
+-- the words and the bytes of the buffers of `reachlist`
+abbrev pub own-work : ℕ
+own-work = 16384
+
+abbrev pub own-list : ℕ
+own-list = 32768
+
+-- with those buffers, but for what the row states
 abbrev pub computed : Asked → Answer
-computed a = given 16384 32768 a
+computed a = given own-work own-list a
 
 -- A question of this kind, and what answers it.
 pub record Example (Q A : Type 0) : Type 0 where
