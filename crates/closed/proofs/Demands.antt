@@ -27,6 +27,7 @@ use Rattle.reach.specs.Answers.{Checked, accepted, turnedBack, check, RunAnswer
 use Rattle.reach.proofs.Base.{clash, picked}
 use Rattle.reach.proofs.Evaluation.{run-spent}
 use Rattle.reach.proofs.Limits.{within-depth}
+use Rattle.reach.proofs.Before.{runAnswerBefore, same-run-answer}
 use Rattle.reach.proofs.Demands as Reach
 use Rattle.readings.proofs.Demands as Readings
 use Rattle.reach.proofs.Refusals.{turned-back-by}
@@ -85,6 +86,10 @@ missing-kept n (halted q m) is = absurd (clash (cc))
 
 -- `RunPromise file input work work′ r` is the contract: the call answered r, and the work slice that held the words `work` holds `work′`.
 module _ (file input work work′ : List ℕ) (r : RunResult) (call : RunPromise file input work work′ r) where
+  -- 02, Slip 5: "every file and input gets the steps and results of the definition before": the answer is the one by that definition.
+  pub answered-as-before : r ≡ runResult (runAnswerBefore file input (length work))
+  answered-as-before = call .answer-is ∙ ap runResult (same-run-answer file input (length work))
+
   -- 01, "Turned back": a file that the check refuses gets its number, whatever the input and the words are.
   pub refused-file : (why : Refusal) → check file ≡ turnedBack why → r ≡ RunResult.Refused why
   refused-file why checked = call .answer-is ∙ ap runResult (run-turned-back file input (length work) why checked)

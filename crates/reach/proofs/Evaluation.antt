@@ -8,7 +8,7 @@ use mathlib.Core.Option.{Option, none, some}
 use lib.ListN.{length}
 use lib.Dec.{ltb, eqb}
 use native.Mathlib.Omega.{arith}
-use borrow.Author.Tests.{ltb-true}
+use borrow.Author.Tests.{ltb-true, eq-eqb}
 use Rattle.reach.specs.States.{EnvIn, FramesIn, StateIn}
 use Rattle.reach.specs.Syntax.{Expr, variable, call, construct, case, letIn, target}
 use Rattle.reach.specs.Syntax.{Exprs, Alternatives, no-more, absent, present, nthExpr, Function, Program, functionAt, sourceTypes, parametersOf}
@@ -77,6 +77,11 @@ enter-in : (e : Parts) (f : Option Function) (es : Exprs) (env : Env) (fs : List
 unfolding enter
 enter-in e none es env fs h g = tt
 enter-in e (some f) es env fs h g = ((tt, h), g)
+
+-- 01: evaluation ends at the sought target. Two rules of 000 speak of it, Targ₁ and Targ₂, and Targ₁ stands first.
+pub sought-first : (p : Program) (l : ℕ) (x : Expr) (env : Env) (fs : List Frame) → l ≡ p .label → view p (evaluating (target l x) env fs) ≡ demands
+unfolding view
+sought-first p l x env fs is = rw (eq-eqb l (p .label) is) refl
 
 view-in : (p : Program) (e : Parts) (s : State) → StateIn e s → NextIn e (view p s)
 unfolding view

@@ -1,5 +1,6 @@
 -- What is proved of the definitions, each file behind those that it rests on. Demands is the one to read first.
 pub mod Base
+pub mod Before
 pub mod Words
 pub mod Tests
 pub mod Order

@@ -8,7 +8,7 @@ use mathlib.Core.Option.{Option, none, some}
 use lib.ListN.{length}
 use lib.Dec.{ltb, eqb}
 use Rattle.reach.specs.Base.{pick}
-use Rattle.reach.specs.Syntax.{Expr, variable, call, construct, case, letIn, target, Exprs, []ₑ, _∷ₑ_, count, nthExpr, Alternatives, no-more, absent, present, Function, Program, functionAt}
+use Rattle.reach.specs.Syntax.{Expr, variable, call, construct, case, letIn, target, Exprs, []ₑ, _∷ₑ_, count, nthExpr, Alternatives, no-more, absent, present, Function, Program, functionAt, whereConstruct, whereTarget, whereVariable, whereCall, whereLet, whereCase}
 use Rattle.reach.specs.Parts.{Parts, Place, part, within, Seen, gone, free, has, at}
 
 -- A row of input parts: the source's parameters, or the fields of the part at a place.
@@ -111,19 +111,84 @@ onNext demanded lacking stopped go wait (stops why) = stopped why
 onNext demanded lacking stopped go wait (goes s) = go s
 onNext demanded lacking stopped go wait (waits q) = wait q
 
--- what comes next as far as the state alone tells: it waits on whatever part of the input a case looks at
+-- What comes next, rule by rule. The rules are those of 000, section 3.3, under the names that stand beside them there and in the same order. A rule answers
+-- for the states that it speaks of, as far as the state alone tells: it waits on whatever part of the input a case looks at. Of any other state it gives
+-- `otherwise`, which is what the rules behind it say.
+abbrev pub Rule : Type 0
+Rule = Program → State → (otherwise : Next) → Next
+
+-- a rule that speaks of states in which an expression is evaluated
+abbrev pub onExpression : (Expr → Env → List Frame → Next) → State → Next → Next
+onExpression says (evaluating e env fs) otherwise = says e env fs
+onExpression says (inspecting q fs) otherwise = otherwise
+onExpression says uncovered otherwise = otherwise
+onExpression says stuck otherwise = otherwise
+
+-- The relation ⇒ of 000, by which evaluation goes on behind a case. Match: its subject is a constructor. With no case waiting evaluation ends there.
+abbrev pub Match : ℕ → Exprs → Env → List Frame → Next
+Match c es env [] = stops value
+Match c es env (waiting alts outer ∷ fs) = goes (choose alts c (operands outer es env) fs)
+
+-- Narrow: its subject is an unbound variable, here a part of the input that may be open. With no case waiting evaluation ends there.
+abbrev pub Narrow : Place → List Frame → Next
+Narrow q [] = stops value
+Narrow q (waiting alts env ∷ fs) = waits (record { place = q; alternatives = alts; environment = env; frames = fs })
+
+-- a constructor
+abbrev pub Constr : Rule
+Constr p s otherwise = onExpression (λ e env fs. whereConstruct (λ t c es. Match c es env fs) otherwise e) s otherwise
+
+-- a target: the sought one, at which evaluation stops, whatever waits (TargProp)
+abbrev pub Targ₁ : Rule
+Targ₁ p s otherwise = onExpression (λ e env fs. whereTarget (λ l inner. pick (eqb l (p .label)) demands otherwise) otherwise e) s otherwise
+
+-- a target: any one, inside which evaluation goes on
+abbrev pub Targ₂ : Rule
+Targ₂ p s otherwise = onExpression (λ e env fs. whereTarget (λ l inner. goes (evaluating inner env fs)) otherwise e) s otherwise
+
+-- an unbound variable: a part of the input
+abbrev pub Var₁ : Rule
+Var₁ p (evaluating e env fs) otherwise = otherwise
+Var₁ p (inspecting q fs) otherwise = Narrow q fs
+Var₁ p uncovered otherwise = otherwise
+Var₁ p stuck otherwise = otherwise
+
+-- a bound variable: what it stands for
+abbrev pub Var₂ : Rule
+Var₂ p s otherwise = onExpression (λ e env fs. whereVariable (λ n. goes (resume (lookup env n) fs)) otherwise e) s otherwise
+
+-- an application
+abbrev pub App : Rule
+App p s otherwise = onExpression (λ e env fs. whereCall (λ f es. goes (enter (functionAt p f) es env fs)) otherwise e) s otherwise
+
+-- a let
+abbrev pub Let : Rule
+Let p s otherwise = onExpression (λ e env fs. whereLet (λ t bound body. goes (evaluating body (operands env (bound ∷ₑ []ₑ) env) fs)) otherwise e) s otherwise
+
+-- a case: its subject first, while the case waits
+abbrev pub Case : Rule
+Case p s otherwise = onExpression (λ e env fs. whereCase (λ t subject alts. goes (evaluating subject env (waiting alts env ∷ fs))) otherwise e) s otherwise
+
+-- 000, section 3.5: failure, here a case without an alternative for the constructor
+abbrev pub Fail : Rule
+Fail p (evaluating e env fs) otherwise = otherwise
+Fail p (inspecting q fs) otherwise = otherwise
+Fail p uncovered otherwise = lacks
+Fail p stuck otherwise = otherwise
+
+-- the rules, one behind the other as 000 has them
+unfoldable pub rules : List Rule
+rules = Constr ∷ Targ₁ ∷ Targ₂ ∷ Var₁ ∷ Var₂ ∷ App ∷ Let ∷ Case ∷ Fail ∷ []
+
+-- what the first rule says that speaks of the state; none does where a number named nothing
+unfoldable pub firstOf : List Rule → Program → State → Next
+firstOf [] p s = stops unknown
+firstOf (rule ∷ others) p s = rule p s (firstOf others p s)
+
+-- what comes next as far as the state alone tells
 unfoldable pub view : Program → State → Next
-view p (evaluating (variable n) env fs) = goes (resume (lookup env n) fs)
-view p (evaluating (call f es) env fs) = goes (enter (functionAt p f) es env fs)
-view p (evaluating (construct t c es) env []) = stops value
-view p (evaluating (construct t c es) env (waiting alts outer ∷ fs)) = goes (choose alts c (operands outer es env) fs)
-view p (evaluating (case t e alts) env fs) = goes (evaluating e env (waiting alts env ∷ fs))
-view p (evaluating (letIn t e body) env fs) = goes (evaluating body (operands env (e ∷ₑ []ₑ) env) fs)
-view p (evaluating (target l e) env fs) = pick (eqb l (p .label)) demands (goes (evaluating e env fs))
-view p (inspecting q []) = stops value
-view p (inspecting q (waiting alts env ∷ fs)) = waits (record { place = q; alternatives = alts; environment = env; frames = fs })
-view p uncovered = lacks
-view p stuck = stops unknown
+unfolding rules firstOf
+view p s = firstOf rules p s
 
 unfoldable pub look : Question → Seen → Next
 look q gone = goes stuck

@@ -33,6 +33,26 @@ mutual
     present : Expr → Alternatives → Alternatives
 
 infixr 60 _∷ₑ_
+-- Each construct as a test: something of its parts where the expression is one, else the other.
+
+abbrev pub whereConstruct : {A : Type 0} → (ℕ → ℕ → Exprs → A) → A → Expr → A
+whereConstruct f other e = elim e [ variable n ↦ other | call g es ↦ other | construct t c es ↦ f t c es | case t x alts ↦ other | letIn t x body ↦ other | target l x ↦ other ]
+
+abbrev pub whereTarget : {A : Type 0} → (ℕ → Expr → A) → A → Expr → A
+whereTarget f other e = elim e [ variable n ↦ other | call g es ↦ other | construct t c es ↦ other | case t x alts ↦ other | letIn t x body ↦ other | target l x ↦ f l x ]
+
+abbrev pub whereVariable : {A : Type 0} → (ℕ → A) → A → Expr → A
+whereVariable f other e = elim e [ variable n ↦ f n | call g es ↦ other | construct t c es ↦ other | case t x alts ↦ other | letIn t x body ↦ other | target l x ↦ other ]
+
+abbrev pub whereCall : {A : Type 0} → (ℕ → Exprs → A) → A → Expr → A
+whereCall f other e = elim e [ variable n ↦ other | call g es ↦ f g es | construct t c es ↦ other | case t x alts ↦ other | letIn t x body ↦ other | target l x ↦ other ]
+
+abbrev pub whereLet : {A : Type 0} → (ℕ → Expr → Expr → A) → A → Expr → A
+whereLet f other e = elim e [ variable n ↦ other | call g es ↦ other | construct t c es ↦ other | case t x alts ↦ other | letIn t x body ↦ f t x body | target l x ↦ other ]
+
+abbrev pub whereCase : {A : Type 0} → (ℕ → Expr → Alternatives → A) → A → Expr → A
+whereCase f other e = elim e [ variable n ↦ other | call g es ↦ other | construct t c es ↦ other | case t x alts ↦ f t x alts | letIn t x body ↦ other | target l x ↦ other ]
+
 -- how many expressions there are
 unfoldable pub count : Exprs → ℕ
 count []ₑ = zero

@@ -15,16 +15,17 @@ use Rattle.registers.specs.Stepping.{controlOf}
 use Rattle.machine.proofs.Codes.{Coded, a-variable, a-call, a-construct, a-case, a-let, a-target}
 
 -- what is being evaluated, by the number of its kind
-pub control-missing : (kind place env : ℕ) → kind ≡ 0 → controlOf kind place env ≡ nothingLeft
-control-missing kind place env is = rw is refl
+pub control-expression : (kind place env : ℕ) → kind ≡ 2 → controlOf kind place env ≡ expressionAt place env
+control-expression kind place env is = rw is refl
 
 pub control-part : (kind place env : ℕ) → kind ≡ 1 → controlOf kind place env ≡ partIn place
 control-part kind place env is = rw is refl
 
-pub control-expression : (kind place env : ℕ) → (kind ≡ 0 → ⊥) → (kind ≡ 1 → ⊥) → controlOf kind place env ≡ expressionAt place env
-control-expression zero place env some other = absurd (some refl)
-control-expression (suc zero) place env some other = absurd (other refl)
-control-expression (suc (suc n)) place env some other = refl
+pub control-missing : (kind place env : ℕ) → (kind ≡ 2 → ⊥) → (kind ≡ 1 → ⊥) → controlOf kind place env ≡ nothingLeft
+control-missing zero place env some other = refl
+control-missing (suc zero) place env some other = absurd (other refl)
+control-missing (suc (suc zero)) place env some other = absurd (some refl)
+control-missing (suc (suc (suc n))) place env some other = refl
 
 module _ {file : List ℕ} {o : Declarations} {w : List ℕ} {base : ℕ} {cell : Place → ℕ} (G : State → Type 0) where
   pub when-expression :

@@ -37,11 +37,12 @@ partKind = 1
 abbrev pub expressionKind : ℕ
 expressionKind = 2
 
--- what is being evaluated, by its kind, its place and its environment's record
+-- what is being evaluated, by its kind, its place and its environment's record; nothing where the number is of no kind
 abbrev pub controlOf : ℕ → ℕ → ℕ → Control
 controlOf zero place env = nothingLeft
 controlOf (suc zero) place env = partIn place
-controlOf (suc (suc n)) place env = expressionAt place env
+controlOf (suc (suc zero)) place env = expressionAt place env
+controlOf (suc (suc (suc n))) place env = nothingLeft
 
 -- the control of the registers
 abbrev pub controlIn : Registers → Control

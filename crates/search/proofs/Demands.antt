@@ -1,5 +1,5 @@
 -- The demands of the request, said of the call `search`. A reviewer reads this file with the contract in src/lib.rt: the sentence that a theorem answers
--- stands above it, and its statement uses definitions of specs/ only.
+-- stands above it, and its statement uses definitions of specs/ only, but for the definition of a step before (reach's Before).
 -- `SearchPromise file work work′ before after r` is the contract: the call answered r, the list slice that held the bytes `before` holds `after`, and the work
 -- slice that held the words `work` holds `work′`. The list is read back from its bytes, `take (listLengthIn r) after`: `ReadsAs p bytes k e` says that entry k
 -- there is e. Nothing is asked of the file and of the slices.
@@ -28,17 +28,18 @@ use Rattle.reach.specs.declared.Kind.{Kind}
 use Rattle.reach.specs.declared.Kind.the-variants.{RE, UN, MI}
 use Rattle.reach.specs.Search.{Entry, says, Shown, StopsInside, entries, verdict}
 use Rattle.reach.specs.States.{MissingAfter}
-use Rattle.reach.specs.Lists.{entryBytes, listBytes, roomOf, entryPart}
+use Rattle.reach.specs.Lists.{entryBytes, listBytes, roomOf, written, entryPart}
 use Rattle.reach.specs.Answers.{accepted, turnedBack, check, SearchAnswer, complete, searchAnswer, listed}
 use Rattle.reach.proofs.Base.{nth-member}
 use Rattle.reach.proofs.Lists.{Holds}
 use Rattle.reach.proofs.Lists as Verdicts
 use Rattle.reach.proofs.Answers.{listed-in, complete-is}
 use Rattle.lists.proofs.ReadBack.{listed-fits, written-read-back}
+use Rattle.reach.proofs.Before.{searchBefore, same-search}
 use Rattle.reach.proofs.Demands as Reach
 use Rattle.results.specs.declared.SearchResult.{SearchResult}
 use Rattle.results.specs.declared.SearchResult.the-variants as SearchResult
-use Rattle.results.specs.Results.{listLengthIn, refusalIn, verdictIn}
+use Rattle.results.specs.Results.{searchResult, listLengthIn, refusalIn, verdictIn}
 use Rattle.search.specs.Answering.{WordsAfter, SearchPromise, ReadsAs}
 use Rattle.exploring.proofs.Cutting.{size-more, written-none, written-length}
 use Rattle.search.proofs.Called.{length-is, refusal-is, verdict-is, refused-when, full-when, complete-when, complete-lists, full-lists, refused-lists, listed-room, room-inside, written-take, written-drop, member-number, says-spent, says-missing}
@@ -68,6 +69,14 @@ module _ (file work work′ before after : List ℕ) (r : SearchResult) (call : 
   -- the list's bytes are those of the entries of the definition's answer
   pub list-stands : take (listLengthIn r) after ≡ listBytes (listed (searchAnswer file (length work) (length before)))
   list-stands = rw (shown-length, call .list-is) (written-take shown before)
+
+  -- 02, Slip 5: "every file and input gets the steps and results of the definition before": the answer and the list are those by that definition.
+  pub answered-as-before :
+      (r ≡ searchResult (searchBefore file (length work) (length before)))
+      × (after ≡ written (listed (searchBefore file (length work) (length before))) before)
+  answered-as-before =
+      let same = same-search file (length work) (length before) in
+      (call .answer-is ∙ ap searchResult same, call .list-is ∙ ap (λ a. written (listed a) before) same)
 
   -- Demand 1: "returns a result or one of the numbered refusals, each under its own condition only, with the list left as stated for that refusal."
 

@@ -8,7 +8,7 @@ ghost use Rattle.steps.specs.Running.{Onward, RunsOn};
 use choosing::step_construct;
 use choosing::step_part;
 use marks::byte_or_zero;
-use registers::MISSING;
+use registers::EXPRESSION;
 use registers::Next;
 use registers::PART;
 use registers::Registers;
@@ -35,7 +35,7 @@ pub struct Ran {
     pub steps: usize,
 }
 
-// An expression's step, by its code.
+// An expression's step, by its code, in the order of 000, section 3.3: construction, target, variable, call, let, case.
 fn step_expression<'a>(
     file: &'a [u8],
     types: &'a [u16],
@@ -53,12 +53,12 @@ fn step_expression<'a>(
 {
     let code = byte_or_zero(file, at);
     match code {
+        2 => step_construct(file, types, ends, work, base, at, env, r),
+        5 => step_target(file, label, at, env, r),
         0 => Next::Goes(step_variable(file, ends, work, base, at, env, r)),
         1 => Next::Goes(step_call(file, functions, work, base, at, env, r)),
-        2 => step_construct(file, types, ends, work, base, at, env, r),
-        3 => Next::Goes(step_case(file, ends, work, base, at, env, r)),
         4 => Next::Goes(step_let(file, ends, work, base, at, env, r)),
-        _ => step_target(file, label, at, env, r),
+        _ => Next::Goes(step_case(file, ends, work, base, at, env, r)),
     }
 }
 
@@ -78,9 +78,7 @@ fn step<'a>(
 {
     let kind = r.kind;
     match kind {
-        MISSING => Next::Lacks,
-        PART => step_part(file, types, ends, work, base, r.place, r),
-        _ => step_expression(
+        EXPRESSION => step_expression(
             file,
             types,
             functions,
@@ -92,6 +90,8 @@ fn step<'a>(
             r.env,
             r,
         ),
+        PART => step_part(file, types, ends, work, base, r.place, r),
+        _ => Next::Lacks,
     }
 }
 
