@@ -34,9 +34,9 @@ extern "C" {
 
 /* The version of this file and of the library beside it. */
 #define REMBURAI_VERSION_MAJOR 0
-#define REMBURAI_VERSION_MINOR 5
-#define REMBURAI_VERSION_PATCH 1
-#define REMBURAI_VERSION "0.5.1"
+#define REMBURAI_VERSION_MINOR 6
+#define REMBURAI_VERSION_PATCH 0
+#define REMBURAI_VERSION "0.6.0"
 
 /* Every call answers with one number; the functions under "The parts of an answer" take it apart, but for that of
  * remburai_names, which is a length.
@@ -54,6 +54,7 @@ extern "C" {
  *   remburai_entry         the place in the list           the size, in bytes
  *
  *                          the whole number
+ *   remburai_share         the share, in whole per cent
  *   remburai_names         the length of the text, in bytes; a refusal stands in the text
  */
 
@@ -147,6 +148,11 @@ uint64_t remburai_text_length(const uint8_t *file, size_t file_length,
 uint64_t remburai_write_text(const uint8_t *file, size_t file_length,
                              const uint8_t *list, size_t list_length, bool full,
                              uint8_t *text, size_t text_length);
+
+/* The share in the total line of a list with so many entries that reach the target and so many that are unfinished: the unfinished among both
+ * in per cent, to the nearest whole number, an exact half to the even one, and 0 where there is neither. Of 8 entries 1 gives 12 and 3 give
+ * 38. The missing ones do not count. No list has more than 2,796,202 entries. */
+uint64_t remburai_share(uint32_t reached, uint32_t unfinished);
 
 /* The names that the entries of a list stand for. A rule file may name a type by its record NA; a value of that type spells a name in
  * Latin-1 (docs/FORMAT.md). The call searches the file as remburai_search does, in the same slices: words and list are left as that call

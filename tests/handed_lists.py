@@ -1,5 +1,5 @@
 """Lists handed in with their rule files, the cases of the text calls: lists that are scrap, each for a reason of its own, lists that
-look wrong and are accepted, lists that searches returned, and random ones, whole and damaged.
+look wrong and are accepted, lists by their share, lists that searches returned, and random ones, whole and damaged.
 
 What the two calls answer is stated with a case wherever it is known without them.
 """
@@ -303,6 +303,28 @@ def just_fitting():
     add("much room", NUMBER.file(), GOOD, False, 65536 + text_length(NUMBER.file(), GOOD, False), WRITTEN)
 
 
+# Shares: the number of unfinished entries, and that of those that are reached or unfinished.
+
+SHARES = ((1, 8), (3, 8), (5, 8), (7, 8), (1, 200), (3, 200), (5, 200), (199, 200), (1, 3), (2, 3), (0, 5), (5, 5), (0, 0))
+HALVES = tuple((both // 8 * eighths, both) for both in (16, 24, 32) for eighths in (1, 3, 5, 7))
+NEXT_TO_HALVES = tuple((unfinished, both) for both in range(3, 40, 4) for unfinished in range(both)
+                       if abs(2 * (100 * unfinished % both) - both) == 1)
+
+
+def shared(unfinished, both, missing):
+    """A complete list with this share, and so many missing ones between the unfinished and the others."""
+    data = un(20) * unfinished + mi(3) * missing + re(1) * (both - unfinished)
+    add("share", NOTHING.file(), data, False, text_length(NOTHING.file(), data, False), WRITTEN)
+
+
+def shares():
+    """Exact halves, thirds, nothing and all; shares as near to a half as their numbers allow; before them some of these and more halves
+    beside missing ones."""
+    beside = SHARES[:2] + SHARES[-5:] + HALVES
+    for number, (unfinished, both) in enumerate(beside + SHARES + NEXT_TO_HALVES):
+        shared(unfinished, both, 1 + number % 4 if number < len(beside) else 0)
+
+
 # Lists of searches.
 
 STORED = (P, changed(steps=5), changed(label=8), rules.missing_first() + go(0, 7, 3, 9), rules.least_depth_three() + go(0, 7, 6, 16),
@@ -392,7 +414,7 @@ def random_values(rng, count):
 def make():
     """All cases, in the order in which they are stored."""
     for group in (marks, cut_short, lengths, strange_constructors, deep_constructors, deep_open, many_steps, number_of_parameters, bytes_behind,
-                  amid_others, refused_files, odd, just_fitting):
+                  amid_others, refused_files, odd, just_fitting, shares):
         group()
     rng = random.Random(5)
     search_lists(rng)

@@ -76,14 +76,15 @@ def refused():
 
 
 def lists():
-    """Lists of all kinds, and shares that are rounded down."""
+    """Lists of all kinds, and shares that are rounded: down and up to the nearest, and from a half down and up to the even one."""
     again, reach = call(0, con(0, 1), con(0, 0)), target(7, var(0))
     return {
         "no_parameters_found": rules.without_parameters() + go(),
         "no_parameters_at_once": rules.without_parameters(target(7, con(0, 1))) + go(steps=0),
         "no_parameters_undecided": rules.without_parameters(call(0)) + go(),
         "no_parameters_none": rules.without_parameters(con(0, 1)) + go(steps=0),
-        "share_33": third(reach, again), "share_66": third(again, call(0, con(0, 0), var(0))), "share_0": third(reach, reach),
+        "share_33": third(reach, again), "share_67": third(again, call(0, con(0, 0), var(0))), "share_0": third(reach, reach),
+        "share_12": rules.in_turn(*[REACH] * 5, AGAIN, *[REACH] * 2) + go(), "share_38": rules.in_turn(*[AGAIN] * 3, *[REACH] * 5) + go(),
         "equal_numbers": rules.equal_numbers() + go(depth=6, steps=40),
         "true_leaf": rules.true_leaf() + go(depth=4, steps=40),
         "member": rules.member() + go(depth=5, steps=60),
@@ -106,7 +107,9 @@ def missing():
         "missing_alone": rules.in_turn(*[None] * 16) + go(),
         "missing_share_0": rules.in_turn(REACH, None) + go(),
         "missing_share_33": rules.in_turn(None, REACH, AGAIN, None, REACH, None) + go(),
-        "missing_share_66": rules.in_turn(AGAIN, None, None, REACH, AGAIN) + go(),
+        "missing_share_67": rules.in_turn(AGAIN, None, None, REACH, AGAIN) + go(),
+        "missing_share_62": rules.in_turn(None, *[AGAIN, REACH] * 3, None, *[AGAIN] * 2, None) + go(),
+        "missing_share_88": rules.in_turn(*[AGAIN] * 4, None, None, REACH, *[AGAIN] * 3) + go(),
         "missing_share_100": rules.in_turn(None, AGAIN, None) + go(),
         "missing_in_scrutinee": rules.missing_in_scrutinee() + go(depth=3),
         "missing_below_let": rules.missing_below_let() + go(depth=3),
@@ -122,8 +125,9 @@ def lacking(texts):
     found = {line for line in last if line.startswith("refused")}
     for _, _, _, missing_ones, share, verdict in (line.split() for line in last if line.startswith("total")):
         found |= {f"{item} {'without' if missing_ones == '0' else 'with'} missing ones" for item in (f"share {share}", verdict)}
-    items = ("share 0", "share 33", "share 66", "share 100", "found", "undecided", "none")
+    items = ("share 0", "share 33", "share 67", "share 100", "found", "undecided", "none")
     wanted = {f"{item} {word} missing ones" for item in items for word in ("with", "without")}
+    wanted |= {"share 12 without missing ones", "share 38 without missing ones", "share 62 with missing ones", "share 88 with missing ones"}
     return sorted((wanted | {f"refused {number}" for number in (*range(1, 10), 11, 12, 15)}) - found)
 
 

@@ -67,7 +67,8 @@ def examples():
 
 
 def shapes():
-    """No parameters, every byte, the ends of the digits, every share of up to eight entries, also with missing ones beside them."""
+    """No parameters, every byte, the ends of the digits, every share of up to eight entries, also with missing ones beside them; the
+    exact halves of forty entries and what is next to a half, beside missing ones."""
     whole()
     for end in MARKS:
         whole((end, 0, []))
@@ -79,6 +80,8 @@ def shapes():
         for unfinished in range(both + 1):
             whole(*[(UNFINISHED, 3, [1, 255])] * unfinished + [(REACHED, 12, [0])] * (both - unfinished))
             mixed([(MISSING, 5, [2])] * (1 + both % 3), [(UNFINISHED, 3, [255])] * unfinished, [(REACHED, 4, [])] * (both - unfinished))
+    for unfinished, both in (*((unfinished, 40) for unfinished in range(1, 40, 2)), *handed_lists.NEXT_TO_HALVES):
+        mixed([(MISSING, 9, [])] * (1 + unfinished % 3), [(UNFINISHED, 9, [])] * unfinished, [(REACHED, 9, [])] * (both - unfinished))
     whole(*[(REACHED, 2, [])] * 1000)
     whole(*[(UNFINISHED, 2, [16])] * 99)
     whole(*[(MISSING, 2, [16])] * 101)

@@ -1,12 +1,26 @@
 //! The printed text of a list, as one would write it without proofs: its length, and the text. The list is checked, since a list may be of
 //! another rule file; the rule file is not, and has to be an accepted one.
 use crate::program::Program;
+use std::cmp::Ordering;
 
 /// The byte of an open part.
 const OPEN: u8 = 255;
 
 /// The longest list.
 const LIST_LIMIT: usize = 1 << 24;
+
+/// Some of all, in per cent, to the nearest whole number, an exact half to the even one; 0 where there are none.
+fn share(some: usize, all: usize) -> usize {
+    if all == 0 {
+        return 0;
+    }
+    let (whole, rest) = (100 * some / all, 100 * some % all);
+    match (2 * rest).cmp(&all) {
+        Ordering::Less => whole,
+        Ordering::Equal => whole + whole % 2,
+        Ordering::Greater => whole + 1,
+    }
+}
 
 /// How many entries there are of each kind.
 #[derive(Clone, Copy, Default)]
@@ -37,9 +51,7 @@ impl Counts {
             unfinished,
             missing,
         } = *self;
-        let share = (100 * unfinished)
-            .checked_div(reach + unfinished)
-            .unwrap_or(0);
+        let share = share(unfinished, reach + unfinished);
         let verdict = match (reach, unfinished) {
             (0, 0) => "none",
             (0, _) => "undecided",

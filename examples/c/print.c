@@ -40,15 +40,16 @@ static void print_entry(const uint8_t *entry) {
 }
 
 /* The total: how many entries there are of each kind, and the share of the unfinished ones, in which the missing ones do not count. */
-static void print_total(const size_t *count, const char *verdict) {
-    size_t reached = count[REMBURAI_REACHED], unfinished = count[REMBURAI_UNFINISHED];
-    size_t share = unfinished == 0 ? 0 : 100 * unfinished / (reached + unfinished);
-    printf("total %zu %zu %zu %zu %s\n", reached, unfinished, count[REMBURAI_MISSING], share, verdict);
+static void print_total(const uint32_t *count, const char *verdict) {
+    uint32_t reached = count[REMBURAI_REACHED], unfinished = count[REMBURAI_UNFINISHED], missing = count[REMBURAI_MISSING];
+    unsigned share = (unsigned)remburai_share(reached, unfinished);
+    printf("total %u %u %u %u %s\n", (unsigned)reached, (unsigned)unfinished, (unsigned)missing, share, verdict);
 }
 
 /* The entries of the list, and the total where there is a verdict. */
 static void print_list(size_t length, const char *verdict) {
-    size_t place, size, count[REMBURAI_MISSING + 1] = {0}; /* by the numbers of the kinds */
+    size_t place, size;
+    uint32_t count[REMBURAI_MISSING + 1] = {0}; /* by the numbers of the kinds */
     for (place = 0; (size = remburai_size_at(list, length, place)) != 0; place += size) {
         print_entry(list + place);
         count[remburai_entry_kind(list + place)]++;

@@ -2,6 +2,10 @@
 use crate::{entry, Listed, Rule, Verdict, LIST_LIMIT};
 use std::fmt;
 
+extern "C" {
+    fn remburai_share(reach: u32, unfinished: u32) -> u64;
+}
+
 /// The byte of an open part.
 const OPEN: u8 = 0xFF;
 
@@ -175,21 +179,20 @@ impl<'l> Iterator for Entries<'l> {
 #[derive(Clone, Copy, Debug, PartialEq, Eq, Hash)]
 pub struct Total {
     /// How many entries reach the target.
-    pub reach: usize,
+    pub reach: u32,
     /// How many entries ran out of steps.
-    pub unfinished: usize,
+    pub unfinished: u32,
     /// How many entries run into a missing alternative.
-    pub missing: usize,
+    pub missing: u32,
     pub verdict: Verdict,
 }
 
 impl Total {
-    /// The share of the entries that ran out of steps among these and those that reach the target, in whole per cent, rounded down; 0
-    /// where there is neither.
-    pub fn share(&self) -> usize {
-        (100 * self.unfinished)
-            .checked_div(self.reach + self.unfinished)
-            .unwrap_or(0)
+    /// The share of the entries that ran out of steps among these and those that reach the target, in per cent, to the nearest whole
+    /// number, an exact half to the even one; 0 where there is neither.
+    pub fn share(&self) -> u64 {
+        // SAFETY: the call takes and gives numbers alone.
+        unsafe { remburai_share(self.reach, self.unfinished) }
     }
 }
 

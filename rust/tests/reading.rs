@@ -223,12 +223,15 @@ fn totals() {
         .to_string()
     };
     assert_eq!(total(0, 0, 0, Verdict::None), "total 0 0 0 0 none");
-    assert_eq!(total(1, 2, 0, Verdict::Found), "total 1 2 0 66 found");
+    assert_eq!(total(1, 2, 0, Verdict::Found), "total 1 2 0 67 found");
     assert_eq!(
         total(0, 3, 0, Verdict::Undecided),
         "total 0 3 0 100 undecided"
     );
     assert_eq!(total(199, 1, 0, Verdict::Found), "total 199 1 0 0 found");
+    // an exact half goes to the even per cent
+    assert_eq!(total(7, 1, 0, Verdict::Found), "total 7 1 0 12 found");
+    assert_eq!(total(5, 3, 0, Verdict::Found), "total 5 3 0 38 found");
     // the share is of the first two alone
     assert_eq!(total(0, 0, 5, Verdict::None), "total 0 0 5 0 none");
     assert_eq!(total(1, 1, 98, Verdict::Found), "total 1 1 98 50 found");

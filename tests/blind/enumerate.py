@@ -156,9 +156,9 @@ def tally(entries):
 
 
 def share(reach, unfinished):
-    """The unfinished share of both in whole per cent, rounded down."""
+    """The unfinished share of both: the nearest whole per cent, of two that are equally near the even one; 0 where there is neither."""
     both = reach + unfinished
-    return 100 * unfinished // both if both else 0
+    return min(range(101), key=lambda percent: (abs(100 * unfinished - percent * both), percent % 2))
 
 
 def printed(answer):

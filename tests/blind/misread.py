@@ -3,10 +3,11 @@
 Each is a `Handed` with one of its methods answering otherwise.
 """
 
-from blind.enumerate import OPEN, Listing, TooMany, all_entries, printed, verdict
+from blind.enumerate import OPEN, Listing, TooMany, all_entries, printed, tally, verdict
 from blind.evaluate import MISSING, UNFINISHED
 from blind.handed import Handed, scrap_unless
 from blind.rulefile import MAX_STEPS, PAGE, Refused
+from blind.wrong import SHARES, ended_by
 
 
 def misread(**methods):
@@ -179,8 +180,18 @@ def total_and_refusal(self, entries):
     return total(self, entries) + ("refused 12\n" if self.full else "")
 
 
+def lines(entries):
+    return "".join(entry.line() for entry in entries)
+
+
 def entries_alone(self, entries):
-    return "".join(entry.line() for entry in entries) if self.full else Handed.closed(self, entries)
+    return lines(entries) if self.full else Handed.closed(self, entries)
+
+
+def shared(share_of):
+    """The total line has this share, worked out from the numbers of entries by kind."""
+    total_line = ended_by(share_of)
+    return misread(closed=lambda self, entries: Handed.closed(self, entries) if self.full else lines(entries) + total_line(*tally(entries)))
 
 
 TEXTS = {
@@ -189,6 +200,7 @@ TEXTS = {
     "both lines stand there after 12": misread(closed=total_and_refusal),
     "no line closes the text after 12": misread(closed=entries_alone),
     "the length counts the total line after 12 too": misread(length=lambda self: len(total(self, self.listed()))),
+    **{error: shared(share_of) for error, share_of in SHARES.items()},
 }
 
 

@@ -7,6 +7,7 @@ import random
 import sys
 from collections import Counter
 from dataclasses import replace
+from fractions import Fraction
 from itertools import product
 
 sys.path.insert(0, os.path.dirname(os.path.dirname(os.path.abspath(__file__))))
@@ -14,7 +15,7 @@ sys.path.insert(0, os.path.dirname(os.path.dirname(os.path.abspath(__file__))))
 from blind.build import call, case, con, fn, go, let, na, random_named_rule, random_rule, target, ty, var
 from blind.compare import Different, same
 from blind.demands import broken, filled
-from blind.enumerate import Entry, Listing, TooMany, all_entries, count_inputs, fill, inputs, reachlist, search, tally, verdict
+from blind.enumerate import Entry, Listing, TooMany, all_entries, count_inputs, fill, inputs, reachlist, search, share, tally, verdict
 from blind.evaluate import MISSING, REACHED, UNFINISHED, Answer, ClosedInput, Value, run
 from blind.forks import forked_entries
 from blind.handed import text_length, write_text
@@ -121,13 +122,23 @@ def further_examples():
     both = case(0, var(1), case(0, var(0), target(7, var(0)), target(7, var(0))),
                 case(0, var(0), target(7, var(0)), target(8, var(0))))
     prints(BOOL + fn((0, 0), 0, both) + go(), "reach 6 0 0", "reach 6 1 0", "reach 6 0 1", "total 3 0 0 0 found")
-    # One entry of three is unfinished, and the share is rounded down.
+    # One entry of three is unfinished.
     third = case(0, var(0), target(7, var(0)), case(0, var(1), call(0, con(0, 1), con(0, 0)), target(7, var(0))))
     prints(BOOL + fn((0, 0), 0, third) + go(),
            "reach 3 0 _", "unfinished 20 1 0", "reach 6 1 1", "total 2 1 0 33 found")
     # A type with one constructor is forked over all the same; the field's place lies below it.
     box = ty((1,)) + BOOL + fn((0,), 0, case(0, var(0), case(1, var(1), None, target(7, var(0))))) + go(depth=2)
     prints(box, "missing 6 0 0", "reach 6 0 1", "total 1 0 1 0 found")
+
+
+def shares():
+    """Worked by hand: the share of the unfinished, by their number and that of both; and it is what exact fractions are rounded to."""
+    for unfinished, both, percent in ((1, 8, 12), (3, 8, 38), (5, 8, 62), (7, 8, 88), (1, 200, 0), (3, 200, 2), (5, 200, 2), (199, 200, 100),
+                                      (1, 3, 33), (2, 3, 67), (0, 5, 0), (5, 5, 100), (0, 0, 0), (99, 200, 50), (101, 200, 50), (1, 201, 0),
+                                      (1, 199, 1), (5, 7, 71), (2, 7, 29)):
+        same(f"the share of {unfinished} of {both}", share(both - unfinished, unfinished), percent)
+    same("shares that fractions do not have", [(unfinished, both) for both in range(1, 121) for unfinished in range(both + 1)
+                                               if share(both - unfinished, unfinished) != round(Fraction(100 * unfinished, both))], [])
 
 
 def limits():
@@ -751,6 +762,7 @@ if __name__ == "__main__":
     scope_examples()
     refusals_of_runs()
     further_examples()
+    shares()
     limits()
     worked_lists()
     worked_depths()

@@ -32,9 +32,29 @@ def counted(change):
                                                     judged(reach, unfinished))
 
 
+def rounded(up):
+    """A share that is rounded down, and up where this says so, asked of the share rounded down, the rest and the number of both."""
+    def share_of(reach, unfinished, missing):
+        both = reach + unfinished or 1
+        down, rest = divmod(100 * unfinished, both)
+        return down + up(down, rest, both)
+    return share_of
+
+
+SHARES = {
+    "the share is rounded down": rounded(lambda down, rest, both: False),
+    "the share is rounded up": rounded(lambda down, rest, both: rest > 0),
+    "a half goes up": rounded(lambda down, rest, both: 2 * rest >= both),
+    "a half goes down": rounded(lambda down, rest, both: 2 * rest > both),
+    "a half goes to the odd per cent": rounded(lambda down, rest, both: 2 * rest > both or 2 * rest == both and down % 2 == 0),
+    "what is above a half goes to the even per cent too": rounded(lambda down, rest, both: 2 * rest >= both and down % 2 == 1),
+    "half of an odd number is rounded down": rounded(lambda down, rest, both: rest > both // 2 or rest == both // 2 and down % 2 == 1),
+    "missing ones count in the share": lambda reach, unfinished, missing: share(reach + missing, unfinished),
+    "missing ones count as unfinished in the share": lambda reach, unfinished, missing: share(reach, unfinished + missing),
+}
+
 TOTALS = {
-    "missing ones count in the share": ended_by(lambda reach, unfinished, missing: share(reach + missing, unfinished)),
-    "missing ones count as unfinished in the share": ended_by(lambda reach, unfinished, missing: share(reach, unfinished + missing)),
+    **{error: ended_by(share_of) for error, share_of in SHARES.items()},
     "missing ones count as reached": counted(lambda reach, unfinished, missing: (reach + missing, unfinished, missing)),
     "missing ones count as unfinished": counted(lambda reach, unfinished, missing: (reach, unfinished + missing, missing)),
     "missing ones are counted before the unfinished": counted(lambda reach, unfinished, missing: (reach, missing, unfinished)),

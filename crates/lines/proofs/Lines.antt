@@ -14,7 +14,8 @@ use Rattle.reach.specs.Words.{numberOf, verdictWord}
 use Rattle.reach.specs.declared.Kind.{Kind}
 use Rattle.reach.specs.declared.Kind.the-variants.{RE, UN, MI}
 use Rattle.reach.specs.Search.{verdictBy}
-use Rattle.lists.specs.Text.{space, lineFeed, spaced, lineFrom, decimal, kindWord, partWord, lineSaying, share, totalLine, refusalLine}
+use Rattle.lists.specs.Share.{share}
+use Rattle.lists.specs.Text.{space, lineFeed, spaced, lineFrom, decimal, kindWord, partWord, lineSaying, totalWith, totalLine, refusalLine}
 use Rattle.writing.specs.Writing.{Puts}
 use Rattle.writing.proofs.Writing.{puts-none, puts-then, Left, left-next, left-none}
 use Rattle.writing.proofs.Digits.{decimal-few, part-few}
@@ -46,7 +47,7 @@ module _ {t u v w w′ x y z : List ℕ} {at m n o o′ p q r : ℕ} where
       → Puts v n (space ∷ decimal (c .unfinished)) w o → Puts w o (space ∷ decimal (c .missing)) w′ o′
       → Puts w′ o′ (space ∷ decimal (share (c .reach) (c .unfinished))) x p
       → Puts x p (space ∷ verdictWord (verdictBy c)) y q → Puts y q (lineFeed ∷ []) z r → Puts t at (totalLine c) z r
-  unfolding totalLine lineFrom spaced flatMap
+  unfolding totalLine totalWith lineFrom spaced flatMap
   total-put c word one two three four five end =
       puts-then word (puts-then (puts-then one (puts-then two (puts-then three (puts-then four (puts-then five (puts-none y q)))))) end)
 

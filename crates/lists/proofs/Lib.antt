@@ -1,7 +1,9 @@
+pub mod Share
 pub mod ReadBack
 pub mod EntryValues
 pub mod Text
 pub mod Handed
 pub mod HandedEntry
 pub mod Printouts
+pub mod Total
 pub mod Demands

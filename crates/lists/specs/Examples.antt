@@ -1,7 +1,7 @@
 -- What `reachlist` prints, and lists that are handed in with their rule file, as tables that the checker computes from the bytes of P, with its label, D and S
 -- changed: 01, "The program `reachlist`", and 02, Slip 2.
 -- Rests on the definitions alone, and on reach's Examples for P and for how a table is computed.
-use Prim.Native.Nat.{ℕ}
+use Prim.Native.Nat.{ℕ, _-_}
 use mathlib.Core.Path.{_≡_, refl}
 use mathlib.Core.Bool.{Bool, true, false}
 use mathlib.Core.List.{List, [], _∷_, map}
@@ -9,8 +9,10 @@ use Rattle.reach.specs.declared.Refusal.the-variants.{Truncated, TextTooShort, 
 use Rattle.reach.specs.Answers.{searchAnswer}
 use Rattle.reach.specs.Examples as Reach
 use Rattle.reach.specs.Examples.{own-work, own-list, p-with, p-without, ○, Example, AsExpected, _⇒_}
+use Rattle.lists.specs.Share
 use Rattle.lists.specs.Text
-use Rattle.lists.specs.Text.{decimal, share, text}
+use Rattle.lists.specs.Share.{share}
+use Rattle.lists.specs.Text.{decimal, text}
 use Rattle.lists.specs.Handed
 use Rattle.lists.specs.Printouts
 use Rattle.lists.specs.Printouts.{TextAnswer, noText, ofLength, printoutOf, lengthAnswer, writeAnswer}
@@ -87,7 +89,7 @@ handed-in =
 definitions : Unit {0}
 unfolding
     Reach.definitions
-    Text.spaced Text.lineFrom Text.digitsBy Text.decimal Text.kindWord Text.partWord Text.lineSaying Text.share Text.totalLine
+    Text.spaced Text.lineFrom Text.digitsBy Text.decimal Text.kindWord Text.partWord Text.lineSaying Share.nearest Share.share Text.totalWith Text.totalLine
     Text.refusalLine Text.lastLine Text.textOf Text.text
     Handed.kindMark Handed.spanning Handed.entryBy Handed.entriesBy Handed.handed
     Printouts.printoutChecked Printouts.printoutOf Printouts.lengthAnswer Printouts.writeAnswer
@@ -103,12 +105,18 @@ pub handed-lists : AsExpected computed handed-in
 unfolding definitions
 handed-lists = refl
 
--- numbers of one digit and more, and the share of 0 of 0, of 1 of 3 and of 2 of 3
+-- numbers of one digit and more
 pub decimals : map decimal (0 ∷ 9 ∷ 10 ∷ 4096 ∷ [])
     ≡ (0x30 ∷ []) ∷ (0x39 ∷ []) ∷ (0x31 ∷ 0x30 ∷ []) ∷ (0x34 ∷ 0x30 ∷ 0x39 ∷ 0x36 ∷ []) ∷ []
 unfolding definitions
 decimals = refl
 
-pub shares : share 0 0 ∷ share 2 1 ∷ share 1 2 ∷ [] ≡ 0 ∷ 33 ∷ 66 ∷ []
+-- 02, Slip 6: the share of so many unfinished entries of all that count. Halves: 12.5, 37.5, 62.5, 87.5; 0.5, 1.5, 2.5, 99.5. Then a third and two, none, all,
+-- and none of none; and all but one of as many entries as a list has room for.
+abbrev pub of : ℕ → ℕ → ℕ
+of unfinished all = share (all - unfinished) unfinished
+
+pub shares : of 1 8 ∷ of 3 8 ∷ of 5 8 ∷ of 7 8 ∷ of 1 200 ∷ of 3 200 ∷ of 5 200 ∷ of 199 200 ∷ of 1 3 ∷ of 2 3 ∷ of 0 5 ∷ of 5 5 ∷ of 0 0 ∷ of 2796201 2796202 ∷ []
+    ≡ 12 ∷ 38 ∷ 62 ∷ 88 ∷ 0 ∷ 2 ∷ 2 ∷ 100 ∷ 33 ∷ 67 ∷ 0 ∷ 100 ∷ 0 ∷ 100 ∷ []
 unfolding definitions
 shares = refl

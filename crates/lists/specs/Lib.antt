@@ -1,3 +1,4 @@
+pub mod Share
 pub mod Text
 pub mod Handed
 pub mod Printouts

@@ -1,8 +1,8 @@
 -- What `reachlist` prints: 01, "The program `reachlist`". A line is its items, parted by single spaces, and a line feed; text is in ASCII.
 -- It is defined of what the entries say, be they those of a search's answer or those that the bytes of a list hold; proofs/Text.antt shows that the two
 -- agree on what a search wrote.
--- Rests on reach's Search, Lists, Words and Answers.
-use Prim.Native.Nat.{ℕ, zero, suc, _+_, _*_, _/_, _%_}
+-- Rests on Share and on reach's Search, Lists, Words and Answers.
+use Prim.Native.Nat.{ℕ, zero, suc, _+_, _/_, _%_}
 use mathlib.Core.Bool.{Bool, true, false}
 use mathlib.Core.List.{List, [], _∷_, _++_, map, flatMap}
 use lib.ListN.{length, take}
@@ -15,9 +15,10 @@ use Rattle.reach.specs.declared.Counts.{Counts}
 use Rattle.reach.specs.Base.{pick}
 use Rattle.reach.specs.Limits.{listLimit}
 use Rattle.reach.specs.Words.{numberOf, verdictWord}
-use Rattle.reach.specs.Search.{counts, verdictBy}
+use Rattle.reach.specs.Search.{Entry, kindsOf, counts, verdictBy}
 use Rattle.reach.specs.Lists.{Decoded, sayingOf, decodedFrom}
 use Rattle.reach.specs.Answers.{SearchAnswer, noSearch, complete, cutShort}
+use Rattle.lists.specs.Share.{share, IsShare}
 
 abbrev pub space : ℕ
 space = 0x20
@@ -60,15 +61,15 @@ partWord b = pick (eqb b 0xff) (0x5f ∷ []) (decimal b)
 unfoldable pub lineSaying : Decoded → List ℕ
 lineSaying d = lineFrom (kindWord (d .kind)) (decimal (d .steps) ∷ map partWord (d .parameters))
 
--- the unfinished share of both in whole per cent, rounded down; 0 if both counts are 0
-unfoldable pub share : ℕ → ℕ → ℕ
-share reach unfinished = pick (eqb (reach + unfinished) 0) 0 (100 * unfinished / (reach + unfinished))
-
--- "total", the reach count, the unfinished count, the missing count, the unfinished share, the verdict
-unfoldable pub totalLine : Counts → List ℕ
-totalLine c =
+-- "total", the reach count, the unfinished count, the missing count, a share, the verdict
+unfoldable pub totalWith : ℕ → Counts → List ℕ
+totalWith x c =
     lineFrom (0x74 ∷ 0x6f ∷ 0x74 ∷ 0x61 ∷ 0x6c ∷ [])
-    (decimal (c .reach) ∷ decimal (c .unfinished) ∷ decimal (c .missing) ∷ decimal (share (c .reach) (c .unfinished)) ∷ verdictWord (verdictBy c) ∷ [])
+    (decimal (c .reach) ∷ decimal (c .unfinished) ∷ decimal (c .missing) ∷ decimal x ∷ verdictWord (verdictBy c) ∷ [])
+
+-- the total line: the share is the unfinished one
+unfoldable pub totalLine : Counts → List ℕ
+totalLine c = totalWith (share (c .reach) (c .unfinished)) c
 
 -- "refused" and the number
 unfoldable pub refusalLine : Refusal → List ℕ
@@ -81,6 +82,13 @@ lastLine full c = pick full (refusalLine ListFull) (totalLine c)
 -- the text of a list: the lines of its entries, and the last line
 unfoldable pub textOf : Bool → List Decoded → List ℕ
 textOf full ds = flatMap lineSaying ds ++ lastLine full (counts (map (λ (d : Decoded). d .kind) ds))
+
+-- the text of the complete list of these entries, with a share in its total line; and that the share is theirs
+abbrev pub completeText : List Entry → ℕ → List ℕ
+completeText es x = flatMap lineSaying (map sayingOf es) ++ totalWith x (counts (kindsOf es))
+
+abbrev pub ShareOf : List Entry → ℕ → Type 0
+ShareOf es x = IsShare (counts (kindsOf es) .reach) (counts (kindsOf es) .unfinished) x
 
 -- what `reachlist` prints for the answer of a search
 unfoldable pub text : SearchAnswer → List ℕ

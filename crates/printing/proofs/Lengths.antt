@@ -20,11 +20,12 @@ use Rattle.reach.specs.declared.Kind.{Kind}
 use Rattle.reach.specs.declared.Counts.{Counts}
 use Rattle.reach.specs.Lists.{onFound, kindAt, entrySize, Decoded, decoded, decodedFrom}
 use Rattle.reach.specs.Search.{oneMore, countFrom, counts, verdictBy}
-use Rattle.lists.specs.Text.{spaced, lineFrom, decimal, kindWord, partWord, lineSaying, share, totalLine, refusalLine, lastLine, textOf, listText}
+use Rattle.lists.specs.Share.{share}
+use Rattle.lists.specs.Text.{spaced, lineFrom, decimal, kindWord, partWord, lineSaying, totalWith, totalLine, refusalLine, lastLine, textOf, listText}
 use Rattle.lists.proofs.ReadBack.{size-inside}
 use Rattle.writing.proofs.Digits.{digits-three, digits-five, digits-eight}
 use Rattle.reach.proofs.Words.{number-byte}
-use Rattle.words.proofs.Share.{share-most}
+use Rattle.lists.proofs.Share.{share-most}
 use Rattle.lines.proofs.Lines.{kind-few, verdict-few}
 use Rattle.lines.specs.Counting.{Few}
 use Rattle.printing.specs.Bound.{textBound}
@@ -145,7 +146,7 @@ refusal-short why =
     )
 
 total-short : (c : Counts) → Few c 16777216 → length (totalLine c) ≤ textBound 0
-unfolding totalLine
+unfolding totalLine totalWith
 total-short c few =
     let a = c .reach in
     let b = c .unfinished in

@@ -1,12 +1,12 @@
--- 02, Slip 2, said of the calls `text_length` and `write_text`. A reviewer reads this file with the contracts in src/lib.rt: the sentence that a theorem
+-- 02, Slips 2 and 6, said of the calls `text_length` and `write_text`. A reviewer reads this file with the contracts in src/lib.rt: the sentence that a theorem
 -- answers stands above it, and its statement uses definitions of specs/ only.
 -- `Measures file list full r` and `Writes file list full text text′ r` are the contracts: the call answered r for a list that was handed in with its file,
 -- `full` says that the search ended in 12, and the text slice that held the bytes `text` holds `text′`. `IsList p list es` says that the list is the entries
 -- es, each of which fits. Nothing is asked of the file and of the slices, but that the list is bytes.
--- Rests on lists' Printouts and on printing's Lengths.
+-- Rests on lists' Printouts and Total and on printing's Lengths.
 use Prim.Native.Nat.{ℕ, _≤_, _<_}
 use mathlib.Core.Path.{_≡_, refl, sym, ap, _∙_}
-use mathlib.Core.Bool.{Bool}
+use mathlib.Core.Bool.{Bool, false}
 use mathlib.Core.List.{List, _++_, map, flatMap}
 use mathlib.Core.Logic.{_⊎_, inl, inr, ⊎-elim, _↔_, _≢_}
 use native.Mathlib.Omega.{arith}
@@ -18,11 +18,12 @@ use Rattle.reach.specs.Syntax.{Program}
 use Rattle.reach.specs.Search.{Entry, kindsOf, counts}
 use Rattle.reach.specs.Lists.{listBytes, sayingOf}
 use Rattle.reach.specs.Answers.{check, accepted, turnedBack, SearchAnswer, noSearch, searchAnswer, listed}
-use Rattle.lists.specs.Text.{lineSaying, lastLine, textOf, text}
+use Rattle.lists.specs.Text.{lineSaying, lastLine, textOf, completeText, ShareOf, text}
 use Rattle.lists.specs.Handed.{IsList}
 use Rattle.lists.specs.Printouts.{wasCut, Printout, printout, printoutOf, TextAnswer, noText, ofLength, lengthAnswer, writeAnswer, textSlice}
 use Rattle.reach.proofs.Base.{clash}
 use Rattle.lists.proofs.Printouts.{refused-exactly, printed-exactly, printout-bytes, length-refuses, length-measures, write-refuses, write-measures, slice-text, slice-kept, text-counts, printout-searched}
+use Rattle.lists.proofs.Total.{text-shares, text-share}
 use Rattle.printing.specs.Bound.{textBound}
 use Rattle.printing.proofs.Lengths.{text-short}
 use Rattle.results.specs.declared.TextResult.{TextResult}
@@ -81,6 +82,14 @@ module _ (file list : List ℕ) (bytes : (i : ℕ) → getD list i 0 < 256) (ful
               (shows-length (lengthAnswer shown) n) .1 (told .1 (textOf full (map sayingOf es), is, size)),
         )
 
+    -- 02, Slip 6, of a complete list: the text that is measured has the share that the law of the share gives
+    pub length-shares : (n : ℕ) → r ≡ TextResult.Length n → full ≡ false
+        → (p : Program) × (es : List Entry) × (check file ≡ accepted p) × IsList p list es × ((x : ℕ) × ShareOf es x × (n ≡ length (completeText es x)))
+    length-shares n is ends =
+        let (p, es, checked, holds, size) = (length-exact n) .0 is in
+        let (x, has, same) = text-share es in
+        (p, es, checked, holds, (x, has, size ∙ ap (λ (whether : Bool). length (textOf whether (map sayingOf es))) ends ∙ ap length same))
+
     -- a caller may reserve by the list alone
     pub length-most : (n : ℕ) → r ≡ TextResult.Length n → n ≤ textBound (length list)
     length-most n is =
@@ -124,6 +133,16 @@ module _ (file list : List ℕ) (bytes : (i : ℕ) → getD list i 0 < 256) (ful
         let slice = slice-text before t n size l in
         let stands : after ≡ textSlice before (printout t) = call .text-is ∙ ap (textSlice before) e in
         rw stands ((p, es, checked, holds, slice .0 ∙ same ∙ text-counts full es), slice .1, slice .2)
+
+    -- 02, Slip 6: "The share is rounded to the nearest whole per cent, and an exact half goes to the even one". The text of a complete list that was written
+    -- has x for the share of its total line exactly if x is the share of the list's entries by that law.
+    pub text-shared : (n : ℕ) → r ≡ TextResult.Length n → full ≡ false
+        → (p : Program) × (es : List Entry) × (check file ≡ accepted p) × IsList p list es × ((x : ℕ) → ShareOf es x ↔ (take n after ≡ completeText es x))
+    text-shared n is ends =
+        let ((p, es, checked, holds, same), behind, size) = text-stands n is in
+        let whole : take n after ≡ textOf false (map sayingOf es) =
+            same ∙ sym (text-counts full es) ∙ ap (λ (whether : Bool). textOf whether (map sayingOf es)) ends in
+        (p, es, checked, holds, λ x. rw whole (text-shares es x))
 
     -- "Both leave the slice untouched", and so does a refusal of the file: "tested before a byte is written"
     pub refused-unchanged : (why : Refusal) → r ≡ TextResult.Refused why → after ≡ before

@@ -1,7 +1,9 @@
-// The calls for C and Rust: the check of a rule file, its search, a closed run, where an entry of a list stands, the printed text of a list,
-// and the names in it. Each answers with one number, that of crate packing for what the call inside hands back, and promises what
-// specs/Answering.antt says; the names answer with the length of their text, and promise what crate reporting says. include/remburai.h has
-// the numbers for C. Rests on crates rulefile, search, closed, entries, printout, namereport and packing.
+// The calls for C and Rust: the check of a rule file, its search, a closed run, where an entry of a list stands, the printed text of a list, the share in its
+// total line, and the names in it. Each answers with one number, that of crate packing for what the call inside hands back, and promises what
+// specs/Answering.antt says; the share answers with itself, and the names with the length of their text, of which they promise what crate reporting says.
+// include/remburai.h has the numbers for C. Rests on crates rulefile, search, closed, entries, printout, words, namereport and packing.
+ghost use mathlib.Core.Path.{_≡_};
+ghost use Rattle.lists.specs.Share.{share};
 ghost use Rattle.names.specs.NameList.{namesText};
 ghost use Rattle.reporting.specs.Answers.{Reports};
 ghost use Rattle.remburai.specs.Answering.{Checks, Searches, Runs, Finds, Measures, Writes};
@@ -18,6 +20,7 @@ use printout::text_length;
 use printout::write_text;
 use rulefile::check;
 use search::search;
+use words::share_of;
 
 // The check of a rule file: 0, or the number of its refusal.
 #[no_mangle]
@@ -71,6 +74,14 @@ pub extern "C" fn remburai_write_text<'a>(
     ensures { λ r. ⌜ Writes (now (file .entry)) (now (list .entry)) full (now (text .entry)) (now (text .exit)) r ⌝ }
 {
     text_number(write_text(file, list, full, text))
+}
+
+// The unfinished share of a list's total line, from two of its counts, in whole per cent.
+#[no_mangle]
+pub extern "C" fn remburai_share(reach: u32, unfinished: u32) -> u64
+    ensures { λ r. ⌜ r ≡ share reach unfinished ⌝ }
+{
+    share_of(reach as u64, unfinished as u64)
 }
 
 // The search of a rule file in the lent words and list, and the names of the entries that were listed, written to the front of a slice: the length of that

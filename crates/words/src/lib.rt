@@ -5,7 +5,8 @@ ghost use mathlib.Core.List.{_∷_};
 ghost use Prim.Native.Nat.{_≤_, _<_};
 ghost use Rattle.reach.specs.Search.{verdictBy};
 ghost use Rattle.reach.specs.Words.{verdictWord};
-ghost use Rattle.lists.specs.Text.{space, kindWord, partWord, share};
+ghost use Rattle.lists.specs.Share.{nearest, share};
+ghost use Rattle.lists.specs.Text.{space, kindWord, partWord};
 ghost use Rattle.writing.specs.Writing.{Puts};
 use marks::wide;
 use reach::Counts;
@@ -36,9 +37,25 @@ pub fn put_kind(kind: Kind, text: &mut [u8], at: usize) -> usize
     }
 }
 
-// The unfinished share of both counts in whole per cent, rounded down.
+// The whole number nearest to a quotient, an exact half to the even one.
+fn nearest_to(over: u64, under: u64) -> u64
+    requires { ⌜ (over < 4611686018427387904) × (under < 4611686018427387904) × (0 < under) ⌝ }
+    ensures { λ r. ⌜ r ≡ nearest over under ⌝ }
+{
+    let whole = over / under;
+    let twice = 2 * (over % under);
+    if under < twice {
+        return whole + 1;
+    }
+    if twice == under {
+        return whole + whole % 2;
+    }
+    whole
+}
+
+// The unfinished share of both counts in whole per cent.
 pub fn share_of(reach: u64, unfinished: u64) -> u64
-    requires { ⌜ (reach ≤ 16777216) × (unfinished ≤ 16777216) ⌝ }
+    requires { ⌜ (reach < 4294967296) × (unfinished < 4294967296) ⌝ }
     ensures { λ r. ⌜ r ≡ share reach unfinished ⌝ }
     ensures small { λ r. ⌜ r ≤ 100 ⌝ }
 {
@@ -46,7 +63,7 @@ pub fn share_of(reach: u64, unfinished: u64) -> u64
     if both == 0 {
         return 0;
     }
-    100 * unfinished / both
+    nearest_to(100 * unfinished, both)
 }
 
 // Writes a space and the verdict that the counts give.

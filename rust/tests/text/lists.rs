@@ -143,6 +143,6 @@ fn the_most_entries() {
     let times = LIST_LIMIT / 24;
     let text = text_of(file, &kinds.concat().repeat(times), false).expect("a list that fits");
     let lines = "unfinished 4096\nmissing 4096\nunfinished 4096\nreach 4096\n".repeat(times);
-    let (twice, share) = (2 * times, 66);
+    let (twice, share) = (2 * times, 67);
     assert!(text == format!("{lines}total {times} {twice} {times} {share} found\n"));
 }

@@ -49,7 +49,7 @@ fn text_slices_from_empty_to_long() {
         reach,
     ];
     let lines = "missing 3 0\nunfinished 20 1 0\nunfinished 20 _\nreach 6 1 1 _\n";
-    let total = format!("{lines}total 1 2 1 66 found\n");
+    let total = format!("{lines}total 1 2 1 67 found\n");
     see(P, &all.concat(), false, &total);
     see(P, &all.concat(), true, &format!("{lines}refused 12\n"));
 }
