@@ -141,7 +141,7 @@ module _ (file list : List ℕ) (bytes : (i : ℕ) → getD list i 0 < 256) (ful
     text-shared n is ends =
         let ((p, es, checked, holds, same), behind, size) = text-stands n is in
         let whole : take n after ≡ textOf false (map sayingOf es) =
-            same ∙ sym (text-counts full es) ∙ ap (λ (whether : Bool). textOf whether (map sayingOf es)) ends in
+        same ∙ sym (text-counts full es) ∙ ap (λ (whether : Bool). textOf whether (map sayingOf es)) ends in
         (p, es, checked, holds, λ x. rw whole (text-shares es x))
 
     -- "Both leave the slice untouched", and so does a refusal of the file: "tested before a byte is written"
