@@ -221,7 +221,7 @@ def check_list(programs):
 
 def check_answers(programs):
     page = stored("docs", "FORMAT.md").decode()
-    shown = re.findall(r"(?:^    (?:check|search|entry|run|length|text|names)\b.*\n)+", page, re.M)
+    shown = re.findall(r"(?:^    (?:check|search|entry|run|length|text|share|names)\b.*\n)+", page, re.M)
     same("the lines of answers", ["    " + line for line in made([programs.example("answers")]).decode().splitlines(True)],
          "".join(shown).splitlines(True))
 

@@ -13,7 +13,7 @@ sys.dont_write_bytecode = True
 
 from blind.build import con, fn, go, let, target, ty
 from blind.compare import Different, same
-from blind.enumerate import MARKS, search
+from blind.enumerate import MARKS, search, share
 from blind.evaluate import run
 from blind.handed import text_length, write_text
 from blind.rulefile import RANGE, Refused, check
@@ -228,6 +228,12 @@ def packed_text(data, listed, call):
     return 65536 * length, f"refusal 0, {length} bytes"
 
 
+def share_of(call):
+    """What the call of the share answers for the two counts that are named."""
+    percent = share(*map(int, re.findall(r"\d+", call)))
+    return percent, f"{percent} per cent"
+
+
 def check_text(page):
     data, text = stored("examples", "p.rule"), section(page, "The text of a list")
     listed, lent = search(data, WORDS, 64).record(), bytearray(64)
@@ -238,6 +244,10 @@ def check_text(page):
     lines = only("the answers of the text calls", [block for block in blocks(text) if block[0].startswith("    length ")])
     same("the text calls", [called(line) for line in lines], TEXT_CALLS)
     check_lines(lines, partial(packed_text, data, listed))
+    check_lines(only("the answers of the share", [block for block in blocks(text) if block[0].startswith("    share")]), share_of)
+    row = only("a row of the last line", [row for row in table(text, "Line") if row[0] == "the last"])
+    shares = [tuple(map(int, numbers)) for numbers in re.findall(r"(\d+) of (\d+) gives (\d+)", row[1])]
+    same("the shares of the page", shares, [(some, both, share(both - some, some)) for some, both in ((1, 8), (3, 8))])
 
 
 # Names.

@@ -1,4 +1,5 @@
-/* Makes every call on one rule, examples/p.rule, that of names on another, and prints each answer: the number, and what is read off it.
+/* Makes every call on one rule, examples/p.rule, that of names on another, that of the share on counts, and prints each answer: the number,
+ * and what is read off it.
  * docs/FORMAT.md shows the lines and goes through the bytes. From the root of the repository:
  *
  *     rt staticlib remburai
@@ -62,6 +63,12 @@ static void print_texts(void) {
     print_text_answer("text, 64 bytes", remburai_write_text(file, sizeof file, list, 9, false, text, sizeof text));
 }
 
+static void print_share(const char *call, uint32_t reached, uint32_t unfinished) {
+    uint64_t answer = remburai_share(reached, unfinished);
+    print_number(call, answer);
+    printf("%u per cent\n", (unsigned)answer);
+}
+
 /* The names in the list of the other rule, which has one entry of 10 bytes. */
 static void print_names(const char *call, size_t list_length, size_t text_length) {
     uint64_t answer = remburai_names(named, sizeof named, work, sizeof work / sizeof *work, list, list_length, text, text_length);
@@ -82,6 +89,8 @@ int main(void) {
     print_run("run on 00", zero, sizeof zero);
     print_run("run on 02", stranger, sizeof stranger);
     print_texts();
+    print_share("share, 7 and 1", 7, 1);
+    print_share("share, 5 and 3", 5, 3);
     print_names("names, 3 bytes", sizeof list, 3);
     print_names("names, 64 bytes", sizeof list, sizeof text);
     print_names("names, full", 8, sizeof text);
