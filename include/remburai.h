@@ -38,8 +38,8 @@ extern "C" {
 #define REMBURAI_VERSION_PATCH 0
 #define REMBURAI_VERSION "0.6.0"
 
-/* Every call answers with one number; the functions under "The parts of an answer" take it apart, but for that of
- * remburai_names, which is a length.
+/* Every call answers with one number; the functions under "The parts of an answer" take it apart, but for those of
+ * remburai_share, a share in per cent, and remburai_names, a length.
  *
  *                          bits 0 to 7     bits 8 to 15    from bit 16 on
  *   remburai_check         the refusal     0               0
