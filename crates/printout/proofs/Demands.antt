@@ -1,8 +1,8 @@
 -- 02, Slips 2 and 6, said of the calls `text_length` and `write_text`. A reviewer reads this file with the contracts in src/lib.rt: the sentence that a theorem
 -- answers stands above it, and its statement uses definitions of specs/ only.
--- `Measures file list full r` and `Writes file list full text text′ r` are the contracts: the call answered r for a list that was handed in with its file,
--- `full` says that the search ended in 12, and the text slice that held the bytes `text` holds `text′`. `IsList p list es` says that the list is the entries
--- es, each of which fits. Nothing is asked of the file and of the slices, but that the list is bytes.
+-- `LengthPromise file list full r` and `WritePromise file list full text text′ r` are the contracts: the call answered r for a list that was handed in with
+-- its file, `full` says that the search ended in 12, and the text slice that held the bytes `text` holds `text′`. `IsList p list es` says that the list is
+-- the entries es, each of which fits. Nothing is asked of the file and of the slices, but that the list is bytes.
 -- Rests on lists' Printouts and Total and on printing's Lengths.
 use Prim.Native.Nat.{ℕ, _≤_, _<_}
 use mathlib.Core.Path.{_≡_, refl, sym, ap, _∙_}
