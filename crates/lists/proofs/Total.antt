@@ -14,7 +14,7 @@ use Rattle.reach.specs.Base.{pick}
 use Rattle.reach.specs.Search.{Entry, kindsOf, counts}
 use Rattle.reach.specs.Lists.{sayingOf}
 use Rattle.lists.specs.Share.{share}
-use Rattle.lists.specs.Text.{space, lineFeed, digit, digitsBy, decimal, lineSaying, spaced, lineFrom, totalWith, totalLine, lastLine, textOf, completeText, ShareOf}
+use Rattle.lists.specs.Text.{space, digit, digitsBy, decimal, lineSaying, spaced, lineFrom, totalWith, totalLine, lastLine, textOf, completeText, ShareOf}
 use Rattle.lists.proofs.Share.{share-law, share-exactly}
 use Rattle.lists.proofs.Printouts.{text-counts}
 
@@ -45,11 +45,16 @@ decimal-only : (x y : ℕ) → decimal x ≡ decimal y → x ≡ y
 unfolding decimal
 decimal-only x y same = sym (said-digits x x (omega arith)) ∙ ap (saidBy 0) same ∙ said-digits y y (omega arith)
 
+-- lines that begin alike have the same behind it
+line-only : (first : List ℕ) (xs ys : List (List ℕ)) → lineFrom first xs ≡ lineFrom first ys → spaced xs ≡ spaced ys
+unfolding lineFrom
+line-only first xs ys same = append-cancel-right (spaced xs) (spaced ys) _ (append-cancel-left first _ _ same)
+
 -- a total line has one share
 total-only : (c : Counts) (x y : ℕ) → totalWith x c ≡ totalWith y c → x ≡ y
-unfolding totalWith lineFrom spaced flatMap
+unfolding totalWith spaced flatMap
 total-only c x y same =
-    let items = append-cancel-right _ _ (lineFeed ∷ []) (append-cancel-left (0x74 ∷ 0x6f ∷ 0x74 ∷ 0x61 ∷ 0x6c ∷ []) _ _ same) in
+    let items = line-only _ _ _ same in
     let more = append-cancel-left (space ∷ decimal (c .reach)) _ _ items in
     let others = append-cancel-left (space ∷ decimal (c .unfinished)) _ _ more in
     let last = append-cancel-left (space ∷ decimal (c .missing)) _ _ others in
