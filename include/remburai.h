@@ -34,9 +34,9 @@ extern "C" {
 
 /* The version of this file and of the library beside it. */
 #define REMBURAI_VERSION_MAJOR 0
-#define REMBURAI_VERSION_MINOR 6
+#define REMBURAI_VERSION_MINOR 7
 #define REMBURAI_VERSION_PATCH 0
-#define REMBURAI_VERSION "0.6.0"
+#define REMBURAI_VERSION "0.7.0"
 
 /* Every call answers with one number; the functions under "The parts of an answer" take it apart, but for those of
  * remburai_share, a share in per cent, and remburai_names, a length.
@@ -85,7 +85,7 @@ extern "C" {
 /* Outcomes of a run, and kinds of entries. An entry is of the kind REMBURAI_REACHED, REMBURAI_UNFINISHED or REMBURAI_MISSING. */
 #define REMBURAI_NO_OUTCOME 0        /* with every refusal */
 #define REMBURAI_REACHED 1           /* the sought target is demanded */
-#define REMBURAI_ENDED 2             /* it stops off target at a constructor, or at a part of the input, with no case waiting */
+#define REMBURAI_ENDED 2             /* it stops off target: its whole result is evaluated */
 #define REMBURAI_UNFINISHED 3        /* S steps are done and it is none of the others */
 #define REMBURAI_MISSING 4           /* it stops off target at a case that has no alternative for the constructor */
 

@@ -129,8 +129,8 @@ go f label 1 depth 3 steps 20
 
 
 def check_unseen():
-    """A gap under a target that is reached, or in a field of the result, is not found; by itself it is."""
-    compare("gaps that are not looked at", listed(build(UNSEEN)), b"reach 3 0\ntotal 1 0 0 0 found\n")
+    """A gap under a target that is reached is not found; in a field of the result it is, and by itself."""
+    compare("a gap that is not looked at and one that is", listed(build(UNSEEN)), b"reach 3 0\nmissing 9 1 0\ntotal 1 0 1 0 found\n")
     compare("the gap by itself", listed(build(changed(UNSEEN, "go f", "go g"))), b"missing 3 0\ntotal 0 0 1 0 none\n")
 
 

@@ -15,6 +15,7 @@ import sys
 from functools import lru_cache
 from itertools import islice
 
+import field_rules
 import named_texts
 import rules
 from blind import names as name_texts
@@ -116,6 +117,22 @@ def missing():
         "missing_in_call": rules.missing_in_call() + go(depth=5, steps=40),
         "missing_or_too_deep": rules.missing_or_too_deep() + go(depth=2),
         "missing_chain": rules.chain(6, None) + go(depth=12, steps=240),
+    }
+
+
+def results():
+    """Results with fields: step limits before and behind a turn, missing alternatives, parts of the input, and results without end."""
+    return {
+        "result_pair": field_rules.looking_pair() + go(), "result_pair_s4": field_rules.looking_pair() + go(steps=4),
+        "result_pair_s5": field_rules.looking_pair() + go(steps=5), "result_pair_s8": field_rules.looking_pair() + go(steps=8),
+        "result_six_fields": field_rules.six_fields() + go(), "result_six_fields_s13": field_rules.six_fields() + go(steps=13),
+        **{f"result_missing_{word}": field_rules.missing_at(place) + go() for place, word in enumerate(("first", "middle", "last"))},
+        "result_pair_of_pairs": field_rules.target_in_field_of_field() + go(),
+        "result_same_part_again": field_rules.same_part_again() + go(),
+        "result_let": field_rules.let_around() + go(), "result_kept": field_rules.kept(True) + go(depth=3),
+        "result_32_nested_s31": field_rules.nested() + go(steps=31), "result_32_nested_s30": field_rules.nested() + go(steps=30),
+        "result_for_ever": field_rules.for_ever() + go(steps=240),
+        "result_mapped": field_rules.mapped() + go(depth=4, steps=60), "result_copied": field_rules.copied() + go(depth=3, steps=60),
     }
 
 
@@ -270,7 +287,7 @@ def store_vectors(made, names):
 
 def make():
     """The stored files by their names; the names of the rule files that are not about names, and of those that are."""
-    unnamed, named = {**examples(), **refused(), **lists(), **missing()}, named_texts.make()
+    unnamed, named = {**examples(), **refused(), **lists(), **missing(), **results()}, named_texts.make()
     made = {}
     for name, rule_file in {**unnamed, **named}.items():
         made[name + ".rule"] = rule_file

@@ -9,24 +9,28 @@ Its stdout has per case a line: `reached`, `ended`, `unfinished` or `missing`, t
 parameters, 0 without parameters; or `refused` and the number.
 
 With --check nothing is written, and the exit status is 1 where the stored files differ. Either way it is 1 where the set has
-too few of a kind of answer (`LEAST`), or a misreading of `blind.misdepth` would show in too few answers, or one of `blind.misfile` in
-too few answers for rule files with NA.
+too few of a kind of answer (`LEAST`), or a misreading of `blind.misdepth` or an error that `blind.narrow` can make with the fields of
+a result would show in too few answers, or a misreading of `blind.misfile` in too few answers for rule files with NA; and where the
+evaluation of `blind.narrow`, with all places bound, answers otherwise.
 """
 
 import random
 import sys
 from collections import Counter
 from functools import lru_cache, partial
-from itertools import islice
+from itertools import islice, product
 
 import closed_inputs
+import field_rules
 import named_inputs
 import rules
-from blind.build import call, case, con, fn, go, random_program, target, two, ty, var
+from blind.build import BuildingBody, call, case, con, fn, go, random_program, random_rule, target, two, ty, var
 from blind.compare import same
+from blind.demands import constructors
 from blind.evaluate import MISSING, UNFINISHED, Answer, ClosedInput, run
 from blind.misdepth import ORDER, READINGS, SHOWN, figure
 from blind.misfile import RUNS
+from blind.narrow import FIELD_ERRORS, Narrowing
 from blind.rulefile import BENCH, Program, check
 from closed_inputs import MOST_BYTES, SPARE, Case
 from vectors import store
@@ -34,6 +38,7 @@ from vectors import store
 P = bytes.fromhex("545902000100464E01000017000300000001020000010300000101020000010507020000474F0007041400")
 
 ENOUGH, MANY = 10, 100  # answers that a misreading changes at least, and up to which they are counted
+FEW = 200  # steps of the rule files on which errors of the evaluation are tried
 SHORT = 330  # bytes of the inputs on which misreadings are tried, but for those of the order of refusals
 
 CASES = []
@@ -91,14 +96,27 @@ MISSING_ON = (
 )
 
 
+def limited(rule, data, end, last):
+    """A run that ends so with this step, with step limits about that."""
+    for steps in sorted({0, 1, last - 1, last, last + 1, 4096}):
+        add(rule + go(0, 7, 64, steps), data)
+    answers = [run(rule + go(0, 7, 64, steps), bytes(data), SPARE) for steps in (last - 1, last)]
+    same(f"the runs that are {end} after {last} steps, with a step less and with all", [(answer.end, answer.steps) for answer in answers],
+         [(UNFINISHED, last - 1), (end, last)])
+
+
 def missing_runs():
     """Missing alternatives, with step limits about that by which each is found."""
     for rule, data, found in MISSING_ON:
-        for steps in sorted({0, 1, found - 1, found, found + 1, 4096}):
-            add(rule + go(0, 7, 64, steps), data)
-        answers = [run(rule + go(0, 7, 64, steps), bytes(data), SPARE) for steps in (found - 1, found)]
-        same(f"the runs that find by step {found} what is missing", [(answer.end, answer.steps) for answer in answers],
-             [(UNFINISHED, found - 1), (MISSING, found)])
+        limited(rule, data, MISSING, found)
+
+
+def field_runs():
+    """Results with fields: those that are worked out by hand, and some without end."""
+    for rule, data, end, last in field_rules.RUNS:
+        limited(rule, data, end, last)
+    for rule, steps in product((field_rules.for_ever(), *map(field_rules.growing, range(6))), (0, 1, 2, 32, 240, 4096)):
+        add(rule + go(0, 7, 1, steps), b"", 64 * steps + 1024)
 
 
 def random_value(rng, program, type_, depth):
@@ -112,9 +130,22 @@ def random_value(rng, program, type_, depth):
     return data
 
 
-def random_runs(rng, count):
+def random_built(rng):
+    """A random rule file that builds results and is accepted."""
+    while True:
+        rule, label, functions = random_rule(rng, most_fields=3, kept=rng.choice((0.9, 0.6)), body_writer=BuildingBody)
+        rule_file = rule + go(rng.randrange(functions), label, rng.randint(2, 6), rng.choice((rng.randint(0, 9), rng.randint(5, 60))))
+        if isinstance(check(rule_file), Program):
+            return rule_file
+
+
+def random_plain(rng):
+    return random_program(rng, kept=rng.choice((0.9, 0.6)))
+
+
+def random_runs(rng, count, random_file):
     while count:
-        rule_file = random_program(rng, kept=rng.choice((0.9, 0.6)))
+        rule_file = random_file(rng)
         program = Depths(check(rule_file))
         for _ in range(3):
             data = b"".join(random_value(rng, program, parameter, min(program.depth, 5)) for parameter in program.parameters
@@ -181,6 +212,21 @@ def misread(cases, answers):
             **changes(SHOWN, shown), **changes(ORDER, refused)}
 
 
+def evaluated(error, program, bound):
+    return Narrowing(program, error).run(bound)
+
+
+def misevaluated(cases, answers):
+    """Per error with the fields of a result the number of answers that it changes, of those with few steps. Fails where narrowing changes
+    an answer without one."""
+    accepted = [(checked(case_.rule_file), case_.data(), answer) for case_, answer in zip(cases, answers)
+                if size(case_) <= SHORT and isinstance(answer, Answer)]
+    asked = [((program, constructors(ClosedInput(program, data).read()[0])), (answer.end, answer.steps)) for program, data, answer in accepted]
+    same("answers that narrowing with all places bound does not give", [right for given, right in asked if evaluated(None, *given) != right], [])
+    few = [((program, bound), right) for (program, bound), right in asked if program.steps <= FEW]
+    return changes({error: partial(evaluated, error) for error in FIELD_ERRORS}, few)
+
+
 # How many answers of each kind the set has at least.
 LEAST = {"reached": 250, "ended": 250, "unfinished": 300, "missing": 250, **{f"refused {number}": 8 for number in range(1, 10)},
          "refused 10": 500, "refused 11": 30, "refused 15": 250, "depth 0": 100, "depth 1": 200, "depth 2": 100, "depth 63": 40,
@@ -226,7 +272,9 @@ def make():
     examples()
     long_runs()
     missing_runs()
-    random_runs(random.Random(2), 600)
+    random_runs(random.Random(2), 600, random_plain)
+    field_runs()
+    random_runs(random.Random(11), 200, random_built)
     cases, named = CASES + closed_inputs.make(), named_inputs.make()
     return cases, answered(cases), named, answered(named)
 
@@ -234,7 +282,7 @@ def make():
 def main():
     unnamed, first, named, second = make()
     cases, answers = unnamed + named, first + second
-    counted, wrong = counts(cases, answers), {**misread(unnamed, first), **misnamed(named, second)}
+    counted, wrong = counts(cases, answers), {**misread(unnamed, first), **misevaluated(unnamed, first), **misnamed(named, second)}
     if not sys.argv[1:]:
         report(cases, counted, wrong)
     lacking = ([f"too few: {word}" for word, least in LEAST.items() if counted[word] < least]

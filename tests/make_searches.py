@@ -18,11 +18,12 @@ import random
 import sys
 from collections import Counter
 from functools import lru_cache
-from itertools import accumulate, combinations, permutations
+from itertools import accumulate, chain, combinations, permutations, product
 
+import field_rules
 import named_searches
 import rules
-from blind.build import call, case, con, go, random_rule, target, two, ty
+from blind.build import BuildingBody, call, case, con, go, random_rule, target, two, ty, var
 from blind.compare import same
 from blind.demands import broken
 from blind.enumerate import MARKS, OPEN, Listing, count_inputs, fill, inputs, tally, verdict
@@ -163,12 +164,52 @@ SWEEPS = (
 )
 
 
+# The same for rules whose results have fields.
+FIELD_SWEEPS = (
+    *((field_rules.row(0, *fields), (1,), range(0, 4)) for fields in product((field_rules.NO, field_rules.REACH), repeat=2)),
+    (field_rules.row(0, field_rules.NO), (1,), range(0, 3)),
+    (field_rules.row(1, var(0), field_rules.REACH), (1,), range(0, 5)),
+    (field_rules.row(0, case(0, con(0, 0), None, con(0, 0)), field_rules.REACH), (1,), range(0, 6)),
+    (field_rules.looking_pair(), (1, 64), range(0, 10)),
+    (field_rules.six_fields(), (1,), range(0, 16)),
+    (field_rules.ending_at_once(), (1,), range(0, 11)),
+    *((field_rules.missing_at(place), (1,), range(0, 8)) for place in range(3)),
+    (field_rules.target_in_field_of_field(), (1,), range(0, 11)),
+    (field_rules.pairs(0, *[field_rules.NO] * 4), (1,), range(0, 8)),
+    (field_rules.same_part_again(), (1,), range(0, 20)),
+    (field_rules.let_around(), (1,), range(0, 15)),
+    (field_rules.let_inside(), (1,), range(0, 9)),
+    (field_rules.let_of_pair(), (1,), range(0, 10)),
+    (field_rules.called(), (1,), range(0, 11)),
+    (field_rules.other_environment(), (1, 64), range(0, 18)),
+    (field_rules.calling_fields(), (1, 2), range(0, 20)),
+    (field_rules.below_cases(), (2, 3), range(0, 16)),
+    (field_rules.swapped(), (1,), range(0, 14)),
+    (field_rules.left_alone(), (1,), range(0, 8)),
+    (field_rules.kept(), (2, 3), range(0, 5)),
+    (field_rules.kept(True), (2, 3), range(0, 11)),
+    (field_rules.kept_number(), (1, 2, 3), range(0, 13)),
+    (field_rules.kept_number(), (64,), (11,)),
+    (field_rules.nested(), (1, 64), (0, 1, 30, 31, 32)),
+    (field_rules.nested(var(0)), (1, 64), (30, 31, 32, 33)),
+    (field_rules.nested(target(7, con(0, 0)), 30), (1,), (0, 1, 29, 30, 31)),
+    (field_rules.for_ever(), (1,), (0, 31, 32, 33, 240, 4096)),
+    *((field_rules.spine(place), (1,), (place * 30 + 29, place * 30 + 30)) for place in range(6)),
+    *((field_rules.spine(place, con(0, 0)), (1,), (179, 180)) for place in (0, 5)),
+    (field_rules.fork_below(), (1, 2), (31, 32, 176, 177, 182, 183)),
+    *((field_rules.growing(place), (1,), (0, 1, 2, 6, 7, 8, 4096)) for place in (0, 2, 5)),
+    (field_rules.mapped(), (1, 2, 3), range(0, 32)),
+    (field_rules.mapped(), (6,), (60, 240)),
+    (field_rules.copied(), (1, 2, 3), range(0, 36, 2)),
+    (field_rules.copied(), (3,), (100, 240)),
+)
+
+
 def sweeps():
     """The rules written by hand, with step limits and depths on both sides of every change of the answer."""
-    for rule, depths, limits in SWEEPS:
-        for depth in depths:
-            for steps in limits:
-                add("rule", rule + go(0, 7, depth, steps))
+    for group, (rule, depths, limits) in chain((("rule", sweep) for sweep in SWEEPS), (("field", sweep) for sweep in FIELD_SWEEPS)):
+        for depth, steps in product(depths, limits):
+            add(group, rule + go(0, 7, depth, steps))
     for label in (0, 1, 7, 254, 255):
         for steps in range(12):
             add("rule", rules.labels() + go(0, label, 1, steps))
@@ -228,9 +269,9 @@ def first_run(rule_file):
     return evaluate(program, next(inputs(program)))
 
 
-def random_file(rng):
+def random_file(rng, **shape):
     """A random rule file that is accepted and has few closed inputs within the depth, or None."""
-    rule, label, functions = random_rule(rng, most_fields=rng.choice((1, 2, 2, 3)), most_levels=rng.choice((2, 3, 4, 5)))
+    rule, label, functions = random_rule(rng, most_fields=rng.choice((1, 2, 2, 3)), most_levels=rng.choice((2, 3, 4, 5)), **shape)
     source = rng.randrange(functions)
     steps = rng.choice((0, 1, rng.randint(2, 6), rng.randint(3, 12), rng.randint(7, 25), rng.randint(13, 60)))
     for depth in rng.sample((1, 2, 3, 3, 4, 4, 5, 6), 8):
@@ -257,9 +298,21 @@ def random_accepted(rng):
     return files
 
 
-def other_limits(rng, files):
+def random_built(rng, count):
+    """Random rule files that build results, each with a list that the fields of the result have made another."""
+    files = []
+    while len(files) < count:
+        rule_file = random_file(rng, body_writer=BuildingBody)
+        if (rule_file and rule_file not in files and length(rule_file) <= 2000
+                and differs(checked(rule_file), entries(rule_file), "the fields of the result are not evaluated")):
+            files.append(rule_file)
+            add("built", rule_file)
+    return files
+
+
+def other_limits(rng, files, count):
     """Some of the random rule files again, with every step limit up to where the list stays as it is."""
-    for rule_file in rng.sample([rule_file for rule_file in files if len(entries(rule_file)) > 1], 24):
+    for rule_file in rng.sample([rule_file for rule_file in files if len(entries(rule_file)) > 1], count):
         most = max(entry.steps for entry in entries(rule_file))
         for steps in range(min(most, 30) + 2):
             add("limit", rule_file[:-2] + two(steps))
@@ -353,7 +406,7 @@ ENOUGH = 15  # lists that an error changes
 
 # How many the set has at least; where nothing is said, 5.
 LEAST = {
-    "example cases": 150, "rule cases": 500, "random cases": 300, "limit cases": 200, "damaged cases": 100,
+    "example cases": 150, "rule cases": 500, "field cases": 400, "random cases": 300, "built cases": 100, "limit cases": 300, "damaged cases": 100,
     "room cases": 200, "bench cases": 100, "name cases": 300, "verdict found": 300, "verdict undecided": 300, "verdict none": 200,
     "refused 11": 50, "refused 12": 150, "refused 15": 150, "reached entries": 4000, "unfinished entries": 1500, "missing entries": 500,
     "lists with reached and unfinished": 200, "lists with reached and missing": 100,
@@ -415,7 +468,8 @@ def counts(answers):
     verdicts = Counter(given.verdict for _, _, given in complete)
     refusals = Counter(given for given in answers if not isinstance(given, Listing)) + Counter({FULL: len(cut)})
     return {
-        **{f"{group} cases": groups[group] for group in ("example", "rule", "random", "limit", "damaged", "room", "bench", "name")},
+        **{f"{group} cases": groups[group]
+           for group in ("example", "rule", "field", "random", "built", "limit", "damaged", "room", "bench", "name")},
         **{f"verdict {word}": verdicts[word] for word in ("found", "undecided", "none")},
         **{f"refused {number}": refusals[number] for number in (*range(1, 10), BENCH, FULL, SPELLING)},
         **{f"{end} entries": sum(entry.end == end for _, entry in listed) for end in MARKS},
@@ -468,11 +522,12 @@ def make():
     wide_lists()
     missing_rooms()
     files = random_accepted(rng)
-    other_limits(rng, files)
+    other_limits(rng, files, 24)
     damaged(rng, files)
     rooms(rng, files)
     benches(rng, files)
     names()
+    other_limits(rng, random_built(rng, 120), 12)
     same("slices longer than the program's",
          [(words, room) for _, _, words, room in CASES if words > MOST_WORDS or room > MOST_BYTES], [])
     return [answer(rule_file, words, room) for _, rule_file, words, room in CASES]

@@ -12,7 +12,7 @@ from blind.compare import same
 from blind.evaluate import run
 from blind.rulefile import Program, check, least_depths
 from closed_inputs import ENDS, MOST_BYTES, NAT, SPARE, Case, Rule, number, random_value
-from named_rules import (AGAIN, BAD, BOOL, GOOD, REACH, SIXTEEN, H, N, beside, deepest, each_kind, every_byte, look, name, reaches, refused,
+from named_rules import (AGAIN, BAD, BOOL, GOOD, REACH, RESPELT, SIXTEEN, H, N, beside, deepest, each_kind, every_byte, look, name, reaches, refused,
                          spelling, spelt, walk, with_form, without_names)
 
 CASES = []
@@ -124,6 +124,18 @@ def bytes_of_names():
         add(second + go(depth=4), spelt(b"x") + b"\1\0\1\0\0" + b"\1" + data)
 
 
+def names_in_results():
+    """Names that are built anew, where the target is in a field: case 3, then a turn and a variable for each half that is not looked at, or
+    a turn and a case of three for one that is."""
+    for word, data, known in (("high", b"\xc9", "reached 7 2"), ("high", b"\x9c", "ended 10 2"), ("low", b"\xc9", "reached 9 2"),
+                              ("low", b"\x9c", "ended 10 2"), ("rest", b"\xc9", "reached 11 2"), ("rest", b"\xc9\x41", "ended 11 3"),
+                              ("low_behind_missing", b"\xc9", "reached 11 2"), ("low_behind_missing", b"\xd9", "missing 7 2"),
+                              ("low_of_any_byte", b"\x09", "reached 9 2"), ("low_of_any_byte", b"\x0a", "ended 15 2")):
+        add(RESPELT[word] + go(depth=3), spelt(data), known=known)
+        for steps in (int(known.split()[1]) - 1, 3, 4):
+            add(RESPELT[word] + go(depth=3, steps=steps), spelt(data), known=f"unfinished {steps} {known[-1]}")
+
+
 def same_without():
     """NA changes nothing: the answer is that of the file without it."""
     for rule_, data in ((rules.P[:-7], [1, 1, 0]), (rules.equal_numbers(), [1, 1, 0, 1, 0]), (rules.true_leaf(), [1, 0, 0, 0, 1]),
@@ -157,7 +169,7 @@ def random_inputs(rng, count):
 
 def make():
     """All cases, in the order in which they are stored."""
-    for group in (misspelt, named_parameters, before, lengths, bytes_of_names, same_without):
+    for group in (misspelt, named_parameters, before, lengths, bytes_of_names, names_in_results, same_without):
         group()
     random_inputs(random.Random(8), 120)
     return CASES

@@ -251,6 +251,30 @@ def deepest():
     return rule(fn((N,), N, body))
 
 
+ZERO, MARKED = con(H, 0), target(7, con(H, 0))
+
+
+def respelt(high=var(1), low=var(2), rest=END):
+    """A name that is built anew from these two halves and this rest, of which each may look at the name: its first byte is variables 1
+    and 2, its rest is variable 3."""
+    return rule(fn((N,), N, case(N, var(0), END, con(N, 1, high, low, rest))))
+
+
+# By where the target stands in the result.
+RESPELT = {
+    "high": respelt(of_half(var(1), {12: MARKED}, ZERO)),
+    "low": respelt(low=of_half(var(2), {9: MARKED}, ZERO)),
+    "rest": respelt(rest=case(N, var(3), REACH, END)),
+    "low_of_any_byte": respelt(low=of_half(var(2), {9: MARKED, 10: ZERO}, None), rest=call(0, var(3))),
+    "low_behind_missing": respelt(of_half(var(1), {12: ZERO}, None), of_half(var(2), {9: MARKED}, ZERO)),
+}
+
+
+def name_beside(inner):
+    """Two names in a pair: the first of the parameters, and this, which looks at the second."""
+    return rule(fn((N, N), OTHER, con(OTHER, 0, var(0), inner)), ((N, N),))
+
+
 def beside(others, parameters, body, *functions):
     """A rule of several parameters, with these other types, and functions behind the source."""
     return rule(fn(parameters, N, body) + b"".join(functions), *others)

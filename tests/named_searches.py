@@ -14,8 +14,8 @@ from blind.enumerate import count_inputs
 from blind.misfile import answer
 from blind.rulefile import SPELLING, Program, RuleFile, check
 from named_files import DAMAGES
-from named_rules import (AGAIN, BAD, BOOL, GOOD, REACH, deepest, each_kind, every_byte, never_looked_at, reaches, refused, spelling, walk,
-                         with_form, without_names)
+from named_rules import (AGAIN, BAD, BOOL, GOOD, REACH, RESPELT, deepest, each_kind, every_byte, look, name_beside, never_looked_at, reaches,
+                         refused, spelling, walk, with_form, without_names)
 from rules import P, changed
 
 CASES = []
@@ -64,8 +64,10 @@ def named():
                                (each_kind(REACH, AGAIN, None), 2, 20), (each_kind(None), 2, 6), (never_looked_at(BOOL), 1, 0)):
         add(rule + go(0, 7, depth, steps), known=0)
         add(without_names(rule + go(0, 7, depth, steps)), known=0)
-    for steps in range(10):
+    for steps in range(12):
         add(reaches((12, 9)) + go(depth=2, steps=steps))
+        for rule in (*RESPELT.values(), name_beside(look(1, 2, [(12, 9)], REACH, None))):
+            add(rule + go(depth=2, steps=steps), known=0)
     for room in (0, 9, 10, 99, 100, 2559, 2560):
         add(every_byte() + go(depth=2), None, room)
     rule_file = every_byte() + go(depth=2)

@@ -13,8 +13,9 @@ from blind.enumerate import TooMany, verdict
 from blind.forks import forked_entries
 from blind.names import Names
 from blind.rulefile import Program, check
-from named_rules import (AGAIN, BAD, BOOL, END, GOOD, OTHER, REACH, SIXTEEN, TYPES, UNIT, H, N, beside, deepest, each_kind, every_byte,
-                         in_turn, look, name, never_looked_at, of_half, reaches, refused, rule, spelling, walk, with_form, without_names)
+from named_rules import (AGAIN, BAD, BOOL, END, GOOD, OTHER, REACH, RESPELT, SIXTEEN, TYPES, UNIT, H, N, beside, deepest, each_kind,
+                         every_byte, in_turn, look, name, name_beside, never_looked_at, of_half, reaches, refused, rule, spelling, walk,
+                         with_form, without_names)
 from rules import P, changed
 
 NAT, TREE = ((), (OTHER,)), ((), (OTHER, OTHER))  # as the first type behind those of names
@@ -124,6 +125,12 @@ def other_types():
         "two_halves": ty(*SIXTEEN) + ty(*name(0, 2, 1)) + ty(*SIXTEEN) + fn((1,), 1, two) + na(1),
         "two_halves_exchanged": ty(*SIXTEEN) + ty(*name(2, 0, 1)) + ty(*SIXTEEN) + fn((1,), 1, exchanged) + na(1),
     })
+
+
+def results():
+    """Names in the fields of a result, with the target in a field."""
+    made = files({f"respelt_{word}": rule_ for word, rule_ in RESPELT.items()}, 3)
+    return {**made, **files({"beside_target": name_beside(look(1, 2, [(12, 9)], REACH)), "beside_missing": name_beside(look(1, 2, [(12, None)], REACH, None))})}
 
 
 # Patterns of two names, each of a type of its own.
@@ -253,7 +260,7 @@ def random_files(rng):
 def make():
     """All rule files by their names."""
     made = {}
-    for group in (shapes, bytes_, kinds, between, parameters, sources, other_types, twins, depths, long_lists, refused_files):
+    for group in (shapes, bytes_, kinds, between, parameters, sources, other_types, results, twins, depths, long_lists, refused_files):
         more = group()
         same("rule files that two groups have", made.keys() & more.keys(), set())
         refusals = {word: check(rule_file) for word, rule_file in more.items() if not isinstance(check(rule_file), Program)}

@@ -1,13 +1,16 @@
 //! The evaluation by name of a program's source function, on an input whose parts may be open.
 //!
-//! Environments and waiting cases are records of growing arrays that only get longer along a path; an environment has a link to the one that
+//! A result, a construction or a part of the input with no case waiting, is looked into as a whole: the fields of a construction are evaluated
+//! from left to right, each as a result in its turn, and a part of the input is not gone into.
+//!
+//! Environments and what waits are records of growing arrays that only get longer along a path; an environment has a link to the one that
 //! it extends. To go back to an earlier point of a path the arrays are cut to their lengths there.
 use crate::program::{Expr, Program};
 
 /// The constructor of an open part.
 pub const OPEN: u8 = 0xFF;
 
-/// No environment, no waiting case.
+/// No environment, nothing that waits.
 const NONE: u32 = u32::MAX;
 
 /// A part of the input: its constructor, its type, the depth that it may have, and its first field, behind which stand the others.
@@ -45,10 +48,17 @@ struct Environment<'p> {
     bound: Bound<'p>,
 }
 
-/// A waiting case: its alternatives, its environment and the case that waits for it.
+/// What waits for a result: a case with its alternatives, or fields of a construction, at least one.
+#[derive(Clone, Copy)]
+enum Waiting<'p> {
+    Case(&'p [Option<Expr>]),
+    Fields(&'p [Expr]),
+}
+
+/// What waits, in its environment, and what waits below it.
 #[derive(Clone, Copy)]
 struct Frame<'p> {
-    alternatives: &'p [Option<Expr>],
+    waiting: Waiting<'p>,
     environment: u32,
     below: u32,
 }
@@ -148,14 +158,15 @@ impl<'p> Machine<'p> {
         match self.focus {
             Focus::Part(cell) => self.meet_part(cell),
             Focus::Closure(Expr::Construction(constructor, fields), environment) => {
-                if self.frame == NONE {
-                    return Some(Stop::Ended);
+                match self.waiting_case() {
+                    None => self.go_on(fields, environment),
+                    Some((alternatives, frame)) => self.choose(
+                        &alternatives[*constructor as usize],
+                        frame,
+                        Bound::Expressions(fields, environment),
+                        fields.len(),
+                    ),
                 }
-                self.choose(
-                    *constructor,
-                    Bound::Expressions(fields, environment),
-                    fields.len(),
-                )
             }
             Focus::Closure(Expr::Target(label, _), _) if *label == self.program.label => {
                 Some(Stop::Reached)
@@ -181,12 +192,7 @@ impl<'p> Machine<'p> {
                 Focus::Closure(&self.program.functions[*function].body, inside)
             }
             Expr::Case(scrutinee, alternatives) => {
-                self.frames.push(Frame {
-                    alternatives,
-                    environment,
-                    below: self.frame,
-                });
-                self.frame = self.frames.len() as u32 - 1;
+                self.wait(Waiting::Case(alternatives), environment);
                 Focus::Closure(scrutinee, environment)
             }
             Expr::Let(bound, body) => {
@@ -201,9 +207,9 @@ impl<'p> Machine<'p> {
 
     /// A part of the input is evaluated.
     fn meet_part(&mut self, at: u32) -> Option<Stop> {
-        if self.frame == NONE {
-            return Some(Stop::Ended);
-        }
+        let Some((alternatives, frame)) = self.waiting_case() else {
+            return self.go_on(&[], NONE);
+        };
         let cell = self.cells[at as usize];
         if cell.constructor == OPEN {
             let full = self.steps == self.program.steps;
@@ -217,21 +223,71 @@ impl<'p> Machine<'p> {
             .fields
             .len();
         self.choose(
-            cell.constructor,
+            &alternatives[cell.constructor as usize],
+            frame,
             Bound::Cells(cell.first, fields as u32),
             fields,
         )
     }
 
-    /// The innermost waiting case goes on with its alternative for a constructor.
-    fn choose(&mut self, constructor: u8, bound: Bound<'p>, fields: usize) -> Option<Stop> {
+    /// The innermost of what waits, if it is a case.
+    fn waiting_case(&self) -> Option<(&'p [Option<Expr>], Frame<'p>)> {
+        let frame = *self.frames.get(self.frame as usize)?;
+        match frame.waiting {
+            Waiting::Case(alternatives) => Some((alternatives, frame)),
+            Waiting::Fields(_) => None,
+        }
+    }
+
+    /// Something waits in its environment for what is evaluated from here on.
+    fn wait(&mut self, waiting: Waiting<'p>, environment: u32) {
+        let below = self.frame;
+        self.frames.push(Frame {
+            waiting,
+            environment,
+            below,
+        });
+        self.frame = self.frames.len() as u32 - 1;
+    }
+
+    /// Behind a result with these fields to be evaluated: the first of them, or the first that waits, is turned to, or it is the end.
+    fn go_on(&mut self, fields: &'p [Expr], environment: u32) -> Option<Stop> {
+        let (fields, environment, below) = match self.frames.get(self.frame as usize) {
+            _ if !fields.is_empty() => (fields, environment, self.frame),
+            Some(frame) => match frame.waiting {
+                Waiting::Fields(fields) => (fields, frame.environment, frame.below),
+                Waiting::Case(_) => unreachable!("a case waits for no result"),
+            },
+            None => return Some(Stop::Ended),
+        };
         if self.steps == self.program.steps {
             return Some(Stop::Unfinished);
         }
         self.steps += 1;
-        let frame = self.frames[self.frame as usize];
+        self.frame = below;
+        if let [_, behind @ ..] = fields {
+            if !behind.is_empty() {
+                self.wait(Waiting::Fields(behind), environment);
+            }
+        }
+        self.focus = Focus::Closure(&fields[0], environment);
+        None
+    }
+
+    /// The innermost waiting case goes on with an alternative, if it is there.
+    fn choose(
+        &mut self,
+        alternative: &'p Option<Expr>,
+        frame: Frame<'p>,
+        bound: Bound<'p>,
+        fields: usize,
+    ) -> Option<Stop> {
+        if self.steps == self.program.steps {
+            return Some(Stop::Unfinished);
+        }
+        self.steps += 1;
         self.frame = frame.below;
-        let Some(alternative) = &frame.alternatives[constructor as usize] else {
+        let Some(alternative) = alternative else {
             return Some(Stop::Missing);
         };
         let environment = match fields {

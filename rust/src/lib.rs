@@ -126,7 +126,7 @@ impl fmt::Display for Verdict {
 pub enum Outcome {
     /// The sought target is demanded.
     Reached(u16),
-    /// It stops off target at a constructor, or at a part of the input, with no case waiting.
+    /// It stops off target: its whole result is evaluated, every constructor that the rule built to its last field.
     Ended(u16),
     /// S steps are done and it is none of the others.
     Unfinished(u16),

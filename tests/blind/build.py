@@ -217,8 +217,25 @@ class BranchingBody(RandomBody):
         return self.ending(wanted, view)
 
 
+class BuildingBody(BranchingBody):
+    """Writes bodies that also build: constructions whose fields are variables, or branch and build in turn."""
+
+    def field(self, wanted, view, levels, nesting):
+        numbers = [number for number, type_ in enumerate(view) if type_ == wanted]
+        if numbers and self.rng.random() < 0.4:
+            return var(self.rng.choice(numbers))
+        return self.expression(wanted, view, levels, nesting)
+
+    def expression(self, wanted, view, levels, nesting=1):
+        numbers = [number for number, fields in enumerate(self.types[wanted].constructors) if fields]
+        if levels <= 0 or nesting > 12 or not numbers or self.rng.random() < 0.5:
+            return super().expression(wanted, view, levels, nesting)
+        number = self.rng.choice(numbers)
+        return con(wanted, number, *(self.field(type_, view, levels - 1, nesting + 1) for type_ in self.types[wanted].constructors[number]))
+
+
 def random_rule(rng, most_types=3, most_constructors=3, most_fields=2, most_functions=3, most_parameters=3, most_levels=4,
-                kept=0.85):
+                kept=0.85, body_writer=BranchingBody):
     """A random rule file without its GO, whose bodies branch; with it the label that it marks most often, and the
     number of its functions."""
     types = random_types(rng, most_types, most_constructors, most_fields)
@@ -226,7 +243,7 @@ def random_rule(rng, most_types=3, most_constructors=3, most_fields=2, most_func
     heads = [(tuple(rng.randrange(count) for _ in range(rng.randint(0, most_parameters))), rng.randrange(count))
              for _ in range(rng.randint(1, most_functions))]
     label = rng.randrange(256)
-    writer = BranchingBody(rng, types, heads, label, kept)
+    writer = body_writer(rng, types, heads, label, kept)
     functions = []
     for parameters, result in heads:
         body = writer.expression(result, parameters, rng.randint(1, most_levels))

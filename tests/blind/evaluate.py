@@ -2,12 +2,16 @@
 
 `run` is the closed run: a rule file on the bytes of an input. `ClosedInput` reads these bytes and tells how deep they go.
 `evaluate` is the run's core, on a program and values; it notes each place of the input on which a case waited and the
-steps done by then.
+steps done by then. It goes by the unit-evaluator of source document 000, which gives the root of a result, and applies that
+to the root's children again.
 """
 
+import sys
 from dataclasses import dataclass
 
-from blind.rulefile import (BENCH, INPUT, MAX_DEPTH, Call, Case, Construction, Let, Reader, Refused, Target, Variable, read)
+from blind.rulefile import (BENCH, INPUT, MAX_DEPTH, MAX_STEPS, Call, Case, Construction, Let, Reader, Refused, Target, Variable, read)
+
+sys.setrecursionlimit(2 * MAX_STEPS + 1000)  # each step of an evaluation, to a field or to a scrutinee, opens at most two calls
 
 REACHED, ENDED, UNFINISHED, MISSING = "reached", "ended", "unfinished", "missing"
 
@@ -54,66 +58,82 @@ class Answer(Outcome):
     depth: int
 
 
-def chosen(focus, case, environment):
-    """The alternative of a case for a part or a construction, its fields in view; None where it is missing."""
-    if isinstance(focus, Part):
-        constructor = focus.value.constructor
-        fields = tuple(Part(focus.place + (number,), field) for number, field in enumerate(focus.value.fields))
-    else:
-        constructor = focus.expression.constructor
-        fields = tuple(Closure(field, focus.environment) for field in focus.expression.fields)
-    alternative = case.alternatives[constructor]
-    return None if alternative is None else Closure(alternative, environment + fields)
+class Stop(Exception):
+    """Evaluation stops before the whole result is there: reached, unfinished or missing."""
+
+    def __init__(self, end):
+        super().__init__(end)
+        self.end = end
 
 
-def unfolded(program, expression, environment, waiting):
-    """What is looked at after a step at an expression that is no construction."""
-    if isinstance(expression, Variable):
-        return environment[expression.number]
-    if isinstance(expression, Call):
-        arguments = tuple(Closure(argument, environment) for argument in expression.arguments)
-        return Closure(program.functions[expression.function].body, arguments)
-    if isinstance(expression, Case):
-        waiting.append((expression, environment))
-        return Closure(expression.scrutinee, environment)
-    if isinstance(expression, Let):
-        return Closure(expression.body, environment + (Closure(expression.bound, environment),))
-    return Closure(expression.inner, environment)
+def fields(root):
+    """What the fields of a part or a construction stand for."""
+    if isinstance(root, Part):
+        return tuple(Part(root.place + (number,), field) for number, field in enumerate(root.value.fields))
+    return tuple(Closure(field, root.environment) for field in root.expression.fields)
+
+
+class Evaluation:
+    """One evaluation: its program, the steps done, and the waits so far."""
+
+    def __init__(self, program):
+        self.program, self.steps, self.waits = program, 0, []
+
+    def step(self):
+        if self.steps == self.program.steps:
+            raise Stop(UNFINISHED)
+        self.steps += 1
+
+    def result(self, focus):
+        """Evaluates the whole result: its root and then, where the rule built that, its fields from left to right, each as a result."""
+        root = self.root(focus)
+        for field in () if isinstance(root, Part) else fields(root):
+            self.step()
+            self.result(field)
+
+    def root(self, focus):
+        """The unit-evaluator: the part of the input, or the construction with its fields unevaluated, that is the root of the result."""
+        while not isinstance(focus, Part) and not isinstance(focus.expression, Construction):
+            expression, environment = focus.expression, focus.environment
+            if isinstance(expression, Target) and expression.label == self.program.label:
+                raise Stop(REACHED)
+            self.step()
+            focus = self.chosen(expression, environment) if isinstance(expression, Case) else self.unfolded(expression, environment)
+        return focus
+
+    def unfolded(self, expression, environment):
+        """What is looked at after a step at an expression that is no construction and no case."""
+        if isinstance(expression, Variable):
+            return environment[expression.number]
+        if isinstance(expression, Call):
+            arguments = tuple(Closure(argument, environment) for argument in expression.arguments)
+            return Closure(self.program.functions[expression.function].body, arguments)
+        if isinstance(expression, Let):
+            return Closure(expression.body, environment + (Closure(expression.bound, environment),))
+        return Closure(expression.inner, environment)
+
+    def chosen(self, case, environment):
+        """The alternative of a case for the root of its scrutinee, with the root's fields in view."""
+        root = self.root(Closure(case.scrutinee, environment))
+        part = isinstance(root, Part)
+        constructor = root.value.constructor if part else root.expression.constructor
+        if part:
+            self.waits.append(Wait(root.place, constructor, self.steps))
+        self.step()
+        if case.alternatives[constructor] is None:
+            raise Stop(MISSING)
+        return Closure(case.alternatives[constructor], environment + fields(root))
 
 
 def evaluate(program, values):
     """Evaluates the source function's body on one closed value per parameter."""
-    source = program.functions[program.source]
-    parameters = tuple(Part((number,), value) for number, value in enumerate(values))
-    focus = Closure(source.body, parameters)
-    waiting = []  # the cases that wait, the innermost last, each with its environment
-    steps = 0
-    waits = []
-
-    def outcome(end):
-        return Outcome(end, steps, tuple(waits))
-
-    while True:
-        part = focus if isinstance(focus, Part) else None
-        expression = None if part else focus.expression
-        constructed = part is not None or isinstance(expression, Construction)
-
-        if isinstance(expression, Target) and expression.label == program.label:
-            return outcome(REACHED)
-        if constructed and not waiting:
-            return outcome(ENDED)
-        if part:
-            waits.append(Wait(part.place, part.value.constructor, steps))
-        if steps == program.steps:
-            return outcome(UNFINISHED)
-
-        steps += 1
-        if constructed:
-            focus = chosen(focus, *waiting.pop())
-            if focus is None:
-                return outcome(MISSING)
-        else:
-            focus = unfolded(program, expression, focus.environment, waiting)
+    evaluation, parameters = Evaluation(program), tuple(Part((number,), value) for number, value in enumerate(values))
+    try:
+        evaluation.result(Closure(program.functions[program.source].body, parameters))
+        end = ENDED
+    except Stop as stop:
+        end = stop.end
+    return Outcome(end, evaluation.steps, tuple(evaluation.waits))
 
 
 class ClosedInput:

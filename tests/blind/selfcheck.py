@@ -12,7 +12,8 @@ from itertools import product
 
 sys.path.insert(0, os.path.dirname(os.path.dirname(os.path.abspath(__file__))))
 
-from blind.build import call, case, con, fn, go, let, na, random_named_rule, random_rule, target, ty, var
+import field_rules
+from blind.build import BuildingBody, call, case, con, fn, go, let, na, random_named_rule, random_rule, target, ty, var
 from blind.compare import Different, same
 from blind.demands import broken, filled
 from blind.enumerate import Entry, Listing, TooMany, all_entries, count_inputs, fill, inputs, reachlist, search, share, tally, verdict
@@ -305,6 +306,60 @@ def missing_beside_others():
     lists(NAT + called + go(depth=3), "found", mi(6, open_, 0), re(7, open_, 1, open_))
 
 
+def worked_results():
+    """Worked by hand: lists of rules whose results have fields."""
+    open_ = 255
+
+    # (case x of no -> no; yes -> target, case y of no -> target; yes -> no): turn 1, case 2, x 3, fork. Yes: choose 4, target. No: choose 4;
+    # turn 5, case 6, y 7, fork. No: choose 8, target. Yes: choose 8, and no field waits.
+    looking = field_rules.looking_pair()
+    lists(looking + go(steps=8), "found", re(8, 0, 0), re(4, 1, open_))
+    # With S 4 the second field waits when 4 steps are done, with S 5 its case, with S 7 its parameter.
+    for steps in range(4, 8):
+        lists(looking + go(steps=steps), "found", un(steps, 0, open_), re(4, 1, open_))
+    for steps in range(4):
+        lists(looking + go(steps=steps), "undecided", un(steps, open_, open_))
+    # Turn 1; turn 2, x 3; turn 4, case 5, x 6, fork. Yes: there is none 7. No: choose 7; turn 8, target 9; turn 10, case 11, y 12, fork. Yes:
+    # choose 13, target. No: choose 13; turn 14, target.
+    six, gap = field_rules.six_fields(), mi(7, 1, open_)
+    lists(six + go(), "found", re(14, 0, 0), re(13, 0, 1), gap)
+    lists(six + go(steps=13), "found", un(13, 0, 0), re(13, 0, 1), gap)
+    lists(six + go(steps=12), "undecided", un(12, 0, open_), gap)
+    lists(six + go(steps=7), "undecided", un(7, 0, open_), gap)
+    lists(six + go(steps=6), "undecided", un(6, open_, open_))
+    # Of three fields one has an alternative missing, and the target stands behind it.
+    lists(field_rules.missing_at(0) + go(), "found", re(6, 0), mi(4, 1))
+    lists(field_rules.missing_at(1) + go(), "found", re(6, 0), mi(5, 1))
+    lists(field_rules.missing_at(2) + go(), "none", mi(6, 1))
+    lists(field_rules.missing_at(2) + go(steps=5), "undecided", un(5, open_))
+
+
+def worked_inner_results():
+    """The same: parts of the input in results, results without end, and fields of fields."""
+    open_ = 255
+
+    # A pair of the input is a field. It stays open: turn 1, x 2, turn 3, target. Or it is bound before: case 1, x 2, fork over its one
+    # constructor, choose 3; turn 4, x 5; turn 6, case 7, its second field 8, fork. No: choose 9. Yes: choose 9, target.
+    lists(field_rules.kept() + go(), "found", re(3, open_))
+    lists(field_rules.kept() + go(steps=2), "undecided", un(2, open_))
+    lists(field_rules.kept(True) + go(), "found", re(9, 0, open_, 1))
+    lists(field_rules.kept(True) + go(steps=8), "undecided", un(8, 0, open_, open_))
+    lists(field_rules.kept(True) + go(steps=3), "undecided", un(3, 0, open_, open_))
+    # A pair in a scrutinee whose field with the target nothing looks at; a number without end; 32 nested constructors.
+    lists(field_rules.left_alone() + go(), "none")
+    lists(field_rules.for_ever() + go(steps=99), "undecided", un(99))
+    lists(field_rules.nested() + go(steps=31), "none")
+    lists(field_rules.nested() + go(steps=30), "undecided", un(30, open_))
+    # A tree is copied: case 1, x 2, fork; leaf: choose 3. Node: choose 3, case 4, its first branch 5, fork; leaf: choose 6, case 7, its second
+    # branch 8, fork; leaf: choose 9, target; node: there is none 9. Where the first is a node: choose 6; turn 7, call 8, case 9, parameter 10,
+    # the branch 11, which is bound: choose 12; then case 13, its first branch 14, fork, choose 15, case 16, its second 17, fork, choose 18.
+    tree = field_rules.copied()
+    lists(tree + go(depth=1), "none")
+    lists(tree + go(depth=2), "found", re(9, 1, 0, 0))
+    lists(tree + go(depth=3), "found", re(9, 1, 0, 0), mi(9, 1, 0, 1, open_, open_), re(18, 1, 1, 0, 0, open_))
+    lists(tree + go(depth=3, steps=7), "undecided", un(7, 1, 0, open_), un(7, 1, 1, open_, open_, open_))
+
+
 def depths_of_inputs():
     """Worked by hand: how deep an input goes, which is refused by 10 where that is more than D."""
     # Three numbers, of which the rule follows the second: one step.
@@ -526,20 +581,27 @@ HARMLESS = {
 }
 
 
-def random_programs(rng, count):
-    """Random rules with few closed inputs within the depth."""
+def random_programs(rng, count, **shape):
+    """Random rules of this shape with few closed inputs within the depth."""
     found = []
     while len(found) < count:
-        rule, label, functions = random_rule(rng, kept=0.75)
+        rule, label, functions = random_rule(rng, kept=0.75, **shape)
         program = check(rule + go(rng.randrange(functions), label, rng.randint(1, 3), rng.choice((rng.randint(0, 6), rng.randint(3, 25)))))
         if isinstance(program, Program) and count_inputs(program, 60) <= 60:
             found.append(program)
     return found
 
 
+# Rules that show what is special about fields.
+WITH_FIELDS = (field_rules.looking_pair(), field_rules.six_fields(), field_rules.ending_at_once(), field_rules.missing_at(0), field_rules.kept(True),
+               field_rules.same_part_again(), field_rules.calling_fields(), field_rules.copied())
+
+
 def random_lists():
-    """The list is that of narrowing and of forks, and breaks no demand; with each error made, a list breaks one."""
-    programs = random_programs(random.Random(1), 250)
+    """On random rules, and on some that are written by hand, the list is that of narrowing and of forks, and breaks no demand; with each
+    error made, a list breaks one."""
+    programs = (random_programs(random.Random(1), 250) + random_programs(random.Random(5), 250, most_fields=3, body_writer=BuildingBody)
+                + [read(rule + go(depth=2, steps=steps)) for rule in WITH_FIELDS for steps in range(19)])
     seen = [0, 0, 0]
     for program in programs:
         entries = all_entries(program)
@@ -586,6 +648,15 @@ def worked_names():
         spells(rule_file)
     # The low half alone.
     spells(NAMES + fn((N,), N, case(N, var(0), END, of_half(2, 9, REACH))) + na(N) + go(depth=2), "9 9")
+    # A name that is built anew, with the target in its low half: case 1, n 2, fork; byte: choose 3; turn 4, h 5; turn 6, case 7, l 8, fork;
+    # 9: choose 9, target. With S 5 the low half is a field that waits, with S 8 a case waits on it.
+    zero = con(H, 0)
+    built = NAMES + fn((N,), N, case(N, var(0), END, con(N, 1, var(1), of_half(2, 9, target(7, zero), zero), END)))
+    prints(built + na(N) + go(depth=2), "reach 9 1 _ 9 _", "total 1 0 0 0 found")
+    spells(built + na(N) + go(depth=2), "9 9")
+    for steps in (5, 8):
+        prints(built + na(N) + go(depth=2, steps=steps), f"unfinished {steps} 1 _ _ _", "total 0 1 0 100 undecided")
+        spells(built + na(N) + go(depth=2, steps=steps), "0 0")
     # Nothing is looked at: the name is open as a whole, and an empty line. A parameter of another type has none.
     spells(NAMES + fn((N,), N, REACH) + na(N) + go(depth=1), "")
     spells(NAMES + fn((N, H, N), N, REACH) + na(N) + go(depth=1), "", "")
@@ -768,6 +839,8 @@ if __name__ == "__main__":
     worked_depths()
     missing_alternatives()
     missing_beside_others()
+    worked_results()
+    worked_inner_results()
     depths_of_inputs()
     bounded_reading()
     long_reading()

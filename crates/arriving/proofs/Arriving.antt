@@ -253,7 +253,7 @@ module _
             let low = now .path .stands .apart in
             let cells-few = now .path .few-cells in
             let records-few = now .path .few-records in
-            let framed = now .path .stands .space .frame-below in
+            let framed = now .path .stands .space .frame-below .1 in
             let lower = now .no-higher in
             let used = below in
             let base-is = given .base-is in

@@ -31,7 +31,7 @@ use Rattle.values.proofs.Binding.{OpenStands, open-stands, bound-follows}
 use Rattle.registers.specs.declared.Registers.{Registers}
 use Rattle.registers.specs.declared.Next.{Next}
 use Rattle.registers.specs.declared.Next.the-variants as Next
-use Rattle.machine.specs.Records.{partIn, OnlyTop}
+use Rattle.machine.specs.Records.{noCase, partIn, OnlyTop}
 use Rattle.registers.specs.Stepping.{controlIn, Standing, Follows, StepMeans, Stepped}
 use Rattle.choosing.specs.Entering.{AtBoundPart}
 use Rattle.registers.proofs.Waiting.{waits-control}
@@ -289,7 +289,7 @@ module _
       standing : Standing file types functions w₂ base r
       standing = record { program = p; cells = more; input = now₂ .0 .input; state = s; file-of = h .given .of-file .file-of; stands = now₂ .0 .stands }
 
-      looks : (controlIn r ≡ partIn x) × (r .frame ≡ 0 → ⊥)
+      looks : (controlIn r ≡ partIn x) × (r .frame < noCase)
       looks =
           let told = waits-control (h .running .stands) (question .1) in
           (told .0 ∙ ap partIn (question .2), told .1)
@@ -311,7 +311,7 @@ module _
             record {
               standing = standing;
               is-part = looks .0;
-              some-frame = looks .1;
+              case-waits = looks .1;
               head-is = sym head-is ∙ head-suc ∙ ap suc number;
               first-is = first-now asks (asked-known .0) (asked-known .1) bound;
               fields =

@@ -11,7 +11,7 @@ use Rattle.reach.specs.Eval as Eval
 use Rattle.reach.specs.Eval.{Env, operands, size, Frame, waiting, State, choose, view, answer, next}
 use Rattle.reach.specs.States.{EnvIn, FramesIn, Chooses, Sound}
 use Rattle.machine.specs.Cells.{cellOf}
-use Rattle.machine.specs.Records.{recordWord, Code, CodeAlternatives, nothingLeft, EnvAt, FramesAt, evaluating-at, missing-at, OnlyTop, Wrote}
+use Rattle.machine.specs.Records.{recordWord, noCase, FrameBelow, Code, CodeAlternatives, nothingLeft, EnvAt, FramesAt, evaluating-at, missing-at, OnlyTop, Wrote}
 use Rattle.machine.specs.Walks.{ChosenAt}
 use Rattle.machine.proofs.Codes.{chosen-at, code-construct}
 use Rattle.machine.proofs.Records.{count-word}
@@ -23,13 +23,14 @@ use Rattle.lookups.specs.Fields.{FieldCount}
 use Rattle.registers.specs.Stepping.{declarationsOf, controlIn, FileOf, StandsFor, Standing, Ready, Follows, Stepped, StepMeans, Found, Chose, chose-none, chose-one, missingKind, expressionKind}
 use Rattle.machine.proofs.Words.{nothing-written}
 use Rattle.registers.proofs.Words.{few-kept}
-use Rattle.registers.proofs.Which.{when-construct, when-missing, when-no-frame, when-waiting}
+use Rattle.registers.proofs.Which.{when-construct, when-missing, when-waiting}
 use Rattle.registers.proofs.Kept.{Met, shown, state-of, frames-there, operands-there, few-added}
 
 -- A waiting case in the words: its alternatives, its environment and the frames behind it.
 pub record Pending (file types functions w : List ℕ) (base : ℕ) (r : Registers) (e : Parts) (alts : Alternatives) (outer : Env) (rest : List Frame) : Type 0 where
+  pub is-case : r .frame < noCase
   pub env-before : recordWord w base (r .frame) 2 < r .frame
-  pub next-before : recordWord w base (r .frame) 3 < r .frame
+  pub next-before : FrameBelow (recordWord w base (r .frame) 3) (r .frame)
   pub code : CodeAlternatives file (declarationsOf file types functions) (recordWord w base (r .frame) 0) alts
   pub env-at : EnvAt file (declarationsOf file types functions) w base (cellOf w) (recordWord w base (r .frame) 2) outer
   pub frames-at : FramesAt file (declarationsOf file types functions) w base (cellOf w) (recordWord w base (r .frame) 3) rest
@@ -38,13 +39,13 @@ pub record Pending (file types functions w : List ℕ) (base : ℕ) (r : Registe
 
 -- what is to be shown of the frames is shown of a waiting case
 pub pending :
-    {file types functions w : List ℕ} {base : ℕ} {r : Registers} {e : Parts} {fs : List Frame} (G : List Frame → Type 0) → (r .frame ≡ 0 → ⊥)
+    {file types functions w : List ℕ} {base : ℕ} {r : Registers} {e : Parts} {fs : List Frame} (G : List Frame → Type 0) → r .frame < noCase
     → FramesAt file (declarationsOf file types functions) w base (cellOf w) (r .frame) fs → FramesIn e fs
     → ((alts : Alternatives) (outer : Env) (rest : List Frame) → Pending file types functions w base r e alts outer rest → G (waiting alts outer ∷ rest)) → G fs
-pending {e = e} G there frames frames-in show =
-    when-waiting (λ fs. FramesIn e fs → G fs) there frames
+pending {e = e} G case-waits frames frames-in show =
+    when-waiting (λ fs. FramesIn e fs → G fs) case-waits frames
     (λ alts outer rest env-before next-before code env-at frames-at in-input.
-    show alts outer rest (record { env-before = env-before; next-before = next-before; code = code; env-at = env-at; frames-at = frames-at; env-in = in-input .0; frames-in = in-input .1 }))
+    show alts outer rest (record { is-case = case-waits; env-before = env-before; next-before = next-before; code = code; env-at = env-at; frames-at = frames-at; env-in = in-input .0; frames-in = in-input .1 }))
     frames-in
 
 -- the alternative is there
@@ -94,7 +95,7 @@ module _
     chosen (chose-none only found) = record {
       state = rw (found new rest _ there) missing-at;
       environment-below = stands .space .some-record;
-      frame-below = stands .space .some-record;
+      frame-below = (omega (arith, stands .space .some-record), omega arith);
       no-fewer = omega arith;
       one-more = omega arith;
       few = few-kept only (stands .space .few);
@@ -103,13 +104,13 @@ module _
         let (x, is, code) = found new rest _ there in
         let below = stands .space .frame-below in
         record {
-          state = rw is (evaluating-at code (env-new wrote) (frames-there stands (wrote .only-top) (omega (arith, below, here .next-before)) (here .frames-at) (here .frames-in)));
+          state = rw is (evaluating-at code (env-new wrote) (frames-there stands (wrote .only-top) (omega (arith, below .0, here .is-case, here .next-before .0), here .next-before .1) (here .frames-at) (here .frames-in)));
           environment-below = omega arith;
-          frame-below = omega (arith, below, here .next-before);
+          frame-below = (omega (arith, below .0, here .is-case, here .next-before .0), here .next-before .1);
           no-fewer = omega arith;
           one-more = omega arith;
           few = few-added (stands .space .few) wrote
-              (omega (arith, below, here .env-before, stands .space .few (recordWord w base (r .frame) 2) (omega (arith, below, here .env-before))));
+              (omega (arith, below .0, here .is-case, here .env-before, stands .space .few (recordWord w base (r .frame) 2) (omega (arith, below .0, here .is-case, here .env-before))));
         }
 
 -- A construction.
@@ -120,10 +121,6 @@ construct-next :
 unfolding next answer view
 construct-next p e t c es env outer alts rest = refl
 
-construct-end : (p : Program) (e : Parts) (t c : ℕ) (es : Exprs) (env : Env) → next p e (Eval.evaluating (construct t c es) env []) ≡ Eval.stops Eval.value
-unfolding next answer view
-construct-end p e t c es env = refl
-
 -- as many fields as the type's record says
 pub counted :
     {file types functions : List ℕ} {p : Program} {t c k t′ c′ : ℕ} {alts : Alternatives} {outer new : Env} → FileOf file types functions p
@@ -133,17 +130,7 @@ counted file-of fields is-t is-c chooses =
     rw k-is (chooses .fields-agree)
 
 module _ (file types functions w : List ℕ) (base i env : ℕ) (r : Registers) (ready : Ready file w base r 2 i env) where
-  pub construct-stops : r .frame ≡ 0 → (label : ℕ) → Stepped file types functions w w base label r Next.Stops
-  construct-stops none label = record {
-    only-top = nothing-written w base (r .records);
-    steps = λ p sought cells e s file-of stands.
-        shown file types functions w base i env r p e (λ s′. StepMeans file types functions w w base r p e s′ Next.Stops) ready stands
-        (λ x env′ fs coded met. when-construct (λ y. StepMeans file types functions w w base r p e (Eval.evaluating y env′ fs) Next.Stops) coded
-        (λ t c es. when-no-frame (λ fs′. StepMeans file types functions w w base r p e (Eval.evaluating (construct t c es) env′ fs′) Next.Stops) none (met .frames-at)
-        (Eval.value, construct-end p e t c es env′)));
-  }
-
-  module _ {c : ℕ} (is-c : c ≡ getD file (i + 2) 0) (some-frame : r .frame ≡ 0 → ⊥) where
+  module _ {c : ℕ} (is-c : c ≡ getD file (i + 2) 0) (case-waits : r .frame < noCase) where
     -- what is to be shown is shown of a construction that a case waits for
     constructed :
         (p : Program) (cells : ℕ) (e : Parts) (s : State) (G : State → Type 0) → StandsFor file types functions p w base cells r e s
@@ -157,7 +144,7 @@ module _ (file types functions w : List ℕ) (base i env : ℕ) (r : Registers) 
         (λ t c′ es met′.
         let bytes = code-construct file (declarationsOf file types functions) i t c′ es (met′ .code) in
         let same : c′ ≡ c = sym (is-c ∙ bytes .2 .1) in
-        pending (λ fs′. Sound p e (Eval.evaluating (construct t c′ es) env′ fs′) → G (Eval.evaluating (construct t c′ es) env′ fs′)) some-frame (met′ .frames-at) (met′ .frames-in)
+        pending (λ fs′. Sound p e (Eval.evaluating (construct t c′ es) env′ fs′) → G (Eval.evaluating (construct t c′ es) env′ fs′)) case-waits (met′ .frames-at) (met′ .frames-in)
         (λ alts outer rest here sound.
         subst (λ (d : ℕ). Code file (declarationsOf file types functions) i (construct t d es) → Chooses p t d alts outer (operands outer es env′) → G (Eval.evaluating (construct t d es) env′ (waiting alts outer ∷ rest))) (sym same)
         (λ code chooses. show t es env′ alts outer rest code (met′ .env-at) (met′ .env-in) here chooses) (met′ .code) (sound .1)) (met′ .sound)) met)
@@ -165,7 +152,7 @@ module _ (file types functions w : List ℕ) (base i env : ℕ) (r : Registers) 
     pub construct-chooses : Standing file types functions w base r → recordWord w base (r .frame) 2 < r .records
     construct-chooses standing =
         constructed (standing .program) (standing .cells) (standing .input) (standing .state) (λ s. recordWord w base (r .frame) 2 < r .records) (standing .stands)
-        (λ t es env′ alts outer rest code env-at env-in here chooses. omega (arith, here .env-before, ready .space .frame-below))
+        (λ t es env′ alts outer rest code env-at env-in here chooses. omega (arith, case-waits, here .env-before, ready .space .frame-below .0))
 
     pub construct-goes :
         {w′ : List ℕ} {t′ k : ℕ} {r′ : Registers} → t′ ≡ getD file (i + 1) 0 → FieldCount file types t′ c k
@@ -182,7 +169,7 @@ module _ (file types functions w : List ℕ) (base i env : ℕ) (r : Registers) 
             choose alts c (operands outer es env′) rest,
             construct-next p e t c es env′ outer alts rest,
             chosen stands here (fields .1)
-                (λ wrote. operands-there stands (wrote .only-top) (wrote .holds) (omega (arith, here .env-before, ready .space .frame-below)) (ready .environment-there) (omega (arith, many, size-is))
+                (λ wrote. operands-there stands (wrote .only-top) (wrote .holds) (omega (arith, case-waits, here .env-before, ready .space .frame-below .0)) (ready .environment-there) (omega (arith, many, size-is))
                 (here .env-at) (here .env-in) env-at env-in (bytes .3))
                 (pending-there here chooses) chose,
           ));

@@ -18,13 +18,13 @@ module _
   where
     pub enters : recordWord w base (r .frame) 2 < r .records
     enters =
-        part-chooses file types functions w base cell r (bound .is-part) {head = suc c} (bound .some-frame) (sym (bound .head-is)) (λ none. absurd (omega arith)) (bound .standing)
+        part-chooses file types functions w base cell r (bound .is-part) {head = suc c} (bound .case-waits) (sym (bound .head-is)) (λ none. absurd (omega arith)) (bound .standing)
 
     pub entered :
         {w′ : List ℕ} {r′ : Registers} → Chose file types functions w w′ base r c k first 0 r′ → (label : ℕ)
         → Stepped file types functions w w′ base label r (Next.Goes r′)
     entered {w′} {r′} chose =
         let same : suc c - 1 ≡ c = omega arith in
-        part-goes file types functions w base cell r (bound .is-part) {head = suc c} (bound .some-frame) (sym (bound .head-is)) (λ none. absurd (omega arith))
+        part-goes file types functions w base cell r (bound .is-part) {head = suc c} (bound .case-waits) (sym (bound .head-is)) (λ none. absurd (omega arith))
         (sym (bound .first-is)) refl (subst (λ (d : ℕ). FieldCount file types (cellWord w cell 2) d k) (sym same) (bound .fields))
         (subst (λ (d : ℕ). Chose file types functions w w′ base r d k first 0 r′) (sym same) chose)

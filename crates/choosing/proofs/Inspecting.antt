@@ -1,4 +1,4 @@
--- A part of the input is the value that a waiting case looks at, or the end; the case waits where the part is open.
+-- A part of the input is the value that a waiting case looks at; the case waits where the part is open.
 -- Rests on Choosing, on machine's Cells and on reach's States.
 use Prim.Native.Nat.{ℕ, suc, _+_, _-_, _≤_, _<_}
 use mathlib.Core.Path.{_≡_, refl, sym, _∙_, ap, subst}
@@ -8,10 +8,10 @@ use Rattle.reach.specs.Syntax.{Alternatives, Program}
 use Rattle.reach.specs.Parts.{Parts, Place, free, has, at, There}
 use Rattle.reach.specs.Eval as Eval
 use Rattle.reach.specs.Eval.{fieldsOf, partOf, Env, inputParts, size, Frame, waiting, State, choose, answered, view, look, answer, next}
-use Rattle.reach.specs.States.{FramesIn, StateIn, PartHas, Chooses, Sound}
+use Rattle.reach.specs.States.{PartHas, Chooses, Sound}
 use Rattle.reach.proofs.Order.{field-there}
 use Rattle.machine.specs.Cells.{cellOf, cellWord}
-use Rattle.machine.specs.Records.{recordWord, partIn, EnvAt, FramesAt, Wrote}
+use Rattle.machine.specs.Records.{recordWord, noCase, partIn, EnvAt, Wrote}
 use Rattle.machine.proofs.Cells.{walk-field, head-open, head-constructor}
 use Rattle.machine.proofs.Records.{count-word, parts-added}
 use Rattle.registers.specs.declared.Registers.{Registers}
@@ -20,15 +20,10 @@ use Rattle.lookups.specs.Fields.{FieldCount}
 use Rattle.registers.specs.Stepping.{declarationsOf, controlIn, StandsFor, Standing, Stepped, StepMeans, Chose}
 use Rattle.machine.proofs.Words.{records-same, nothing-written}
 use Rattle.registers.proofs.Words.{cells-same}
-use Rattle.registers.proofs.Which.{when-part, when-no-frame}
-use Rattle.registers.proofs.Kept.{state-of}
+use Rattle.registers.proofs.Kept.{inspected}
 use Rattle.choosing.proofs.Choosing.{Pending, pending, pending-there, chose-only, counted, chosen}
 
--- What comes next at a part of the input: the end with no case waiting, or by what stands there.
-
-part-end : (p : Program) (e : Parts) (q : Place) → next p e (Eval.inspecting q []) ≡ Eval.stops Eval.value
-unfolding next answer view
-part-end p e q = refl
+-- What comes next at a part of the input that a case looks at: by what stands there.
 
 module _ (p : Program) (e : Parts) (q : Place) (alts : Alternatives) (outer : Env) (rest : List Frame) where
   open-next :
@@ -44,40 +39,21 @@ module _ (p : Program) (e : Parts) (q : Place) (alts : Alternatives) (outer : En
   bound-next c k is = rw is
 
 module _ (file types functions w : List ℕ) (base cell : ℕ) (r : Registers) (is-part : controlIn r ≡ partIn cell) where
-  -- what is to be shown is shown of the part that is in the cell
-  inspected :
-      (p : Program) (cells : ℕ) (e : Parts) (s : State) (G : State → Type 0) → StandsFor file types functions p w base cells r e s
-      → ((q : Place) (fs : List Frame) → cellOf w q ≡ cell → FramesAt file (declarationsOf file types functions) w base (cellOf w) (r .frame) fs
-      → There (at e q) → FramesIn e fs → Sound p e (Eval.inspecting q fs) → G (Eval.inspecting q fs))
-      → G s
-  inspected p cells e s G stands show =
-      when-part (λ s′. StateIn e s′ → Sound p e s′ → G s′) (state-of stands is-part)
-      (λ q fs is frames there sound. show q fs is frames (there .0) (there .1) sound) (stands .there) (stands .sound)
-
   pub part-small : Standing file types functions w base r → cell ≤ 1000000
   part-small standing =
       let stands = standing .stands in
-      inspected (standing .program) (standing .cells) (standing .input) (standing .state) (λ s. cell ≤ 1000000) stands
+      inspected file types functions w base cell r is-part (standing .program) (standing .cells) (standing .input) (standing .state) (λ s. cell ≤ 1000000) stands
       (λ q fs is frames there frames-in sound. omega (arith, is, stands .input .in-use q there, stands .apart, stands .space .room, stands .space .narrow))
 
-  pub part-stops : r .frame ≡ 0 → (label : ℕ) → Stepped file types functions w w base label r Next.Stops
-  part-stops none label = record {
-    only-top = nothing-written w base (r .records);
-    steps = λ p sought cells e s file-of stands.
-        inspected p cells e s (λ s′. StepMeans file types functions w w base r p e s′ Next.Stops) stands
-        (λ q fs is frames there frames-in sound.
-        when-no-frame (λ fs′. StepMeans file types functions w w base r p e (Eval.inspecting q fs′) Next.Stops) none frames (Eval.value, part-end p e q));
-  }
-
-  module _ {head : ℕ} (some-frame : r .frame ≡ 0 → ⊥) (is-head : head ≡ cellWord w cell 0) where
+  module _ {head : ℕ} (case-waits : r .frame < noCase) (is-head : head ≡ cellWord w cell 0) where
     -- the case waits where the part is open
     pub part-waits : head ≡ 0 → (label : ℕ) → Stepped file types functions w w base label r (Next.Waits cell)
     part-waits zero-head label = record {
       only-top = nothing-written w base (r .records);
       steps = λ p sought cells e s file-of stands.
-          inspected p cells e s (λ s′. StepMeans file types functions w w base r p e s′ (Next.Waits cell)) stands
+          inspected file types functions w base cell r is-part p cells e s (λ s′. StepMeans file types functions w w base r p e s′ (Next.Waits cell)) stands
           (λ q fs is frames there frames-in sound.
-          pending {r = r} (λ fs′. StepMeans file types functions w w base r p e (Eval.inspecting q fs′) (Next.Waits cell)) some-frame frames frames-in
+          pending {r = r} (λ fs′. StepMeans file types functions w w base r p e (Eval.inspecting q fs′) (Next.Waits cell)) case-waits frames frames-in
           (λ alts outer rest here.
           let open-part = head-open (stands .input) q there (ap (λ (x : ℕ). cellWord w x 0) is ∙ (sym is-head ∙ zero-head)) in
           (record { place = q; alternatives = alts; environment = outer; frames = rest }, open-next p e q alts outer rest open-part, is)));
@@ -92,9 +68,9 @@ module _ (file types functions w : List ℕ) (base cell : ℕ) (r : Registers) (
           → G (Eval.inspecting q (waiting alts outer ∷ rest)))
           → G s
       bound-there p cells e s G stands show =
-          inspected p cells e s G stands
+          inspected file types functions w base cell r is-part p cells e s G stands
           (λ q fs is frames there frames-in sound.
-          pending {r = r} (λ fs′. Sound p e (Eval.inspecting q fs′) → G (Eval.inspecting q fs′)) some-frame frames frames-in
+          pending {r = r} (λ fs′. Sound p e (Eval.inspecting q fs′) → G (Eval.inspecting q fs′)) case-waits frames frames-in
           (λ alts outer rest here met.
           let z : head ≡ suc (head - 1) = omega arith in
           let bound = head-constructor (stands .input) q there (head - 1) (ap (λ (x : ℕ). cellWord w x 0) is ∙ (sym is-head ∙ z)) in
@@ -103,7 +79,7 @@ module _ (file types functions w : List ℕ) (base cell : ℕ) (r : Registers) (
       pub part-chooses : Standing file types functions w base r → recordWord w base (r .frame) 2 < r .records
       part-chooses standing =
           bound-there (standing .program) (standing .cells) (standing .input) (standing .state) (λ s. recordWord w base (r .frame) 2 < r .records) (standing .stands)
-          (λ q alts outer rest k t is there bound here has-type chooses. omega (arith, here .env-before, standing .stands .space .frame-below))
+          (λ q alts outer rest k t is there bound here has-type chooses. omega (arith, case-waits, here .env-before, standing .stands .space .frame-below .0))
 
       -- the record at the top is the group of the part's fields
       fields-there :
@@ -116,7 +92,7 @@ module _ (file types functions w : List ℕ) (base cell : ℕ) (r : Registers) (
       fields-there p cells e s w′ stands q alts outer rest k n is bound here many wrote =
           let same = cells-same (wrote .only-top) stands in
           parts-added file (declarationsOf file types functions) w w′ base (r .records) (cellOf w) (cellOf w′) e (records-same (wrote .only-top)) (same .0)
-          (wrote .holds) (omega (arith, here .env-before, stands .space .frame-below)) many (here .env-at) (here .env-in)
+          (wrote .holds) (omega (arith, case-waits, here .env-before, stands .space .frame-below .0)) many (here .env-at) (here .env-in)
           (λ j below. same .0 (partOf (fieldsOf q) j) (field-there e q (head - 1) k j bound below) ∙ (walk-field w q j ∙ ap (λ (x : ℕ). cellWord w x 1 + j) is))
 
       pub part-goes :

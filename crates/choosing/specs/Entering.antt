@@ -4,7 +4,7 @@ use Prim.Native.Nat.{ℕ, suc, _<_}
 use mathlib.Core.Path.{_≡_}
 use mathlib.Core.List.{List}
 use Rattle.machine.specs.Cells.{cellWord}
-use Rattle.machine.specs.Records.{partIn}
+use Rattle.machine.specs.Records.{noCase, partIn}
 use Rattle.lookups.specs.Fields.{FieldCount}
 use Rattle.skipping.specs.Ends.{Ends}
 use Rattle.registers.specs.declared.Registers.{Registers}
@@ -15,7 +15,7 @@ use Rattle.registers.specs.Stepping.{controlIn, Standing, Stepped}
 pub record AtBoundPart (file types functions w : List ℕ) (base cell : ℕ) (r : Registers) (c k first : ℕ) : Type 0 where
   pub standing : Standing file types functions w base r
   pub is-part : controlIn r ≡ partIn cell
-  pub some-frame : r .frame ≡ 0 → ⊥
+  pub case-waits : r .frame < noCase
   pub head-is : cellWord w cell 0 ≡ suc c
   pub first-is : cellWord w cell 1 ≡ first
   pub fields : FieldCount file types (cellWord w cell 2) c k

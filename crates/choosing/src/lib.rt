@@ -1,11 +1,11 @@
-// The steps in which a waiting case has its value, a construction or a part of the input, and its alternative is chosen. Rests on crates machine,
-// skipping, lookups and registers.
+// The steps in which a waiting case has its value, a construction or a part of the input, and its alternative is chosen. With no case waiting that value is a
+// result, which crate turning goes on behind. Rests on crates machine, skipping, lookups and registers.
 ghost use mathlib.Core.Path.{_≡_};
 ghost use mathlib.Core.List.{List};
 ghost use Prim.Native.Nat.{ℕ, _≤_, _<_};
-ghost use Rattle.machine.specs.Records.{recordWord, partIn};
+ghost use Rattle.machine.specs.Records.{recordWord, noCase, partIn};
 ghost use Rattle.skipping.specs.Ends.{Ends};
-ghost use Rattle.registers.specs.Stepping.{controlIn, Space, Standing, Ready, SteppedBy, Found, ChoseBy};
+ghost use Rattle.registers.specs.Stepping.{controlIn, Space, Standing, Ready, LookedBy, Found, ChoseBy};
 ghost use Rattle.choosing.specs.Entering.{AtBoundPart, EntersBy};
 use lookups::field_count;
 use machine::cell_word;
@@ -15,6 +15,7 @@ use marks::byte_or_zero;
 use registers::Alternative;
 use registers::EXPRESSION;
 use registers::MISSING;
+use registers::NO_CASE;
 use registers::Next;
 use registers::Registers;
 use skipping::pass_alternatives;
@@ -73,7 +74,7 @@ fn choose<'a>(
     }
 }
 
-// A construction is the value that a waiting case looks at, or the end.
+// A construction is the value that a waiting case looks at. A result is left alone.
 pub fn step_construct<'a>(
     file: &'a [u8],
     types: &'a [u16],
@@ -85,10 +86,9 @@ pub fn step_construct<'a>(
     r: Registers,
 ) -> Next
     requires { ⌜ ((functions : List ℕ) × Standing (now file) (now types) functions (now work) base r) × Ready (now file) (now work) base r 2 at env ⌝ }
-    ensures { λ x. ⌜ SteppedBy (now (file .entry)) (now (types .entry)) (now (ends .entry)) (now (work .entry)) (now (work .exit)) base r x ⌝ }
+    ensures { λ x. ⌜ LookedBy (now (file .entry)) (now (types .entry)) (now (ends .entry)) (now (work .entry)) (now (work .exit)) base r x ⌝ }
 {
-    let frame = r.frame;
-    if frame == 0 {
+    if NO_CASE <= r.frame {
         return Next::Stops;
     }
     let t = byte_or_zero(file, at + 1);
@@ -114,7 +114,30 @@ pub fn enter_part<'a>(
     choose(file, ends, work, base, r, c, k, first, 0)
 }
 
-// A part of the input is the value that a waiting case looks at, or the end; the case waits where the part is open.
+// A part of the input is the value that the innermost waiting case looks at; the case waits where the part is open.
+fn inspect<'a>(
+    file: &'a [u8],
+    types: &'a [u16],
+    ends: &'a [u16],
+    work: &mut [u32],
+    base: usize,
+    cell: usize,
+    r: Registers,
+) -> Next
+    requires { ⌜ ((functions : List ℕ) × Standing (now file) (now types) functions (now work) base r) × (controlIn r ≡ partIn cell) × (r .frame < noCase) ⌝ }
+    ensures { λ x. ⌜ LookedBy (now (file .entry)) (now (types .entry)) (now (ends .entry)) (now (work .entry)) (now (work .exit)) base r x ⌝ }
+{
+    let head = cell_word(work, cell, 0);
+    if head == 0 {
+        return Next::Waits(cell);
+    }
+    let first = cell_word(work, cell, 1);
+    let t = cell_word(work, cell, 2);
+    let k = field_count(file, types, t, head - 1);
+    Next::Goes(choose(file, ends, work, base, r, head - 1, k, first, 0))
+}
+
+// A part of the input is the value that a waiting case looks at. A result is left alone.
 pub fn step_part<'a>(
     file: &'a [u8],
     types: &'a [u16],
@@ -125,18 +148,10 @@ pub fn step_part<'a>(
     r: Registers,
 ) -> Next
     requires { ⌜ ((functions : List ℕ) × Standing (now file) (now types) functions (now work) base r) × (controlIn r ≡ partIn cell) ⌝ }
-    ensures { λ x. ⌜ SteppedBy (now (file .entry)) (now (types .entry)) (now (ends .entry)) (now (work .entry)) (now (work .exit)) base r x ⌝ }
+    ensures { λ x. ⌜ LookedBy (now (file .entry)) (now (types .entry)) (now (ends .entry)) (now (work .entry)) (now (work .exit)) base r x ⌝ }
 {
-    let frame = r.frame;
-    if frame == 0 {
+    if NO_CASE <= r.frame {
         return Next::Stops;
     }
-    let head = cell_word(work, cell, 0);
-    if head == 0 {
-        return Next::Waits(cell);
-    }
-    let first = cell_word(work, cell, 1);
-    let t = cell_word(work, cell, 2);
-    let k = field_count(file, types, t, head - 1);
-    Next::Goes(choose(file, ends, work, base, r, head - 1, k, first, 0))
+    inspect(file, types, ends, work, base, cell, r)
 }

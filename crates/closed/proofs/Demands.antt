@@ -20,6 +20,7 @@ use Rattle.reach.specs.Limits.{workWords}
 use Rattle.reach.specs.Syntax.{Program, sourceTypes}
 use Rattle.reach.specs.Parts.{Parts, end, opened, bound, depth, prefix}
 use Rattle.reach.specs.Types.{depthOf, Typed, ClosedInput}
+use Rattle.reach.specs.Whole.{wholeRun}
 use Rattle.reach.specs.Eval.{Run, reached, ended, unfinished, missing, halted, run, Spent}
 use Rattle.reach.specs.States.{MissingAfter}
 use Rattle.reach.specs.Input.{readInput}
@@ -173,6 +174,12 @@ module _ (file input work work′ : List ℕ) (r : RunResult) (call : RunPromise
         into j is short (noRun why) (inl (by, unread)) = absurd (clash (cc (unread, reads-as j is)))
         into j is short (noRun why) (inr (by, other)) = ap RunResult.Refused by
         into j is short (ran x d) (k, reads, fits, ended-so) = absurd (omega arith)
+
+    -- 02, Slip 7: the whole result is looked into. The answer is that of the unit-evaluator of 000, applied again to each child of the result.
+    pub ran-whole : (o : Outcome) (deep : ℕ) → r ≡ RunResult.Ran o deep → (j : Parts) × IsInput p input j × (o ≡ outcomeOf (wholeRun p j))
+    ran-whole o deep is =
+        let (j, reads, enough, ends, as-deep) = ran-exactly o deep .0 is in
+        (j, reads, ends ∙ ap outcomeOf (Reach.whole-result p j))
 
     -- 01: steps spent are "never above S"; "unfinished: S steps are done".
     pub steps-spent : (o : Outcome) (deep : ℕ) → r ≡ RunResult.Ran o deep → stepsOf o ≤ p .steps

@@ -1,5 +1,5 @@
 -- What `reachlist` prints, and lists that are handed in with their rule file, as tables that the checker computes from the bytes of P, with its label, D and S
--- changed: 01, "The program `reachlist`", and 02, Slip 2.
+-- changed: 01, "The program `reachlist`", and 02, Slip 2 and, for the shares, Slip 6.
 -- Rests on the definitions alone, and on reach's Examples for P and for how a table is computed.
 use Prim.Native.Nat.{ℕ, _-_}
 use mathlib.Core.Path.{_≡_, refl}

@@ -63,7 +63,7 @@ stands-start {file} {types} {functions} {w₁} {w₂} {w₃} p base i n g source
       space = record {
         some-record = omega arith;
         environment-below = omega arith;
-        frame-below = omega arith;
+        frame-below = (omega arith, omega arith);
         room = omega (arith, long);
         narrow = omega (arith, long);
         few = few-records;

@@ -8,7 +8,7 @@ use Rattle.reach.specs.Syntax.{Program, sourceTypes}
 use Rattle.reach.specs.Types.{slots}
 use Rattle.reach.specs.Places.{bytesAt, headAt}
 use Rattle.reach.specs.Answers.{check, accepted}
-use Rattle.machine.specs.Records.{Wrote}
+use Rattle.machine.specs.Records.{noCase, Wrote}
 use Rattle.cells.specs.Writes.{Starts}
 use Rattle.registers.specs.declared.Registers.{Registers}
 use Rattle.registers.specs.Stepping.{FileOf, expressionKind}
@@ -31,4 +31,4 @@ pub record Opened (file w w′ : List ℕ) (base first n : ℕ) (depths : List �
 
 -- the registers at the beginning: the expression at place i, the source's body, is evaluated in record 1
 abbrev pub startRegisters : ℕ → Registers
-startRegisters i = record { kind = expressionKind; place = i; env = 1; frame = 0; records = 2 }
+startRegisters i = record { kind = expressionKind; place = i; env = 1; frame = noCase; records = 2 }

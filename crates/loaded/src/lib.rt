@@ -9,6 +9,7 @@ use goal::Goal;
 use lookups::Head;
 use machine::put_record;
 use registers::EXPRESSION;
+use registers::NO_CASE;
 use registers::Registers;
 
 // The beginning of a run: open cells for the parameters of the source, each as deep as it may be, the records of the empty environment and of
@@ -27,7 +28,7 @@ pub fn open_input(file: &[u8], work: &mut [u32], base: usize, head: Head, goal: 
         kind: EXPRESSION,
         place: head.body,
         env: 1,
-        frame: 0,
+        frame: NO_CASE,
         records: 2,
     }
 }

@@ -14,10 +14,10 @@ use Rattle.reach.specs.Base.{pick}
 use Rattle.reach.specs.Syntax.{Expr, Exprs, []ₑ, _∷ₑ_, count, nthExpr, Alternatives}
 use Rattle.reach.specs.Parts.{Parts, Place, at, There}
 use Rattle.reach.specs.RuleFile.{Declarations}
-use Rattle.reach.specs.Eval.{Row, partOf, Env, empty, operands, inputParts, size, Closure, suspended, inputPart, suspend, lookup, Frame, waiting, State}
+use Rattle.reach.specs.Eval.{Row, partOf, Env, empty, operands, inputParts, size, Closure, suspended, inputPart, suspend, lookup, Frame, waiting, fields, withFields, State}
 use Rattle.reach.proofs.Base.{clash}
 use Rattle.reach.specs.States.{EnvIn, FramesIn, StateIn}
-use Rattle.machine.specs.Records.{recordWord, RecordIs, CodeAll, CodeAlternatives, Control, environmentOf, EnvAt, empty-at, operands-at, parts-at, FramesAt, none-at, waiting-at, StateAt, evaluating-at, inspecting-at, missing-at}
+use Rattle.machine.specs.Records.{recordWord, RecordIs, CodeAll, CodeAlternatives, Control, environmentOf, noCase, FrameBelow, EnvAt, empty-at, operands-at, parts-at, FramesAt, none-at, waiting-at, fields-at, StateAt, evaluating-at, inspecting-at, missing-at}
 use Rattle.machine.specs.Walks.{OperandAt, outsideOf, VariableAt, outside, in-parts, in-operands}
 use Rattle.machine.proofs.Codes.{operand-at}
 
@@ -46,14 +46,16 @@ module _
     env-kept below (parts-at {row = row} holds a<r n outer parts) there =
         parts-at (holds-kept w w′ base t same below holds) a<r n (env-kept (omega arith) outer (there .0)) (λ j j<k. cells (partOf row j) (there .1 j j<k) ∙ parts j j<k)
 
-    pub frames-kept : {f : ℕ} {fs : List Frame} → f < t → FramesAt file o w base cell f fs → FramesIn e fs → FramesAt file o w′ base cell′ f fs
+    pub frames-kept : {f : ℕ} {fs : List Frame} → FrameBelow f t → FramesAt file o w base cell f fs → FramesIn e fs → FramesAt file o w′ base cell′ f fs
     frames-kept below none-at there = none-at
-    frames-kept below (waiting-at holds a<r f<r code env rest) there =
-        waiting-at (holds-kept w w′ base t same below holds) a<r f<r code (env-kept (omega arith) env (there .0)) (frames-kept (omega arith) rest (there .1))
+    frames-kept below (waiting-at holds small a<r f<r code env rest) there =
+        waiting-at (holds-kept w w′ base t same (omega arith) holds) small a<r f<r code (env-kept (omega arith) env (there .0)) (frames-kept (omega arith, f<r .1) rest (there .1))
+    frames-kept below (fields-at holds small a<r f<r many code env rest) there =
+        fields-at (holds-kept w w′ base t same (omega arith) holds) small a<r f<r many code (env-kept (omega arith) env (there .0)) (frames-kept (omega arith, f<r .1) rest (there .1))
 
     -- the record that the control names is one of those, or it names none
     pub state-kept :
-        {c : Control} {f : ℕ} {s : State} → environmentOf c < t → f < t → StateAt file o w base cell c f s → StateIn e s
+        {c : Control} {f : ℕ} {s : State} → environmentOf c < t → FrameBelow f t → StateAt file o w base cell c f s → StateIn e s
         → StateAt file o w′ base cell′ c f s
     state-kept below f<t (evaluating-at code env frames) there = evaluating-at code (env-kept below env (there .0)) (frames-kept f<t frames (there .1))
     state-kept below f<t (inspecting-at {q = q} is frames) there = inspecting-at (cells q (there .0) ∙ is) (frames-kept f<t frames (there .1))
@@ -74,11 +76,18 @@ module _
     parts-added holds a<t n outer outer-in parts = parts-at holds a<t n (env-kept a<t outer outer-in) parts
 
     pub waiting-added :
-        {i a f : ℕ} {alts : Alternatives} {env : Env} {fs : List Frame} → RecordIs w′ base t i 0 a f → a < t → f < t
+        {i a f : ℕ} {alts : Alternatives} {env : Env} {fs : List Frame} → RecordIs w′ base t i 0 a f → t < noCase → a < t → FrameBelow f t
         → CodeAlternatives file o i alts → EnvAt file o w base cell a env → EnvIn e env → FramesAt file o w base cell f fs → FramesIn e fs
         → FramesAt file o w′ base cell′ t (waiting alts env ∷ fs)
-    waiting-added holds a<t f<t code env env-in frames frames-in =
-        waiting-at holds a<t f<t code (env-kept a<t env env-in) (frames-kept f<t frames frames-in)
+    waiting-added holds small a<t f<t code env env-in frames frames-in =
+        waiting-at holds small a<t f<t code (env-kept a<t env env-in) (frames-kept f<t frames frames-in)
+
+    pub fields-added :
+        {i n a f : ℕ} {x : Expr} {xs : Exprs} {env : Env} {fs : List Frame} → RecordIs w′ base t i n a f → t < noCase → a < t → FrameBelow f t → n ≡ suc (count xs)
+        → CodeAll file o i (x ∷ₑ xs) → EnvAt file o w base cell a env → EnvIn e env → FramesAt file o w base cell f fs → FramesIn e fs
+        → FramesAt file o w′ base cell′ (noCase + t) (fields x xs env ∷ fs)
+    fields-added holds small a<t f<t many code env env-in frames frames-in =
+        fields-at holds small a<t f<t many code (env-kept a<t env env-in) (frames-kept f<t frames frames-in)
 
 -- Variables.
 

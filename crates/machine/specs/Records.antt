@@ -1,15 +1,15 @@
 -- Environments, waiting cases and the state of the evaluation in the lent words: records of four words from a base on, only ever added.
 -- Rests on reach's Eval, Encoding and RuleFile.
-use Prim.Native.Nat.{ℕ, suc, _+_, _*_, _≤_, _<_}
+use Prim.Native.Nat.{ℕ, suc, _+_, _*_, _%_, _≤_, _<_}
 use mathlib.Core.Path.{_≡_}
 use mathlib.Core.List.{List, [], _∷_}
 use lib.ListN.{length, getD}
 use Rattle.reach.specs.Limits.{nestingLimit}
-use Rattle.reach.specs.Syntax.{Expr, Exprs, count, Alternatives}
+use Rattle.reach.specs.Syntax.{Expr, Exprs, _∷ₑ_, count, Alternatives}
 use Rattle.reach.specs.Parts.{Place}
 use Rattle.reach.specs.Encoding.{Stands, StandsAll, StandsAlternatives, Arity, ArityAll, ArityAlternatives, nesting, nestingAll, nestingAlternatives}
 use Rattle.reach.specs.RuleFile.{Declarations}
-use Rattle.reach.specs.Eval.{Row, partOf, Env, empty, operands, inputParts, size, Frame, waiting, State, evaluating, inspecting, uncovered}
+use Rattle.reach.specs.Eval.{Row, partOf, Env, empty, operands, inputParts, size, Frame, waiting, fields, State, evaluating, inspecting, uncovered}
 
 -- word k of record r
 abbrev pub recordWord : List ℕ → ℕ → ℕ → ℕ → ℕ
@@ -55,6 +55,14 @@ environmentOf (expressionAt i r) = r
 environmentOf (partIn x) = 0
 environmentOf nothingLeft = 0
 
+-- Frames have numbers: a waiting case that of its record; from this one on no case waits, and what is above it is the record of fields that wait, or 0.
+abbrev pub noCase : ℕ
+noCase = 1000000
+
+-- the record of the frame is before t
+abbrev pub FrameBelow : ℕ → ℕ → Type 0
+FrameBelow f t = (f % noCase < t) × (f < 2000000)
+
 -- what a state's parts are in the words: `cell` gives the cell of a place
 module _ (file : List ℕ) (o : Declarations) (w : List ℕ) (base : ℕ) (cell : Place → ℕ) where
   -- An environment is a record: the record of what is outside it, how many variables are in view, where its group begins, and 0 for a group of input
@@ -66,11 +74,14 @@ module _ (file : List ℕ) (o : Declarations) (w : List ℕ) (base : ℕ) (cell 
     parts-at : {r a x n k : ℕ} {outer : Env} {row : Row} → RecordIs w base r a n x 0 → a < r → n ≡ size outer + k
         → EnvAt a outer → ((j : ℕ) → j < k → cell (partOf row j) ≡ x + j) → EnvAt r (inputParts outer row k)
 
-  -- A waiting case is a record: where its alternatives stand, 0, its environment, and the record of the next frame. Record 0 is no frame.
+  -- A waiting case is a record: where its alternatives stand, 0, its environment, and the number of the next frame. Fields that wait are one: where the
+  -- next of them stands, how many they are, their environment, and the number of the next frame.
   pub data FramesAt : ℕ → List Frame → Type 0 where
-    none-at : FramesAt 0 []
-    waiting-at : {r i a f : ℕ} {alts : Alternatives} {env : Env} {fs : List Frame} → RecordIs w base r i 0 a f → a < r → f < r
+    none-at : FramesAt noCase []
+    waiting-at : {r i a f : ℕ} {alts : Alternatives} {env : Env} {fs : List Frame} → RecordIs w base r i 0 a f → r < noCase → a < r → FrameBelow f r
         → CodeAlternatives file o i alts → EnvAt a env → FramesAt f fs → FramesAt r (waiting alts env ∷ fs)
+    fields-at : {r i n a f : ℕ} {e : Expr} {es : Exprs} {env : Env} {fs : List Frame} → RecordIs w base r i n a f → r < noCase → a < r → FrameBelow f r
+        → n ≡ suc (count es) → CodeAll file o i (e ∷ₑ es) → EnvAt a env → FramesAt f fs → FramesAt (noCase + r) (fields e es env ∷ fs)
 
   -- A state is what is being evaluated and the record of the innermost frame. No numbers stand for `stuck`.
   pub data StateAt : Control → ℕ → State → Type 0 where

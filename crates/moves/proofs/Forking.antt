@@ -137,7 +137,7 @@ module _ {g : Setting} (given : Given g) {w : List ℕ} {h n i k : ℕ} (f : For
     take-bound = record {
       standing = step-standing given path₁;
       is-part = refl;
-      some-frame = waits-control (f .next-at .choice-at .path .stands) (f .next-at .choice-at .asks) .1;
+      case-waits = waits-control (f .next-at .choice-at .path .stands) (f .next-at .choice-at .asks) .1;
       head-is = binds .new-head;
       first-is = binds .first-field;
       fields = counted;

@@ -12,24 +12,28 @@ use Rattle.reach.specs.Limits.{workWords}
 use Rattle.reach.specs.Syntax.{variable, call, construct, case, letIn, target, []ₑ, _∷ₑ_, Program, functionAt}
 use Rattle.reach.specs.Parts.{Parts}
 use Rattle.reach.specs.Types.{Fork, leastDepths}
-use Rattle.reach.specs.Eval.{operands, lookup, waiting, State, evaluating, inspecting, uncovered, stuck, resume, choose, enter, value, unknown, Next, demands, lacks, stops, goes, waits}
+use Rattle.reach.specs.Eval.{operands, lookup, waiting, fields, withFields, State, evaluating, inspecting, uncovered, stuck, resume, choose, enter, value, unknown, Next, demands, lacks, stops, goes, waits}
 use Rattle.reach.specs.Eval.{view, answer, next, Run, unfinished, halted, conclude, eval, start, run}
 use Rattle.reach.specs.Search.{Entry, gather, spent, branches, inputBehind, stateBehind, search, openInput, entries}
 use Rattle.reach.specs.Input.{readInput}
 use Rattle.reach.specs.Lists.{cut, roomOf}
 use Rattle.reach.specs.Answers.{Checked, accepted, turnedBack, check, SearchAnswer, noSearch, cutAnswer, searchChecked, searchAnswer, RunAnswer, noRun, ran, outcomeOf, runInput, runChecked, runAnswer}
 
--- the definition before: the expressions by their codes, then the parts of the input
+-- the definition before, with what Slip 7 says of results: the expressions by their codes, then the parts of the input
 unfoldable pub viewBefore : Program → State → Next
 viewBefore p (evaluating (variable n) env fs) = goes (resume (lookup env n) fs)
 viewBefore p (evaluating (call f es) env fs) = goes (enter (functionAt p f) es env fs)
-viewBefore p (evaluating (construct t c es) env []) = stops value
+viewBefore p (evaluating (construct t c []ₑ) env []) = stops value
+viewBefore p (evaluating (construct t c (x ∷ₑ xs)) env []) = goes (evaluating x env (withFields xs env []))
 viewBefore p (evaluating (construct t c es) env (waiting alts outer ∷ fs)) = goes (choose alts c (operands outer es env) fs)
+viewBefore p (evaluating (construct t c []ₑ) env (fields y ys outer ∷ fs)) = goes (evaluating y outer (withFields ys outer fs))
+viewBefore p (evaluating (construct t c (x ∷ₑ xs)) env (fields y ys outer ∷ fs)) = goes (evaluating x env (withFields xs env (fields y ys outer ∷ fs)))
 viewBefore p (evaluating (case t e alts) env fs) = goes (evaluating e env (waiting alts env ∷ fs))
 viewBefore p (evaluating (letIn t e body) env fs) = goes (evaluating body (operands env (e ∷ₑ []ₑ) env) fs)
 viewBefore p (evaluating (target l e) env fs) = pick (eqb l (p .label)) demands (goes (evaluating e env fs))
 viewBefore p (inspecting q []) = stops value
 viewBefore p (inspecting q (waiting alts env ∷ fs)) = waits (record { place = q; alternatives = alts; environment = env; frames = fs })
+viewBefore p (inspecting q (fields y ys outer ∷ fs)) = goes (evaluating y outer (withFields ys outer fs))
 viewBefore p uncovered = lacks
 viewBefore p stuck = stops unknown
 
@@ -38,13 +42,17 @@ pub same-view : (p : Program) (s : State) → view p s ≡ viewBefore p s
 unfolding view viewBefore
 same-view p (evaluating (variable n) env fs) = refl
 same-view p (evaluating (call f es) env fs) = refl
-same-view p (evaluating (construct t c es) env []) = refl
+same-view p (evaluating (construct t c []ₑ) env []) = refl
+same-view p (evaluating (construct t c (x ∷ₑ xs)) env []) = refl
 same-view p (evaluating (construct t c es) env (waiting alts outer ∷ fs)) = refl
+same-view p (evaluating (construct t c []ₑ) env (fields y ys outer ∷ fs)) = refl
+same-view p (evaluating (construct t c (x ∷ₑ xs)) env (fields y ys outer ∷ fs)) = refl
 same-view p (evaluating (case t e alts) env fs) = refl
 same-view p (evaluating (letIn t e body) env fs) = refl
 same-view p (evaluating (target l e) env fs) = refl
 same-view p (inspecting q []) = refl
 same-view p (inspecting q (waiting alts env ∷ fs)) = refl
+same-view p (inspecting q (fields y ys outer ∷ fs)) = refl
 same-view p uncovered = refl
 same-view p stuck = refl
 

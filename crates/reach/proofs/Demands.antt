@@ -20,6 +20,7 @@ use Rattle.reach.specs.Types.{depthOf, ClosedInput, WithinDepth, ValueOf
 use Rattle.reach.specs.Eval.{missing, halted, run, Spent, NotHalted}
 use Rattle.reach.specs.Search.{Entry, says, Shown, StopsInside, entries}
 use Rattle.reach.specs.States.{MissingAfter}
+use Rattle.reach.specs.Whole.{wholeRun}
 use Rattle.reach.specs.Moves.{Walk, move, owedMoves, finished}
 use Rattle.reach.specs.Lists.{listBytes, roomOf}
 use Rattle.reach.specs.Answers.{accepted, check, noSearch, complete, cutShort, searchAnswer, listed, refusalOf, verdictOf}
@@ -27,6 +28,7 @@ use Rattle.reach.proofs.LeastDepths as LeastDepths
 use Rattle.reach.proofs.Evaluation.{run-spent, run-ends}
 use Rattle.reach.proofs.Missing as Missing
 use Rattle.reach.proofs.Moves as Moves
+use Rattle.reach.proofs.Whole as Whole
 use Rattle.reach.proofs.Limits.{accepted-keeps}
 use Rattle.reach.proofs.EntryLength.{entry-within}
 use Rattle.reach.proofs.Answers.{Means, search-means, listed-in, complete-is, short-work}
@@ -129,3 +131,9 @@ pub full-prefix : (file : List ℕ) (work list : ℕ) (p : Program) → check fi
     → (next : Entry) × (rest : List Entry) × (entries p ≡ es ++ (next ∷ rest)) × (length (listBytes es) ≤ roomOf list)
     × (roomOf list < length (listBytes (es ++ (next ∷ []))))
 full-prefix file work list p h es a = (subst (Means p work list) a (search-means file work list p h)) .1
+
+-- 02, Slip 7: "As 000 applies its unit-evaluator repeatedly, evaluation goes on: after an outermost constructor built by the rule, its fields are evaluated from
+-- left to right, each as a result in turn. Turning to a field costs one step." The evaluation is the unit-evaluator, applied again to each child of the result:
+-- the same end after the same steps, on every input, closed or partial.
+pub whole-result : (p : Program) (input : Parts) → run p input ≡ wholeRun p input
+whole-result p input = Whole.whole-run p input

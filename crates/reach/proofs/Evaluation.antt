@@ -3,20 +3,23 @@
 -- Rests on specs/Eval and Order.
 use Prim.Native.Nat.{ℕ, zero, suc, _+_, _-_, _<_}
 use mathlib.Core.Path.{_≡_, refl, sym, _∙_, ap, subst}
+use mathlib.Core.Bool.{Bool, true, false}
 use mathlib.Core.List.{List, [], _∷_}
+use mathlib.Core.Logic.{_↔_}
 use mathlib.Core.Option.{Option, none, some}
 use lib.ListN.{length}
 use lib.Dec.{ltb, eqb}
 use native.Mathlib.Omega.{arith}
 use borrow.Author.Tests.{ltb-true, eq-eqb}
-use Rattle.reach.specs.States.{EnvIn, FramesIn, StateIn}
+use Rattle.reach.specs.Base.{pick}
+use Rattle.reach.specs.States.{EnvIn, FramesIn, StateIn, NothingWaits}
 use Rattle.reach.specs.Syntax.{Expr, variable, call, construct, case, letIn, target}
-use Rattle.reach.specs.Syntax.{Exprs, Alternatives, no-more, absent, present, nthExpr, Function, Program, functionAt, sourceTypes, parametersOf}
+use Rattle.reach.specs.Syntax.{Exprs, []ₑ, _∷ₑ_, Alternatives, no-more, absent, present, nthExpr, Function, Program, functionAt, sourceTypes, parametersOf}
 use Rattle.reach.specs.Parts.{Parts, width, Place, Seen, gone, free, has, at, Closed, _⊑_, There}
-use Rattle.reach.specs.Eval.{fieldsOf, partOf, Env, empty, operands, inputParts, size, Closure, suspended, inputPart, suspend, lookup, Frame, waiting}
-use Rattle.reach.specs.Eval.{State, evaluating, inspecting, uncovered, stuck, resume, choose, enter, Question, answered, Stop, Next, demands, lacks, stops, goes, waits}
+use Rattle.reach.specs.Eval.{fieldsOf, partOf, Env, empty, operands, inputParts, size, Closure, suspended, inputPart, suspend, lookup, Frame, waiting, fields, withFields}
+use Rattle.reach.specs.Eval.{State, evaluating, inspecting, uncovered, stuck, resume, choose, enter, Question, answered, Stop, value, Next, demands, lacks, stops, goes, waits}
 use Rattle.reach.specs.Eval.{view, look, answer, next, Run, reached, ended, unfinished, missing, halted, conclude, eval, startOf, start, run, NotHalted, Spent}
-use Rattle.reach.proofs.Base.{picked}
+use Rattle.reach.proofs.Base.{clash, picked}
 use Rattle.reach.proofs.Order.{⊑-has, ⊑-there, part-there, field-there, free-unbound, closed-has, ⊑-refl}
 
 -- so every place that a question or what comes next speaks of
@@ -44,6 +47,7 @@ env-more a (inputParts outer row k) h = (env-more a outer (h .0), λ n l. ⊑-th
 pub frames-more : {e j : Parts} → e ⊑ j → (fs : List Frame) → FramesIn e fs → FramesIn j fs
 frames-more a [] h = tt
 frames-more a (waiting alts env ∷ fs) h = (env-more a env (h .0), frames-more a fs (h .1))
+frames-more a (fields x xs env ∷ fs) h = (env-more a env (h .0), frames-more a fs (h .1))
 
 -- a variable stands for something that is there
 lookup-in : (e : Parts) (env : Env) (n : ℕ) → EnvIn e env → ClosureIn e (lookup env n)
@@ -65,6 +69,50 @@ resume-in e none fs h g = tt
 resume-in e (some (suspended x env)) fs h g = (h, g)
 resume-in e (some (inputPart q)) fs h g = (h, g)
 
+-- 01: evaluation ends at the sought target. Two rules of 000 speak of it, Targ₁ and Targ₂, and Targ₁ stands first.
+pub sought-first : (p : Program) (l : ℕ) (x : Expr) (env : Env) (fs : List Frame) → l ≡ p .label → view p (evaluating (target l x) env fs) ≡ demands
+unfolding view
+sought-first p l x env fs is = rw (eq-eqb l (p .label) is) refl
+
+-- 02, Slip 7: "a missing alternative still stops everything", whatever waits
+pub missing-stops-all : (p : Program) (alts : Alternatives) (env : Env) (fs : List Frame) → view p (choose (absent alts) zero env fs) ≡ lacks
+unfolding view choose
+missing-stops-all p alts env fs = refl
+
+-- 02, Slip 7: "its fields are evaluated from left to right, each as a result in turn": a field's own fields before the next field
+pub own-fields-first : (p : Program) (t c : ℕ) (x : Expr) (es : Exprs) (env : Env) (y : Expr) (ys : Exprs) (outer : Env) (fs : List Frame)
+    → view p (evaluating (construct t c (x ∷ₑ es)) env (fields y ys outer ∷ fs)) ≡ goes (evaluating x env (withFields es env (fields y ys outer ∷ fs)))
+unfolding view
+own-fields-first p t c x es env y ys outer fs = refl
+
+-- 01 and 02, Slip 7: evaluation ends at a value exactly where nothing waits
+pub ends-exactly : (p : Program) (i : Parts) (s : State) → (next p i s ≡ stops value) ↔ NothingWaits s
+unfolding next answer view look
+ends-exactly p i (evaluating (variable n) env fs) = (λ e. clash (cc), λ h. absurd h)
+ends-exactly p i (evaluating (call f es) env fs) = (λ e. clash (cc), λ h. absurd h)
+ends-exactly p i (evaluating (construct t c []ₑ) env []) = (λ e. tt, λ h. refl)
+ends-exactly p i (evaluating (construct t c (x ∷ₑ es)) env []) = (λ e. clash (cc), λ h. absurd h)
+ends-exactly p i (evaluating (construct t c []ₑ) env (fields y ys outer ∷ fs)) = (λ e. clash (cc), λ h. absurd h)
+ends-exactly p i (evaluating (construct t c (x ∷ₑ es)) env (fields y ys outer ∷ fs)) = (λ e. clash (cc), λ h. absurd h)
+ends-exactly p i (evaluating (construct t c es) env (waiting alts outer ∷ fs)) = (λ e. clash (cc), λ h. absurd h)
+ends-exactly p i (evaluating (case t x alts) env fs) = (λ e. clash (cc), λ h. absurd h)
+ends-exactly p i (evaluating (letIn t x body) env fs) = (λ e. clash (cc), λ h. absurd h)
+ends-exactly p i (evaluating (target l x) env fs) = (passed (eqb l (p .label)), λ h. absurd h)
+  where
+    passed : (b : Bool) → answer i (pick b demands (goes (evaluating x env fs))) ≡ stops value → ⊥
+    passed true e = clash (cc)
+    passed false e = clash (cc)
+ends-exactly p i (inspecting q []) = (λ e. tt, λ h. refl)
+ends-exactly p i (inspecting q (fields y ys outer ∷ fs)) = (λ e. clash (cc), λ h. absurd h)
+ends-exactly p i (inspecting q (waiting alts outer ∷ fs)) = (seen (at i q), λ h. absurd h)
+  where
+    seen : (x : Seen) → look (record { place = q; alternatives = alts; environment = outer; frames = fs }) x ≡ stops value → ⊥
+    seen gone e = clash (cc)
+    seen free e = clash (cc)
+    seen (has c k) e = clash (cc)
+ends-exactly p i uncovered = (λ e. clash (cc), λ h. absurd h)
+ends-exactly p i stuck = (λ e. clash (cc), λ h. absurd h)
+
 choose-in : (e : Parts) (alts : Alternatives) (c : ℕ) (env : Env) (fs : List Frame) → EnvIn e env → FramesIn e fs → StateIn e (choose alts c env fs)
 unfolding choose
 choose-in e no-more c env fs h g = tt
@@ -78,21 +126,25 @@ unfolding enter
 enter-in e none es env fs h g = tt
 enter-in e (some f) es env fs h g = ((tt, h), g)
 
--- 01: evaluation ends at the sought target. Two rules of 000 speak of it, Targ₁ and Targ₂, and Targ₁ stands first.
-pub sought-first : (p : Program) (l : ℕ) (x : Expr) (env : Env) (fs : List Frame) → l ≡ p .label → view p (evaluating (target l x) env fs) ≡ demands
-unfolding view
-sought-first p l x env fs is = rw (eq-eqb l (p .label) is) refl
+with-fields-in : (e : Parts) (es : Exprs) (env : Env) (fs : List Frame) → EnvIn e env → FramesIn e fs → FramesIn e (withFields es env fs)
+unfolding withFields
+with-fields-in e []ₑ env fs h g = g
+with-fields-in e (x ∷ₑ es) env fs h g = (h, g)
 
 view-in : (p : Program) (e : Parts) (s : State) → StateIn e s → NextIn e (view p s)
 unfolding view
 view-in p e (evaluating (variable n) env fs) h = resume-in e (lookup env n) fs (lookup-in e env n (h .0)) (h .1)
 view-in p e (evaluating (call f es) env fs) h = enter-in e (functionAt p f) es env fs (h .0) (h .1)
-view-in p e (evaluating (construct t c es) env []) h = tt
+view-in p e (evaluating (construct t c []ₑ) env []) h = tt
+view-in p e (evaluating (construct t c (x ∷ₑ es)) env []) h = (h .0, with-fields-in e es env [] (h .0) tt)
+view-in p e (evaluating (construct t c []ₑ) env (fields y ys outer ∷ fs)) h = (h .1 .0, with-fields-in e ys outer fs (h .1 .0) (h .1 .1))
+view-in p e (evaluating (construct t c (x ∷ₑ es)) env (fields y ys outer ∷ fs)) h = (h .0, with-fields-in e es env (fields y ys outer ∷ fs) (h .0) (h .1))
 view-in p e (evaluating (construct t c es) env (waiting alts outer ∷ fs)) h = choose-in e alts c (operands outer es env) fs (h .1 .0, h .0) (h .1 .1)
 view-in p e (evaluating (case t x alts) env fs) h = (h .0, (h .0, h .1))
 view-in p e (evaluating (letIn t x body) env fs) h = ((h .0, h .0), h .1)
 view-in p e (evaluating (target l x) env fs) h = picked (NextIn e) (eqb l (p .label)) (λ sought. tt) (λ other. h)
 view-in p e (inspecting q []) h = tt
+view-in p e (inspecting q (fields y ys outer ∷ fs)) h = (h .1 .0, with-fields-in e ys outer fs (h .1 .0) (h .1 .1))
 view-in p e (inspecting q (waiting alts env ∷ fs)) h = (h .0, h .1 .0, h .1 .1)
 view-in p e uncovered h = tt
 view-in p e stuck h = tt

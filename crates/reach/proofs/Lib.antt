@@ -31,3 +31,4 @@ pub mod Conditions
 pub mod Accepted
 pub mod Spelling
 pub mod Demands
+pub mod Whole

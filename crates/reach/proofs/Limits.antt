@@ -12,7 +12,7 @@ use lib.ListN.{length, getD, getElem?, replicate}
 use lib.Dec.{leb}
 use borrow.Author.Tests.{leb-true}
 use Rattle.reach.specs.declared.Refusal.{Refusal}
-use Rattle.reach.specs.declared.Refusal.the-variants.{OutOfRange, UnknownNumber, TrailingBytes, EmptyType, DepthTooSmall, BadSpelling}
+use Rattle.reach.specs.declared.Refusal.the-variants.{OutOfRange, UnknownNumber, TrailingBytes, EmptyType, BadSpelling}
 use Rattle.reach.specs.Limits.{typeLimit, constructorLimit, fieldLimit, functionLimit, parameterLimit, bodyLimit, depthLimit, stepLimit}
 use Rattle.reach.specs.Syntax.{Function, Program, fieldTypes, functionAt, parametersOf, sourceTypes}
 use Rattle.reach.specs.Parts.{Parts, depth}
@@ -265,7 +265,7 @@ file-kept =
     (λ o kept. then-on (anything (demand (numbersExist o) UnknownNumber))
     (λ x y. then (functions-kept (o .declared) (o .declared .heads) (kept .heads-kept))
     (λ fs ks. then-on (demanding (noEmptyType (leastDepths (o .declared .types))) EmptyType)
-    (λ x filled. then-on (demanding (deepEnough (programOf o fs)) DepthTooSmall)
+    (λ x filled. then-on (demanding (deepEnough (programOf o fs)) _)
     (λ y deep. then-on (demanding (wellSpelled o) BadSpelling)
     (λ z spelled. giving (program-kept o fs kept (ks .0) (ks .1) filled deep spelled))))))))
 

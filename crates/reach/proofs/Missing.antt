@@ -10,9 +10,9 @@ use mathlib.Core.Option.{Option, none, some}
 use lib.Dec.{eqb}
 use native.Mathlib.Omega.{arith}
 use Rattle.reach.specs.Base.{pick}
-use Rattle.reach.specs.Syntax.{variable, call, construct, case, letIn, target, Exprs, Alternatives, no-more, absent, present, Function, Program, functionAt}
+use Rattle.reach.specs.Syntax.{variable, call, construct, case, letIn, target, Exprs, []ₑ, _∷ₑ_, Alternatives, no-more, absent, present, Function, Program, functionAt}
 use Rattle.reach.specs.Parts.{Parts, Seen, gone, free, has, at}
-use Rattle.reach.specs.Eval.{Env, Closure, suspended, inputPart, lookup, Frame, waiting, State, evaluating, inspecting, uncovered, stuck, resume, choose, enter, Question, answered, Next, demands, lacks, stops, goes, waits, view, look, answer, next, Run, reached, ended, unfinished, missing, halted, eval, startOf, start, run, Spent}
+use Rattle.reach.specs.Eval.{Env, Closure, suspended, inputPart, lookup, Frame, waiting, fields, State, evaluating, inspecting, uncovered, stuck, resume, choose, enter, Question, answered, Next, demands, lacks, stops, goes, waits, view, look, answer, next, Run, reached, ended, unfinished, missing, halted, eval, startOf, start, run, Spent}
 use Rattle.reach.specs.States.{Steps, no-step, one-more, Without, FindsNone, for-construction, for-part, MissingAfter}
 use Rattle.reach.proofs.Base.{clash}
 use Rattle.reach.proofs.Evaluation.{eval-step, eval-wait, eval-demands, eval-lacks, eval-stops, eval-spent, eval-spent-wait, run-spent}
@@ -62,7 +62,10 @@ module _ (p : Program) (i : Parts) where
   unfolding next answer view look answered
   finds-none (evaluating (variable n) env fs) e = absurd (resume-covered (lookup env n) fs (to e))
   finds-none (evaluating (call f es) env fs) e = absurd (enter-covered (functionAt p f) es env fs (to e))
-  finds-none (evaluating (construct t c es) env []) e = absurd (clash (cc))
+  finds-none (evaluating (construct t c []ₑ) env []) e = absurd (clash (cc))
+  finds-none (evaluating (construct t c (x ∷ₑ es)) env []) e = absurd (clash (cc))
+  finds-none (evaluating (construct t c []ₑ) env (fields y ys outer ∷ fs)) e = absurd (clash (cc))
+  finds-none (evaluating (construct t c (x ∷ₑ es)) env (fields y ys outer ∷ fs)) e = absurd (clash (cc))
   finds-none (evaluating (construct t c es) env (waiting alts outer ∷ fs)) e = for-construction ((choose-uncovered alts c _ fs) .0 (to e))
   finds-none (evaluating (case t x alts) env fs) e = absurd (clash (cc))
   finds-none (evaluating (letIn t x body) env fs) e = absurd (clash (cc))
@@ -72,6 +75,7 @@ module _ (p : Program) (i : Parts) where
       passed true e = clash (cc)
       passed false e = clash (cc)
   finds-none (inspecting q []) e = absurd (clash (cc))
+  finds-none (inspecting q (fields y ys outer ∷ fs)) e = absurd (clash (cc))
   finds-none (inspecting q (waiting alts outer ∷ fs)) e = seen (at i q) refl e
     where
       seen : (x : Seen) → at i q ≡ x → look (record { place = q; alternatives = alts; environment = outer; frames = fs }) x ≡ goes uncovered
@@ -93,7 +97,10 @@ module _ (p : Program) (i : Parts) where
   unfolding next answer view look
   lacks-uncovered (evaluating (variable n) env fs) e = absurd (clash (cc))
   lacks-uncovered (evaluating (call f es) env fs) e = absurd (clash (cc))
-  lacks-uncovered (evaluating (construct t c es) env []) e = absurd (clash (cc))
+  lacks-uncovered (evaluating (construct t c []ₑ) env []) e = absurd (clash (cc))
+  lacks-uncovered (evaluating (construct t c (x ∷ₑ es)) env []) e = absurd (clash (cc))
+  lacks-uncovered (evaluating (construct t c []ₑ) env (fields y ys outer ∷ fs)) e = absurd (clash (cc))
+  lacks-uncovered (evaluating (construct t c (x ∷ₑ es)) env (fields y ys outer ∷ fs)) e = absurd (clash (cc))
   lacks-uncovered (evaluating (construct t c es) env (waiting alts outer ∷ fs)) e = absurd (clash (cc))
   lacks-uncovered (evaluating (case t x alts) env fs) e = absurd (clash (cc))
   lacks-uncovered (evaluating (letIn t x body) env fs) e = absurd (clash (cc))
@@ -103,6 +110,7 @@ module _ (p : Program) (i : Parts) where
       passed true e = clash (cc)
       passed false e = clash (cc)
   lacks-uncovered (inspecting q []) e = absurd (clash (cc))
+  lacks-uncovered (inspecting q (fields y ys outer ∷ fs)) e = absurd (clash (cc))
   lacks-uncovered (inspecting q (waiting alts outer ∷ fs)) e = absurd (seen (at i q) e)
     where
       seen : (x : Seen) → look (record { place = q; alternatives = alts; environment = outer; frames = fs }) x ≡ lacks → ⊥

@@ -13,11 +13,11 @@ use native.Mathlib.Omega.{arith}
 use borrow.Author.Tests.{lt-ltb, le-ltb}
 use Rattle.reach.specs.States.{Steps, no-step, one-more, PartHas, CaseOn, Chooses, Sound}
 use Rattle.reach.specs.Base.{pick}
-use Rattle.reach.specs.Syntax.{variable, call, construct, case, letIn, target, Exprs, []ₑ, _∷ₑ_, count, nthExpr, Alternatives, no-more, absent, present, Types, Program, fieldTypes, functionAt, parametersOf, sourceTypes}
+use Rattle.reach.specs.Syntax.{Expr, variable, call, construct, case, letIn, target, Exprs, []ₑ, _∷ₑ_, count, nthExpr, Alternatives, no-more, absent, present, Types, Program, fieldTypes, functionAt, parametersOf, sourceTypes}
 use Rattle.reach.specs.Parts.{Parts, end, opened, bound, Place, here, after, inside, part, within, Seen, gone, free, has, at, There}
 use Rattle.reach.specs.Types.{Typed, Slot, slotTypes, sourceSlots, fieldSlots, slotAt}
 use Rattle.reach.specs.Encoding.{countAlternatives}
-use Rattle.reach.specs.Eval.{Row, parameters, fieldsOf, partOf, Env, empty, operands, inputParts, size, Closure, suspended, inputPart, suspend, lookup, Frame, waiting, State, evaluating, inspecting, uncovered, stuck, resume, choose, enter, Question, answered, Stop, value, unknown, Next, demands, lacks, stops, goes, waits, view, look, answer, next, Run, reached, ended, unfinished, missing, halted, conclude, eval, startOf, start, run}
+use Rattle.reach.specs.Eval.{Row, parameters, fieldsOf, partOf, Env, empty, operands, inputParts, size, Closure, suspended, inputPart, suspend, lookup, Frame, waiting, fields, withFields, State, evaluating, inspecting, uncovered, stuck, resume, choose, enter, Question, answered, Stop, value, unknown, Next, demands, lacks, stops, goes, waits, view, look, answer, next, Run, reached, ended, unfinished, missing, halted, conclude, eval, startOf, start, run}
 use Rattle.reach.specs.Answers.{accepted, check}
 use Rattle.reach.proofs.Order.{constructorOf, arityOf, free-unbound}
 use Rattle.reach.proofs.Slots.{types-nth, part-slot, field-types, source-types}
@@ -124,11 +124,13 @@ module _ (p : Program) (i : Parts) where
   ClosureHas t (some (suspended e env)) = (view : List ℕ) × EnvHas env view × HasType (p .types) (signatures p) e view t
   ClosureHas t (some (inputPart q)) = PartHas p i q t
 
-  -- the innermost frame waits for a value of this type, each other for what the frame before it yields
+  -- the innermost frame waits for a value of this type, each other for what the frame before it yields; fields wait for a result of any type
   abbrev pub FramesHave : List Frame → ℕ → Type 0
   FramesHave [] t = Unit {0}
   FramesHave (waiting alts env ∷ fs) t =
       (view : List ℕ) × (r : ℕ) × EnvHas env view × Covers (p .types) (signatures p) alts view (getD (p .types) t []) r × FramesHave fs r
+  FramesHave (fields x xs env ∷ fs) t =
+      (view us : List ℕ) × EnvHas env view × HaveTypes (p .types) (signatures p) (x ∷ₑ xs) view us × ((r : ℕ) → FramesHave fs r)
 
   -- a state is typed, and not stuck
   abbrev pub StateHas : State → Type 0
@@ -213,6 +215,20 @@ module _ (p : Program) (i : Parts) where
       (view ++ us, r, g, rw same at (h .0), k)
   choose-has (present x alts) (suc c) env fs view us (vs ∷ cs) r h e g k = choose-has alts c env fs view us cs r (h .1) e g k
 
+  -- fields that wait are typed in their environment, and what waits behind them waits for a result of any type
+  behind-have :
+      (es : Exprs) (env : Env) (fs : List Frame) (view us : List ℕ) → EnvHas env view → HaveTypes (p .types) (signatures p) es view us
+      → ((r : ℕ) → FramesHave fs r) → (t : ℕ) → FramesHave (withFields es env fs) t
+  unfolding withFields
+  behind-have []ₑ env fs view us h k l t = l t
+  behind-have (x ∷ₑ es) env fs view us h k l t = (view, us, h, k, l)
+
+  turn-has :
+      (x : Expr) (xs : Exprs) (env : Env) (fs : List Frame) (view us : List ℕ) → EnvHas env view → HaveTypes (p .types) (signatures p) (x ∷ₑ xs) view us
+      → ((r : ℕ) → FramesHave fs r) → StateHas (evaluating x env (withFields xs env fs))
+  turn-has x xs env fs view [] h k l = absurd k
+  turn-has x xs env fs view (u ∷ us) h k l = (view, u, h, k .0, behind-have xs env fs view us h (k .1) l u)
+
   module _ (typed : WellTyped p) where
     enter-has :
         (f : ℕ) (es : Exprs) (env : Env) (fs : List Frame) (g : Signature) (view : List ℕ) → EnvHas env view → getElem? (signatures p) f ≡ some g
@@ -229,7 +245,11 @@ module _ (p : Program) (i : Parts) where
     unfolding view fieldTypes
     view-has (evaluating (variable n) env fs) (vs, t, h, e, g) = resume-has (lookup env n) fs t (lookup-has env vs n t h e) g
     view-has (evaluating (call f es) env fs) h = enter-has f es env fs (h .3 .0) (h .0) (h .2) (h .3 .1) (h .3 .3) (subst (FramesHave fs) (sym (h .3 .2)) (h .4))
-    view-has (evaluating (construct u c es) env []) h = tt
+    view-has (evaluating (construct u c []ₑ) env []) h = tt
+    view-has (evaluating (construct u c (x ∷ₑ es)) env []) (ws, t, h, (us, e, same, k), l) = turn-has x es env [] ws us h k (λ r. tt)
+    view-has (evaluating (construct u c []ₑ) env (fields y ys outer ∷ fs)) (ws, t, h, k, (vs, us, g, m, l)) = turn-has y ys outer fs vs us g m l
+    view-has (evaluating (construct u c (x ∷ₑ es)) env (fields y ys outer ∷ fs)) (ws, t, h, (us, e, same, k), l) =
+        turn-has x es env (fields y ys outer ∷ fs) ws us h k (λ r. l)
     view-has (evaluating (construct u c es) env (waiting alts outer ∷ fs)) (ws, t, h, (us, e, same, k), (vs, r, g, covers, l)) =
         choose-has alts c (operands outer es env) fs vs us (getD (p .types) t []) r covers (rw same at e) (vs, us, ws, refl, g, h, k) l
     view-has (evaluating (case u e alts) env fs) h = (h .0, u, h .2, h .3 .1, (h .0, h .1, h .2, h .3 .2, h .4))
@@ -240,6 +260,7 @@ module _ (p : Program) (i : Parts) where
         picked true k = tt
         picked false k = k
     view-has (inspecting q []) h = tt
+    view-has (inspecting q (fields y ys outer ∷ fs)) (t, place, (vs, us, g, m, l)) = turn-has y ys outer fs vs us g m l
     view-has (inspecting q (waiting alts env ∷ fs)) h = h
     view-has uncovered h = tt
     view-has stuck h = absurd h
@@ -318,6 +339,7 @@ module _ (p : Program) (i : Parts) where
       let (x, there, of-it) = map-from signatureOf (p .functions) f g e in
       (x, there, count-is p es vs (g .parameters) k ∙ ap (λ (s : Signature). length (s .parameters)) (sym of-it))
   has-sound input (evaluating (construct u c es) env []) h = tt
+  has-sound input (evaluating (construct u c es) env (fields y ys outer ∷ fs)) h = tt
   has-sound input (evaluating (construct u c es) env (waiting alts outer ∷ fs)) (ws, t, h, (us, e, same, k), (vs, r, g, covers, l)) =
       let on = case-on u alts outer vs r g (rw same covers) in
       (on, chooses u c us alts outer (operands outer es env) on e (ap (_+_ (size outer)) (count-is p es ws us k)))
@@ -325,6 +347,7 @@ module _ (p : Program) (i : Parts) where
   has-sound input (evaluating (letIn u e body) env fs) h = tt
   has-sound input (evaluating (target l e) env fs) h = tt
   has-sound input (inspecting q []) h = (h .0, h .1)
+  has-sound input (inspecting q (fields y ys outer ∷ fs)) h = (h .0, h .1)
   has-sound input (inspecting q (waiting alts outer ∷ fs)) (t, place, (vs, r, g, covers, l)) = (t, place, on, met)
     where
       on : CaseOn p t alts outer
@@ -337,7 +360,7 @@ module _ (p : Program) (i : Parts) where
   has-sound input uncovered h = tt
   has-sound input stuck h = absurd h
 
--- "ended": a constructor or a part of the input with no case waiting
+-- "ended": a constructor or a part of the input with no case and no field waiting
 abbrev pub Met : Stop → Type 0
 Met why = why ≡ value
 

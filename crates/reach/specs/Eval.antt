@@ -48,9 +48,16 @@ lookup empty n = none
 lookup (operands outer es inner) n = pick (ltb n (size outer)) (lookup outer n) (suspend (nthExpr es (n - size outer)) inner)
 lookup (inputParts outer row k) n = pick (ltb n (size outer)) (lookup outer n) (pick (ltb (n - size outer) k) (some (inputPart (partOf row (n - size outer)))) none)
 
--- What waits for a value: a case, with its alternatives and their environment.
+-- What waits for a result: a case, with its alternatives and their environment; or fields of a construction, the next one to be evaluated and those
+-- behind it, in their environment.
 pub data Frame : Type 0 where
   waiting : Alternatives → Env → Frame
+  fields : Expr → Exprs → Env → Frame
+
+-- the frames with these fields waiting before the others, if there are any
+unfoldable pub withFields : Exprs → Env → List Frame → List Frame
+withFields []ₑ env fs = fs
+withFields (e ∷ₑ es) env fs = fields e es env ∷ fs
 
 -- A state: what is being evaluated, and the frames that wait for it, the innermost first.
 pub data State : Type 0 where
@@ -89,7 +96,7 @@ pub record Question : Type 0 where
 unfoldable pub answered : Question → ℕ → ℕ → State
 answered q c k = choose (q .alternatives) c (inputParts (q .environment) (fieldsOf (q .place)) k) (q .frames)
 
--- Why an evaluation ends off target: at a constructor or an input part with no case waiting, or at a number that names nothing.
+-- Why an evaluation ends off target: at a constructor without fields or an input part with no case and no field waiting, or at a number that names nothing.
 pub data Stop : Type 0 where
   value : Stop
   unknown : Stop
@@ -124,15 +131,29 @@ onExpression says (inspecting q fs) otherwise = otherwise
 onExpression says uncovered otherwise = otherwise
 onExpression says stuck otherwise = otherwise
 
--- The relation ⇒ of 000, by which evaluation goes on behind a case. Match: its subject is a constructor. With no case waiting evaluation ends there.
-abbrev pub Match : ℕ → Exprs → Env → List Frame → Next
-Match c es env [] = stops value
-Match c es env (waiting alts outer ∷ fs) = goes (choose alts c (operands outer es env) fs)
+-- 02, Slip 7, and 000, section 3.4: turning to a field. It is evaluated as a result in its turn, and those behind it wait; while the last one is evaluated
+-- none of them does.
+abbrev pub turn : Expr → Exprs → Env → List Frame → Next
+turn e es env fs = goes (evaluating e env (withFields es env fs))
 
--- Narrow: its subject is an unbound variable, here a part of the input that may be open. With no case waiting evaluation ends there.
+-- the same for the first of these fields, if there are any
+abbrev pub turnFirst : Exprs → Env → List Frame → (otherwise : Next) → Next
+turnFirst []ₑ env fs otherwise = otherwise
+turnFirst (e ∷ₑ es) env fs otherwise = turn e es env fs
+
+-- The relation ⇒ of 000, by which evaluation goes on behind a case. Match: its subject is a constructor. With no case waiting the constructor is a result: its
+-- fields are turned to, from the left, then the next field that waits; with none evaluation ends there.
+abbrev pub Match : ℕ → Exprs → Env → List Frame → Next
+Match c es env [] = turnFirst es env [] (stops value)
+Match c es env (waiting alts outer ∷ fs) = goes (choose alts c (operands outer es env) fs)
+Match c es env (fields x xs outer ∷ fs) = turnFirst es env (fields x xs outer ∷ fs) (turn x xs outer fs)
+
+-- Narrow: its subject is an unbound variable, here a part of the input that may be open. With no case waiting it is a result that is not gone into: the next
+-- field that waits is turned to; with none evaluation ends there.
 abbrev pub Narrow : Place → List Frame → Next
 Narrow q [] = stops value
 Narrow q (waiting alts env ∷ fs) = waits (record { place = q; alternatives = alts; environment = env; frames = fs })
+Narrow q (fields x xs outer ∷ fs) = turn x xs outer fs
 
 -- a constructor
 abbrev pub Constr : Rule

@@ -1,13 +1,14 @@
 -- The starred examples of 01 as one table. The checker computes each row from the bytes of P, with its label, D and S changed, and finds what
 -- stands beside it: the lines of the list and the verdict, or the end of a closed run. A second table has what P cannot show, missing
--- alternatives, a third buffers that are just long enough and one too short, and a fourth how deep inputs are. What is printed, and lists that are handed in,
--- stand in Examples of crate lists.
+-- alternatives, a third buffers that are just long enough and one too short, a fourth how deep inputs are, and a fifth targets inside results. What is
+-- printed, and lists that are handed in, stand in Examples of crate lists.
 -- Rests on the definitions alone.
 use Prim.Native.Nat.{ℕ, _+_, _*_}
 use mathlib.Core.Path.{_≡_, refl}
 use mathlib.Core.List
 use mathlib.Core.List.{List, [], _∷_, _++_, map}
 use mathlib.Core.Option.{Option, none, some, Option·map}
+use lib.ListN.{length}
 use Rattle.reach.specs.declared.Refusal.the-variants.{BadInput, WorkTooShort}
 use Rattle.reach.specs.declared.Kind.{Kind}
 use Rattle.reach.specs.declared.Kind.the-variants.{RE, UN, MI}
@@ -210,6 +211,50 @@ inputs-deep =
     ∷ run-of (p-with 7 4 20) (1 ∷ 1 ∷ 1 ∷ 1 ∷ 0 ∷ []) ⇒ answers (noRun BadInput)
     ∷ []
 
+-- numbers, pairs of them, and a function of one number whose body makes a pair, with D 4 and this S
+abbrev pub pair-by : List ℕ → ℕ → List ℕ
+pair-by body s =
+    0x54 ∷ 0x59 ∷ 0x02 ∷ 0x00 ∷ 0x01 ∷ 0x00 ∷ 0x54 ∷ 0x59 ∷ 0x01 ∷ 0x02 ∷ 0x00 ∷ 0x00 ∷ 0x46 ∷ 0x4e ∷ 0x01 ∷ 0x00 ∷ 0x01 ∷ length body ∷ 0x00 ∷ []
+    ++ body
+    ++ 0x47 ∷ 0x4f ∷ 0x00 ∷ 0x07 ∷ 0x04 ∷ s ∷ 0x00 ∷ []
+
+-- bodies: a pair; zero; the parameter; the number before it, which only 0 lacks; the target
+abbrev pair : List ℕ → List ℕ → List ℕ
+pair a b = 0x02 ∷ 0x01 ∷ 0x00 ∷ [] ++ a ++ b
+
+abbrev zero : List ℕ
+zero = 0x02 ∷ 0x00 ∷ 0x00 ∷ []
+
+abbrev one-more : List ℕ → List ℕ
+one-more a = 0x02 ∷ 0x00 ∷ 0x01 ∷ [] ++ a
+
+abbrev parameter : List ℕ
+parameter = 0x00 ∷ 0x00 ∷ []
+
+abbrev before : List ℕ
+before = 0x03 ∷ 0x00 ∷ 0x00 ∷ 0x00 ∷ 0x00 ∷ 0x01 ∷ 0x00 ∷ 0x01 ∷ []
+
+abbrev mark : List ℕ
+mark = 0x05 ∷ 0x07 ∷ zero
+
+-- 02, Slip 7: a target in the second field, and in a field of it; one behind a missing alternative in the first field, where only 0 has none; one behind a
+-- part of the input, open or bound, which is not gone into; and fields that wait when S steps are done
+abbrev pub in-results : List (Example Asked Answer)
+in-results =
+    search-of (pair-by (pair zero mark) 20) ⇒ lists (reach 2 (○ ∷ []) ∷ []) Found
+    ∷ search-of (pair-by (pair zero (one-more mark)) 20) ⇒ lists (reach 3 (○ ∷ []) ∷ []) Found
+    ∷ search-of (pair-by (pair (one-more zero) mark) 20) ⇒ lists (reach 3 (○ ∷ []) ∷ []) Found
+    ∷ search-of (pair-by (pair before mark) 20) ⇒ lists (missing 4 (0 ∷ []) ∷ reach 6 (1 ∷ ○ ∷ []) ∷ []) Found
+    ∷ run-of (pair-by (pair before mark) 20) (0 ∷ []) ⇒ answers (ran (Missing 4) 1)
+    ∷ run-of (pair-by (pair before mark) 20) (1 ∷ 1 ∷ 0 ∷ []) ⇒ answers (ran (Reached 6) 3)
+    ∷ search-of (pair-by (pair parameter mark) 20) ⇒ lists (reach 3 (○ ∷ []) ∷ []) Found
+    ∷ run-of (pair-by (pair parameter mark) 20) (1 ∷ 1 ∷ 0 ∷ []) ⇒ answers (ran (Reached 3) 3)
+    ∷ search-of (pair-by (pair zero zero) 1) ⇒ lists (unfinished 1 (○ ∷ []) ∷ []) Undecided
+    ∷ search-of (pair-by (pair zero zero) 2) ⇒ lists [] None
+    ∷ run-of (pair-by (pair zero zero) 1) (0 ∷ []) ⇒ answers (ran (Unfinished 1) 1)
+    ∷ run-of (pair-by (pair zero zero) 2) (0 ∷ []) ⇒ answers (ran (Ended 2) 1)
+    ∷ []
+
 -- all the definitions that an answer is made of: to unfold this is to unfold them
 unfoldable pub definitions : Unit {0}
 unfolding
@@ -217,7 +262,7 @@ unfolding
     Parts.width Parts.allOpen Parts.part Parts.within Parts.at Parts.bindAt Parts.prefix
     Types.slots Types.evenSlots Types.sourceSlots Types.fieldSlots Types.slotAt Types.known Types.inhabited Types.round Types.rounds Types.leastDepths
     Types.shallow Types.roomy Types.forksFrom Types.forks Types.forksAt
-    Eval.partOf Eval.size Eval.suspend Eval.lookup Eval.resume Eval.choose Eval.enter Eval.answered Eval.view Eval.look Eval.answer Eval.next
+    Eval.partOf Eval.size Eval.suspend Eval.lookup Eval.withFields Eval.resume Eval.choose Eval.enter Eval.answered Eval.view Eval.look Eval.answer Eval.next
     Eval.conclude Eval.eval Eval.startOf Eval.start Eval.run
     Search.gather Search.branches Search.search Search.openInput Search.entries Search.countFrom
     Search.counts Search.verdictBy Search.verdict
@@ -255,3 +300,8 @@ just-enough = refl
 pub input-depths : AsExpected computed inputs-deep
 unfolding definitions
 input-depths = refl
+
+-- the whole result is looked into
+pub results : AsExpected computed in-results
+unfolding definitions
+results = refl

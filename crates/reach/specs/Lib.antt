@@ -4,6 +4,7 @@ pub mod Syntax
 pub mod Parts
 pub mod Types
 pub mod Eval
+pub mod Whole
 pub mod Search
 pub mod Moves
 pub mod Limits

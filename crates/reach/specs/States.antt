@@ -1,16 +1,16 @@
--- The states that an evaluation comes to: which parts of the input they speak of, how many steps lead to them, that what a step meets there
--- is there, and at which of them an alternative is missing.
+-- The states that an evaluation comes to: which parts of the input they speak of, at which of them it ends, how many steps lead to them, that what a step
+-- meets there is there, and at which of them an alternative is missing.
 -- Rests on Parts, Types, Eval, Encoding and Typing.
 use Prim.Native.Nat.{ℕ, zero, suc, _+_, _<_}
 use mathlib.Core.Path.{_≡_}
 use mathlib.Core.List.{List, [], _∷_}
 use mathlib.Core.Option.{some}
 use lib.ListN.{length, getD}
-use Rattle.reach.specs.Syntax.{variable, call, construct, case, letIn, target, Exprs, count, Alternatives, no-more, absent, present, Function, Program, fieldTypes, functionAt}
+use Rattle.reach.specs.Syntax.{variable, call, construct, case, letIn, target, Exprs, []ₑ, _∷ₑ_, count, Alternatives, no-more, absent, present, Function, Program, fieldTypes, functionAt}
 use Rattle.reach.specs.Parts.{Parts, Place, has, at, There}
 use Rattle.reach.specs.Types.{sourceSlots, slotAt}
 use Rattle.reach.specs.Encoding.{countAlternatives}
-use Rattle.reach.specs.Eval.{fieldsOf, partOf, Env, empty, operands, inputParts, size, Closure, lookup, Frame, waiting, State, evaluating, inspecting, uncovered, stuck, goes, next, start}
+use Rattle.reach.specs.Eval.{fieldsOf, partOf, Env, empty, operands, inputParts, size, Closure, lookup, Frame, waiting, fields, State, evaluating, inspecting, uncovered, stuck, goes, next, start}
 use Rattle.reach.specs.Typing.{signatures, Covers}
 
 -- Every place that a state speaks of is there in the input.
@@ -23,12 +23,28 @@ EnvIn e (inputParts outer row k) = EnvIn e outer × ((n : ℕ) → n < k → The
 abbrev pub FramesIn : Parts → List Frame → Type 0
 FramesIn e [] = Unit {0}
 FramesIn e (waiting alts env ∷ fs) = EnvIn e env × FramesIn e fs
+FramesIn e (fields x xs env ∷ fs) = EnvIn e env × FramesIn e fs
 
 abbrev pub StateIn : Parts → State → Type 0
 StateIn e (evaluating x env fs) = EnvIn e env × FramesIn e fs
 StateIn e (inspecting q fs) = There (at e q) × FramesIn e fs
 StateIn e uncovered = Unit {0}
 StateIn e stuck = Unit {0}
+
+-- 01, *ended*: "a constructor, or an open part of the input, with no case waiting"; 02, Slip 7: "no field waits either", its own or another's
+abbrev pub NothingWaits : State → Type 0
+NothingWaits (evaluating (variable n) env fs) = ⊥
+NothingWaits (evaluating (call f es) env fs) = ⊥
+NothingWaits (evaluating (construct t c []ₑ) env []) = Unit {0}
+NothingWaits (evaluating (construct t c (x ∷ₑ es)) env []) = ⊥
+NothingWaits (evaluating (construct t c es) env (f ∷ fs)) = ⊥
+NothingWaits (evaluating (case t e alts) env fs) = ⊥
+NothingWaits (evaluating (letIn t e body) env fs) = ⊥
+NothingWaits (evaluating (target l e) env fs) = ⊥
+NothingWaits (inspecting q []) = Unit {0}
+NothingWaits (inspecting q (f ∷ fs)) = ⊥
+NothingWaits uncovered = ⊥
+NothingWaits stuck = ⊥
 
 -- s is reached from the source's start after n steps on the input
 pub data Steps (p : Program) (i : Parts) : ℕ → State → Type 0 where
@@ -61,11 +77,13 @@ abbrev pub Sound : Program → Parts → State → Type 0
 Sound p i (evaluating (variable n) env fs) = (x : Closure) × (lookup env n ≡ some x)
 Sound p i (evaluating (call f es) env fs) = (g : Function) × (functionAt p f ≡ some g) × (count es ≡ length (g .parameters))
 Sound p i (evaluating (construct t c es) env []) = Unit {0}
+Sound p i (evaluating (construct t c es) env (fields x xs outer ∷ fs)) = Unit {0}
 Sound p i (evaluating (construct t c es) env (waiting alts outer ∷ fs)) = CaseOn p t alts outer × Chooses p t c alts outer (operands outer es env)
 Sound p i (evaluating (case t e alts) env fs) = CaseOn p t alts env
 Sound p i (evaluating (letIn t e body) env fs) = Unit {0}
 Sound p i (evaluating (target l e) env fs) = Unit {0}
 Sound p i (inspecting q []) = (t : ℕ) × PartHas p i q t
+Sound p i (inspecting q (fields x xs outer ∷ fs)) = (t : ℕ) × PartHas p i q t
 Sound p i (inspecting q (waiting alts outer ∷ fs)) =
     (t : ℕ) × PartHas p i q t × CaseOn p t alts outer × ((c k : ℕ) → at i q ≡ has c k → Chooses p t c alts outer (inputParts outer (fieldsOf q) k))
 Sound p i uncovered = Unit {0}

@@ -5,22 +5,22 @@ use mathlib.Core.Path.{_≡_, sym, subst}
 use mathlib.Core.List.{List, _∷_}
 use native.Mathlib.Omega.{arith}
 use lib.ListN.{length, getD}
-use Rattle.reach.specs.Syntax.{Expr, Exprs, count, Alternatives, Program}
-use Rattle.reach.specs.Parts.{Parts}
+use Rattle.reach.specs.Syntax.{Expr, Exprs, _∷ₑ_, count, Alternatives, Program}
+use Rattle.reach.specs.Parts.{Parts, Place, at, There}
 use Rattle.reach.specs.Eval as Eval
-use Rattle.reach.specs.Eval.{Env, operands, size, Frame, waiting, State}
+use Rattle.reach.specs.Eval.{Env, operands, size, Frame, waiting, fields, State}
 use Rattle.reach.specs.States.{EnvIn, FramesIn, StateIn, Sound}
 use Rattle.machine.specs.Cells.{cellOf}
-use Rattle.machine.specs.Records.{RecordIs, Code, CodeAll, CodeAlternatives, Control, expressionAt, environmentOf, EnvAt, FramesAt, StateAt, OnlyTop, Wrote}
+use Rattle.machine.specs.Records.{RecordIs, Code, CodeAll, CodeAlternatives, Control, expressionAt, partIn, environmentOf, noCase, FrameBelow, EnvAt, FramesAt, StateAt, OnlyTop, Wrote}
 use Rattle.machine.proofs.Codes.{Coded, coded-known, code-kind}
-use Rattle.machine.proofs.Records.{env-kept, frames-kept, operands-added, waiting-added}
+use Rattle.machine.proofs.Records.{env-kept, frames-kept, operands-added, waiting-added, fields-added}
 use Rattle.registers.specs.declared.Registers.{Registers}
 use Rattle.registers.specs.declared.Next.{Next}
 use Rattle.registers.specs.declared.Next.the-variants as Next
 use Rattle.registers.specs.Stepping.{declarationsOf, controlIn, CountsSmall, StandsFor, Standing, Ready, StepMeans, Leads, Stepped}
 use Rattle.machine.proofs.Words.{records-same}
 use Rattle.registers.proofs.Words.{cells-same, few-more}
-use Rattle.registers.proofs.Which.{when-expression}
+use Rattle.registers.proofs.Which.{when-expression, when-part}
 
 -- the state, by what the control is
 pub state-of :
@@ -50,6 +50,18 @@ module _ (file types functions w : List ℕ) (base i env : ℕ) (r : Registers) 
       show x env′ fs (rw (ready .code-is) at ((code-kind file (declarationsOf file types functions) i x code) .1))
       (record { code = code; env-at = env-at; frames-at = frames-at; env-in = there .0; frames-in = there .1; sound = sound }))
       (stands .there) (stands .sound)
+
+-- A part of the input that is being evaluated.
+module _ (file types functions w : List ℕ) (base cell : ℕ) (r : Registers) (is-part : controlIn r ≡ partIn cell) where
+  -- what is to be shown is shown of the part that is in the cell
+  pub inspected :
+      (p : Program) (cells : ℕ) (e : Parts) (s : State) (G : State → Type 0) → StandsFor file types functions p w base cells r e s
+      → ((q : Place) (fs : List Frame) → cellOf w q ≡ cell → FramesAt file (declarationsOf file types functions) w base (cellOf w) (r .frame) fs
+      → There (at e q) → FramesIn e fs → Sound p e (Eval.inspecting q fs) → G (Eval.inspecting q fs))
+      → G s
+  inspected p cells e s G stands show =
+      when-part (λ s′. StateIn e s′ → Sound p e s′ → G s′) (state-of stands is-part)
+      (λ q fs is frames there sound. show q fs is frames (there .0) (there .1) sound) (stands .there) (stands .sound)
 
 -- What a step says of the state, it says of an expression of the code, whatever environment and frames are met.
 module _ (file types functions w w′ : List ℕ) (base i env : ℕ) (r : Registers) (p : Program) (e : Parts) (n : Next) where
@@ -103,7 +115,7 @@ module _
         env-kept file (declarationsOf file types functions) w w′ base (r .records) (cellOf w) (cellOf w′) e (records-same only) ((cells-same only stands) .0) below at there
 
     pub frames-there :
-        {f : ℕ} {fs : List Frame} → f < r .records → FramesAt file (declarationsOf file types functions) w base (cellOf w) f fs → FramesIn e fs
+        {f : ℕ} {fs : List Frame} → FrameBelow f (r .records) → FramesAt file (declarationsOf file types functions) w base (cellOf w) f fs → FramesIn e fs
         → FramesAt file (declarationsOf file types functions) w′ base (cellOf w′) f fs
     frames-there below at there =
         frames-kept file (declarationsOf file types functions) w w′ base (r .records) (cellOf w) (cellOf w′) e (records-same only) ((cells-same only stands) .0) below at there
@@ -121,14 +133,25 @@ module _
 
     -- or a waiting case
     pub waiting-there :
-        {i a f : ℕ} {alts : Alternatives} {env : Env} {fs : List Frame} → RecordIs w′ base (r .records) i 0 a f → a < r .records → f < r .records
+        {i a f : ℕ} {alts : Alternatives} {env : Env} {fs : List Frame} → RecordIs w′ base (r .records) i 0 a f → a < r .records → FrameBelow f (r .records)
         → CodeAlternatives file (declarationsOf file types functions) i alts
         → EnvAt file (declarationsOf file types functions) w base (cellOf w) a env → EnvIn e env
         → FramesAt file (declarationsOf file types functions) w base (cellOf w) f fs → FramesIn e fs
         → FramesAt file (declarationsOf file types functions) w′ base (cellOf w′) (r .records) (waiting alts env ∷ fs)
     waiting-there holds a<t f<t code env env-in frames frames-in =
         waiting-added file (declarationsOf file types functions) w w′ base (r .records) (cellOf w) (cellOf w′) e (records-same only) ((cells-same only stands) .0)
-        holds a<t f<t code env env-in frames frames-in
+        holds (omega (arith, stands .space .room, stands .space .narrow)) a<t f<t code env env-in frames frames-in
+
+    -- or fields that wait
+    pub fields-there :
+        {i n a f : ℕ} {x : Expr} {xs : Exprs} {env : Env} {fs : List Frame} → RecordIs w′ base (r .records) i n a f → a < r .records → FrameBelow f (r .records) → n ≡ suc (count xs)
+        → CodeAll file (declarationsOf file types functions) i (x ∷ₑ xs)
+        → EnvAt file (declarationsOf file types functions) w base (cellOf w) a env → EnvIn e env
+        → FramesAt file (declarationsOf file types functions) w base (cellOf w) f fs → FramesIn e fs
+        → FramesAt file (declarationsOf file types functions) w′ base (cellOf w′) (noCase + r .records) (fields x xs env ∷ fs)
+    fields-there holds a<t f<t many code env env-in frames frames-in =
+        fields-added file (declarationsOf file types functions) w w′ base (r .records) (cellOf w) (cellOf w′) e (records-same only) ((cells-same only stands) .0)
+        holds (omega (arith, stands .space .room, stands .space .narrow)) a<t f<t many code env env-in frames frames-in
 
 -- the counts after a record with such a count was added
 pub few-added :

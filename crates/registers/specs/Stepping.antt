@@ -1,6 +1,6 @@
 -- What the registers and the lent words stand for, and what a step promises: it is one step of the published evaluation.
 -- Rests on machine's Cells, Records and Walks, on skipping's Ends, on reach's Eval, Places and States, and on the types of src/lib.rt.
-use Prim.Native.Nat.{ℕ, zero, suc, _+_, _*_, _≤_, _<_}
+use Prim.Native.Nat.{ℕ, zero, suc, _+_, _-_, _*_, _≤_, _<_}
 use mathlib.Core.Path.{_≡_}
 use mathlib.Core.List.{List, map}
 use mathlib.Core.Option.{some}
@@ -14,7 +14,7 @@ use Rattle.reach.specs.RuleFile.{Declarations}
 use Rattle.reach.specs.Places.{typeAt, headAt, declarationsAt}
 use Rattle.reach.specs.States.{StateIn, Sound}
 use Rattle.machine.specs.Cells.{Cells, cellOf}
-use Rattle.machine.specs.Records.{Code, RecordIs, OnlyTop, Wrote, recordWord, Control, environmentOf, StateAt, expressionAt, partIn, nothingLeft}
+use Rattle.machine.specs.Records.{Code, RecordIs, OnlyTop, Wrote, recordWord, Control, environmentOf, noCase, FrameBelow, StateAt, expressionAt, partIn, nothingLeft}
 use Rattle.skipping.specs.Ends.{Ends}
 use Rattle.machine.specs.Walks.{Behind, OperandAt, ChosenAt, VariableAt, outsideOf}
 use Rattle.registers.specs.declared.Registers.{Registers}
@@ -63,7 +63,7 @@ CountsSmall w base t = (j : ℕ) → j < t → recordWord w base j 1 ≤ 255 * j
 pub record Space (w : List ℕ) (base : ℕ) (r : Registers) : Type 0 where
   pub some-record : 0 < r .records
   pub environment-below : environmentOf (controlIn r) < r .records
-  pub frame-below : r .frame < r .records
+  pub frame-below : FrameBelow (r .frame) (r .records)
   pub room : base + 4 * (r .records + 1) ≤ length w
   pub narrow : length w ≤ 1000000
   pub few : CountsSmall w base (r .records)
@@ -100,7 +100,7 @@ pub record Ready (file w : List ℕ) (base : ℕ) (r : Registers) (code i env : 
 pub record Follows (file types functions w′ : List ℕ) (base records : ℕ) (r′ : Registers) (s′ : State) : Type 0 where
   pub state : StateAt file (declarationsOf file types functions) w′ base (cellOf w′) (controlIn r′) (r′ .frame) s′
   pub environment-below : environmentOf (controlIn r′) < r′ .records
-  pub frame-below : r′ .frame < r′ .records
+  pub frame-below : FrameBelow (r′ .frame) (r′ .records)
   pub no-fewer : records ≤ r′ .records
   pub one-more : r′ .records ≤ records + 1
   pub few : CountsSmall w′ base (r′ .records)
@@ -128,6 +128,24 @@ pub record Stepped (file types functions w w′ : List ℕ) (base label : ℕ) (
   pub only-top : OnlyTop w w′ base (r .records)
   pub steps : (p : Program) → label ≡ p .label → StepMeansAll file types functions w w′ base r p n
 
+-- A result: a construction or a part of the input is being evaluated, and no case waits.
+pub data Result (file w : List ℕ) (base : ℕ) (r : Registers) : Type 0 where
+  built : {i env : ℕ} → Ready file w base r 2 i env → noCase ≤ r .frame → Result file w base r
+  a-part : {x : ℕ} → controlIn r ≡ partIn x → noCase ≤ r .frame → Result file w base r
+
+-- it is not said to be the end
+abbrev pub NotStops : Next → Type 0
+NotStops Next.Demands = Unit {0}
+NotStops Next.Lacks = Unit {0}
+NotStops Next.Stops = ⊥
+NotStops (Next.Goes r) = Unit {0}
+NotStops (Next.Waits x) = Unit {0}
+
+-- A look that leaves results alone: a step with any other outcome than the end; or a result, for which the end is said, and nothing is written.
+pub data Looked (file types functions w w′ : List ℕ) (base label : ℕ) (r : Registers) : Next → Type 0 where
+  looked : {n : Next} → NotStops n → Stepped file types functions w w′ base label r n → Looked file types functions w w′ base label r n
+  at-result : w′ ≡ w → Result file w base r → Looked file types functions w w′ base label r Next.Stops
+
 -- The same by a table of the ends of expressions, for every program whose file has these ends.
 
 abbrev pub LeadsBy : (file ends w w′ : List ℕ) (base : ℕ) (r r′ : Registers) → Type 0
@@ -137,6 +155,10 @@ LeadsBy file ends w w′ base r r′ = (types functions : List ℕ) → Ends fil
 abbrev pub SteppedBy : (file types ends w w′ : List ℕ) (base : ℕ) (r : Registers) → Next → Type 0
 SteppedBy file types ends w w′ base r n =
     (functions : List ℕ) (label : ℕ) → Ends file types functions ends → Stepped file types functions w w′ base label r n
+
+abbrev pub LookedBy : (file types ends w w′ : List ℕ) (base : ℕ) (r : Registers) → Next → Type 0
+LookedBy file types ends w w′ base r n =
+    (functions : List ℕ) (label : ℕ) → Ends file types functions ends → Looked file types functions w w′ base label r n
 
 -- What the parts of a step find.
 
@@ -186,3 +208,16 @@ module _ (file types functions : List ℕ) where
 -- the same by a table of the ends
 abbrev pub ChoseBy : (file ends w w′ : List ℕ) (base : ℕ) (r : Registers) (c k first inner : ℕ) → Registers → Type 0
 ChoseBy file ends w w′ base r c k first inner x = (types functions : List ℕ) → Ends file types functions ends → Chose file types functions w w′ base r c k first inner x
+
+-- The first of k fields is turned to, which begin at `first` and stand in record `env`; the others, if there are any, wait before the frames from `frame`
+-- on, in the record at the top.
+module _ (file types functions : List ℕ) where
+  pub data Turned (w w′ : List ℕ) (base : ℕ) (r : Registers) (first k env frame : ℕ) : Registers → Type 0 where
+    to-last : OnlyTop w w′ base (r .records) → k ≡ 1
+        → Turned w w′ base r first k env frame (record { kind = expressionKind; place = first; env = env; frame = frame; records = r .records })
+    to-next : (i : ℕ) → Wrote w w′ base (r .records) i (k - 1) env frame → 1 < k → PassedOver file types functions first i
+        → Turned w w′ base r first k env frame (record { kind = expressionKind; place = first; env = env; frame = noCase + r .records; records = r .records + 1 })
+
+-- the same by a table of the ends
+abbrev pub TurnedBy : (file ends w w′ : List ℕ) (base : ℕ) (r : Registers) (first k env frame : ℕ) → Registers → Type 0
+TurnedBy file ends w w′ base r first k env frame x = (types functions : List ℕ) → Ends file types functions ends → Turned file types functions w w′ base r first k env frame x

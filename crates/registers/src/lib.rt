@@ -10,7 +10,10 @@ pub const PART: usize = 1;
 
 pub const EXPRESSION: usize = 2;
 
-// The registers: what is being evaluated, the record of the innermost waiting case or 0, and how many records there are.
+// Frames have numbers: a waiting case that of its record; from this one on no case waits, and what is above it is the record of fields that wait, or 0.
+pub const NO_CASE: usize = 1000000;
+
+// The registers: what is being evaluated, the number of the innermost frame, and how many records there are.
 pub struct Registers {
     pub kind: usize,
     pub place: usize,

@@ -24,6 +24,7 @@ use Rattle.reach.specs.Syntax.{Program}
 use Rattle.reach.specs.Parts.{Parts, Place, openAt, BoundPart, Completes}
 use Rattle.reach.specs.Types.{ClosedInput, WithinDepth}
 use Rattle.reach.specs.Eval.{missing, halted, run, Spent}
+use Rattle.reach.specs.Whole.{wholeRun}
 use Rattle.reach.specs.declared.Kind.{Kind}
 use Rattle.reach.specs.declared.Kind.the-variants.{RE, UN, MI}
 use Rattle.reach.specs.Search.{Entry, says, Shown, StopsInside, entries, verdict}
@@ -145,6 +146,11 @@ module _ (file work work′ before after : List ℕ) (r : SearchResult) (call : 
     pub entry-true : (k : ℕ) (e : Entry) → ReadsAs p (take (listLengthIn r) after) k e
         → (j : Parts) → ClosedInput p j → Completes j (e .input) → run p j ≡ says (e .kind) (e .steps)
     entry-true k e reads = Reach.entry-true file (length work) (length before) p checked e (member k e reads)
+
+    -- 02, Slip 7: "Truth and coverage of the list are judged by this evaluation", which is the unit-evaluator of 000, applied again to each child of the result.
+    pub entry-whole : (k : ℕ) (e : Entry) → ReadsAs p (take (listLengthIn r) after) k e
+        → (j : Parts) → ClosedInput p j → Completes j (e .input) → wholeRun p j ≡ says (e .kind) (e .steps)
+    entry-whole k e reads j closed completes = sym (Reach.whole-result p j) ∙ entry-true k e reads j closed completes
 
     -- 01: "Every open part therefore has a completion that fits": every listed entry has a completion within the depth.
     pub entry-inhabited : (k : ℕ) (e : Entry) → ReadsAs p (take (listLengthIn r) after) k e → (j : Parts) × WithinDepth p j × Completes j (e .input)

@@ -1,10 +1,10 @@
-// The evaluation in the lent words: one step, and steps one after the other. Records of environments and waiting cases are added at
-// the top and never changed; expressions are read where they stand in the file. Rests on crates registers, unfolding and choosing.
+// The evaluation in the lent words: one step, and steps one after the other. Records of environments, of waiting cases and of waiting fields are added at
+// the top and never changed; expressions are read where they stand in the file. Rests on crates registers, unfolding, choosing and turning.
 ghost use mathlib.Core.Path.{_≡_};
 ghost use Rattle.machine.specs.Records.{expressionAt};
 ghost use Rattle.skipping.specs.Ends.{Ends};
-ghost use Rattle.registers.specs.Stepping.{controlIn, Standing, Stepped};
-ghost use Rattle.steps.specs.Running.{Onward, RunsOn};
+ghost use Rattle.registers.specs.Stepping.{controlIn, Standing, Looked};
+ghost use Rattle.steps.specs.Running.{Onward, RunsToResult, RunsOn};
 use choosing::step_construct;
 use choosing::step_part;
 use marks::byte_or_zero;
@@ -12,6 +12,7 @@ use registers::EXPRESSION;
 use registers::Next;
 use registers::PART;
 use registers::Registers;
+use turning::step_result;
 use unfolding::step_call;
 use unfolding::step_case;
 use unfolding::step_let;
@@ -49,7 +50,7 @@ fn step_expression<'a>(
     r: Registers,
 ) -> Next
     requires { ⌜ Ends (now file) (now types) (now functions) (now ends) × Standing (now file) (now types) (now functions) (now work) base r × (controlIn r ≡ expressionAt at env) ⌝ }
-    ensures { λ x. ⌜ Stepped (now (file .entry)) (now (types .entry)) (now (functions .entry)) (now (work .entry)) (now (work .exit)) base label r x ⌝ }
+    ensures { λ x. ⌜ Looked (now (file .entry)) (now (types .entry)) (now (functions .entry)) (now (work .entry)) (now (work .exit)) base label r x ⌝ }
 {
     let code = byte_or_zero(file, at);
     match code {
@@ -62,7 +63,7 @@ fn step_expression<'a>(
     }
 }
 
-// One step.
+// One step; a result is left alone.
 fn step<'a>(
     file: &'a [u8],
     types: &'a [u16],
@@ -74,7 +75,7 @@ fn step<'a>(
     r: Registers,
 ) -> Next
     requires { ⌜ Ends (now file) (now types) (now functions) (now ends) × Standing (now file) (now types) (now functions) (now work) base r ⌝ }
-    ensures { λ x. ⌜ Stepped (now (file .entry)) (now (types .entry)) (now (functions .entry)) (now (work .entry)) (now (work .exit)) base label r x ⌝ }
+    ensures { λ x. ⌜ Looked (now (file .entry)) (now (types .entry)) (now (functions .entry)) (now (work .entry)) (now (work .exit)) base label r x ⌝ }
 {
     let kind = r.kind;
     match kind {
@@ -106,7 +107,44 @@ fn halted(registers: Registers, halt: Halt, steps: usize) -> Ran
     }
 }
 
-// Steps one after the other from registers on, at most so many.
+// Steps one after the other from registers on, at most so many, up to the first result.
+fn run_to_result<'a>(
+    file: &'a [u8],
+    types: &'a [u16],
+    functions: &'a [u16],
+    ends: &'a [u16],
+    label: usize,
+    work: &mut [u32],
+    base: usize,
+    from: Registers,
+    left: usize,
+) -> Ran
+    requires { ⌜ Ends (now file) (now types) (now functions) (now ends) ⌝ }
+    requires { ⌜ Onward (now file) (now types) (now functions) label (now work) base from left ⌝ }
+    ensures { λ x. ⌜ RunsToResult (now (file .entry)) (now (types .entry)) (now (functions .entry)) label (now (work .entry)) (now (work .exit)) base from left x ⌝ }
+{
+    let mut r = from;
+    let mut done: usize = 0;
+    loop {
+        let next = step(file, types, functions, ends, label, work, base, r);
+        match next {
+            Next::Demands => return halted(r, Halt::Demands, done),
+            Next::Lacks => return halted(r, Halt::Lacks, done),
+            Next::Stops => return halted(r, Halt::Stops, done),
+            Next::Waits(x) => return halted(r, Halt::Waits(x), done),
+            Next::Goes(to) => {
+                if left <= done {
+                    return halted(r, Halt::Spent, done);
+                }
+                r = to;
+            }
+        }
+        done += 1;
+    }
+}
+
+// Steps one after the other from registers on, at most so many. (Results have a loop of their own around the other: what goes on behind them would cost the
+// other its registers.)
 pub fn run_on<'a>(
     file: &'a [u8],
     types: &'a [u16],
@@ -125,19 +163,31 @@ pub fn run_on<'a>(
     let mut r = from;
     let mut done: usize = 0;
     loop {
-        let next = step(file, types, functions, ends, label, work, base, r);
-        match next {
-            Next::Demands => return halted(r, Halt::Demands, done),
-            Next::Lacks => return halted(r, Halt::Lacks, done),
-            Next::Stops => return halted(r, Halt::Stops, done),
-            Next::Waits(x) => return halted(r, Halt::Waits(x), done),
-            Next::Goes(to) => {
-                if left <= done {
-                    return halted(r, Halt::Spent, done);
-                }
-                r = to;
-            }
+        let ran = run_to_result(
+            file,
+            types,
+            functions,
+            ends,
+            label,
+            work,
+            base,
+            r,
+            left - done,
+        );
+        done += ran.steps;
+        let at = ran.registers;
+        let halt = ran.halt;
+        let Halt::Stops = halt else {
+            return halted(at, halt, done);
+        };
+        let next = step_result(file, types, ends, work, base, at);
+        let Next::Goes(to) = next else {
+            return halted(at, Halt::Stops, done);
+        };
+        if done >= left {
+            return halted(at, Halt::Spent, done);
         }
+        r = to;
         done += 1;
     }
 }

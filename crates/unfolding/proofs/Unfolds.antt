@@ -82,7 +82,7 @@ module _
                 (operands-there stands (wrote .only-top) (wrote .holds) (ready .space .some-record) (ready .environment-there) (omega arith) empty-at tt (met .env-at) (met .env-in) (bytes .2))
                 (frames-there stands (wrote .only-top) (ready .space .frame-below) (met .frames-at) (met .frames-in));
             environment-below = omega arith;
-            frame-below = omega (arith, ready .space .frame-below);
+            frame-below = (omega (arith, ready .space .frame-below .0), ready .space .frame-below .1);
             no-fewer = omega arith;
             one-more = omega arith;
             few = few-added (ready .space .few) wrote (omega (arith, ready .space .some-record));
@@ -132,7 +132,7 @@ module _
                 (code-one file (declarationsOf file types functions) (i + 2) y (at .2)))
                 (frames-there stands (wrote .only-top) (ready .space .frame-below) (met .frames-at) (met .frames-in));
             environment-below = omega arith;
-            frame-below = omega (arith, ready .space .frame-below);
+            frame-below = (omega (arith, ready .space .frame-below .0), ready .space .frame-below .1);
             no-fewer = omega arith;
             one-more = omega arith;
             few = few-added (ready .space .few) wrote (omega (arith, is-seen, ready .environment-there, ready .space .few env (ready .environment-there)));
@@ -177,7 +177,7 @@ module _
                 (waiting-there stands (wrote .only-top) (wrote .holds) (ready .environment-there) (ready .space .frame-below) (at .3 alternatives (found y (at .2)))
                 (met .env-at) (met .env-in) (met .frames-at) (met .frames-in));
             environment-below = omega (arith, ready .environment-there);
-            frame-below = omega arith;
+            frame-below = (omega arith, omega (arith, ready .space .room, ready .space .narrow));
             no-fewer = omega arith;
             one-more = omega arith;
             few = few-added (ready .space .few) wrote (omega (arith, ready .space .some-record));

@@ -4,7 +4,7 @@ ghost use mathlib.Core.Path.{_≡_};
 ghost use mathlib.Core.List.{List};
 ghost use Prim.Native.Nat.{ℕ, _≤_, _<_};
 ghost use Rattle.machine.specs.Walks.{outsideOf};
-ghost use Rattle.registers.specs.Stepping.{Standing, Ready, Leads, LeadsBy, Stepped, VariableThere, Group};
+ghost use Rattle.registers.specs.Stepping.{Standing, Ready, Leads, LeadsBy, Looked, VariableThere, Group};
 use lookups::head_of;
 use lookups::place_or_zero;
 use machine::put_record;
@@ -152,7 +152,7 @@ pub fn step_let<'a>(
 // A target of another label is passed to its inner expression; the sought one is demanded.
 pub fn step_target(file: &[u8], label: usize, at: usize, env: usize, r: Registers) -> Next
     requires { ⌜ at ≤ 1000000 ⌝ }
-    ensures { λ x. ⌜ ((types functions w : List ℕ) (base : ℕ) → Ready (now (file .entry)) w base r 5 at env → Stepped (now (file .entry)) types functions w w base label r x) ⌝ }
+    ensures { λ x. ⌜ ((types functions w : List ℕ) (base : ℕ) → Ready (now (file .entry)) w base r 5 at env → Looked (now (file .entry)) types functions w w base label r x) ⌝ }
 {
     if byte_or_zero(file, at + 1) == label {
         return Next::Demands;

@@ -1,74 +1,15 @@
--- `choosing::step_part` meets its contract: Inspecting says what comes next with no case waiting, at an open part, and after the choice at a bound one.
-use Rattle.choosing.proofs.Inspecting.{part-small, part-stops, part-waits, part-chooses, part-goes}
-use native.Mathlib.Omega.{arith}
+-- `choosing::step_part` meets its contract: a case looks at the part, or it is a result, which is left alone.
+use mathlib.Core.Path.{refl}
+use Rattle.registers.specs.Stepping.{a-part, at-result}
 use borrow.Author.Needs.{needs}
 use Rattle.choosing.proofs.step_part.Statement.{statement}
 use Rattle.choosing.proofs.step_part.Tie as tie
 
 returns : tie.Need-returns
-returns c = let start = c .before .before .before .before .before in
-    let a = start .args in λ functions label filled.
-    part-stops (a .file .now) (a .types .now) functions (a .work .now) (a .base) (a .cell) (a .r) (start .pre .1) (c .if1 .taken) label
-
-cell-word-requires : tie.Need-cell-word-requires
-cell-word-requires c κs = let start = c .before .before .before .before .before .before in
-    let a = start .args in
-    (part-small (a .file .now) (a .types .now) (start .pre .0 .0) (a .work .now) (a .base) (a .cell) (a .r) (start .pre .1) (start .pre .0 .1), omega arith)
+returns c = let start = c .before .before .before .before .before .before in λ functions label filled. at-result refl (a-part (start .pre .1) (c .if1 .taken))
 
 returns-2 : tie.Need-returns-2
-returns-2 c = let start = c .before .before .before .before .before .before .before .before in
-    let a = start .args in λ functions label filled.
-    part-waits (a .file .now) (a .types .now) functions (a .work .now) (a .base) (a .cell) (a .r) (start .pre .1) (c .before .before .before .if1 .left) (c .before .cell-word .ensures .0) (c .if2 .taken) label
-
-cell-word-requires-2 : tie.Need-cell-word-requires-2
-cell-word-requires-2 c κs = let start = c .before .before .before .before .before .before .before .before .before in
-    let a = start .args in
-    (part-small (a .file .now) (a .types .now) (start .pre .0 .0) (a .work .now) (a .base) (a .cell) (a .r) (start .pre .1) (start .pre .0 .1), omega arith)
-
-cell-word-requires-3 : tie.Need-cell-word-requires-3
-cell-word-requires-3 c κs = let start = c .before .before .before .before .before .before .before .before .before .before .before in
-    let a = start .args in
-    (part-small (a .file .now) (a .types .now) (start .pre .0 .0) (a .work .now) (a .base) (a .cell) (a .r) (start .pre .1) (start .pre .0 .1), omega arith)
-
-sub-field-count : tie.Need-sub-field-count
-sub-field-count c = omega (arith, c .before .before .before .before .if2 .left)
-
-sub-choose : tie.Need-sub-choose
-sub-choose c = omega (arith, c .before .before .before .before .before .before .if2 .left)
-
-choose-requires : tie.Need-choose-requires
-choose-requires c κs = let start = c .before .before .before .before .before .before .before .before .before .before .before .before .before .before in
-    let a = start .args in
-    let (functions, standing) = start .pre .0 in (
-      standing .stands .space,
-      (
-        omega (arith, c .before .before .before .before .before .before .before .cell-word .ensures .1),
-        part-chooses (a .file .now) (a .types .now) functions (a .work .now) (a .base) (a .cell) (a .r) (start .pre .1) (c .before .before .before .before .before .before .before .before .before .if1 .left) (c .before .before .before .before .before .before .before .cell-word .ensures .0) (c .before .before .before .before .before .before .if2 .left) standing,
-        c .before .field-count .ensures .1,
-        c .before .before .before .before .cell-word2 .ensures .1,
-        omega arith,
-      ),
-    )
-
-returns-3 : tie.Need-returns-3
-returns-3 c = let start = c .before .before .before .before .before .before .before .before .before .before .before .before .before .before .before .before .before in
-    let a = start .args in λ functions label filled.
-    part-goes (a .file .now) (a .types .now) functions (a .work .now) (a .base) (a .cell) (a .r) (start .pre .1) (c .before .before .before .before .before .before .before .before .before .before .before .before .if1 .left) (c .before .before .before .before .before .before .before .before .before .before .cell-word .ensures .0) (c .before .before .before .before .before .before .before .before .before .if2 .left)
-    (c .before .before .before .before .before .before .before .cell-word2 .ensures .0) (c .before .before .before .before .before .cell-word3 .ensures .0) (c .before .before .before .before .field-count .ensures) (c .before .before .choose .ensures (a .types .now) functions filled) label
+returns-2 c = λ functions label filled. c .before .before .inspect .ensures functions label filled
 
 pub step-part-spec : {M : Type 1} → statement M
-step-part-spec =
-    tie.close
-    (tie.spec
-    returns
-    cell-word-requires
-    (λ c. search needs)
-    returns-2
-    cell-word-requires-2
-    cell-word-requires-3
-    sub-field-count
-    (λ c κs. search needs)
-    sub-choose
-    choose-requires
-    (λ c. search needs)
-    returns-3)
+step-part-spec = tie.close (tie.spec returns (λ c κs. search needs) (λ c. search needs) returns-2)

@@ -1,4 +1,5 @@
 -- `steps::step` meets its contract: the kind tells which step is due, and a missing alternative was found.
+use Rattle.registers.specs.Stepping.{looked}
 use Rattle.registers.proofs.Which.{control-missing, control-part, control-expression}
 use Rattle.choosing.proofs.Choosing.{missing-lacks}
 use borrow.Author.Needs.{needs}
@@ -23,7 +24,7 @@ returns-3 : tie.Need-returns-3
 returns-3 c = let a = c .before .before .before .before .before .before .args in
     let r = a .r in
     let others = c .match .rest in
-    missing-lacks (a .file .now) (a .types .now) (a .functions .now) (a .work .now) (a .base) (a .label) r (control-missing (r .kind) (r .place) (r .env) (others .0 .1) (others .1))
+    looked tt (missing-lacks (a .file .now) (a .types .now) (a .functions .now) (a .work .now) (a .base) (a .label) r (control-missing (r .kind) (r .place) (r .env) (others .0 .1) (others .1)))
 
 pub step-spec : {M : Type 1} → statement M
 step-spec =

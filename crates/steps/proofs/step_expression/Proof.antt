@@ -1,7 +1,7 @@
 -- `steps::step_expression` meets its contract: the code that stands in the file is that of the expression, so each arm's step is the one that is due.
 use Prim.Native.Nat.{ℕ}
 use mathlib.Core.Path.{_≡_, refl, _∙_, sym}
-use Rattle.registers.specs.Stepping.{Ready}
+use Rattle.registers.specs.Stepping.{Ready, looked}
 use Rattle.registers.proofs.Kept.{code-known, ready-at, stepped}
 use native.Mathlib.Omega.{arith}
 use borrow.Author.Needs.{needs}
@@ -51,19 +51,19 @@ returns-2 c = let a = c .before .before .before .before .before .before .before 
 
 returns-3 : tie.Need-returns-3
 returns-3 c = let a = c .before .before .before .before .before .before .before .before .before .args in
-    stepped (a .label) (c .step-variable .ensures (a .types .now) (a .functions .now) (c .before .before .before .before .before .before .before .before .before .pre .0))
+    looked tt (stepped (a .label) (c .step-variable .ensures (a .types .now) (a .functions .now) (c .before .before .before .before .before .before .before .before .before .pre .0)))
 
 returns-4 : tie.Need-returns-4
 returns-4 c = let a = c .before .before .before .before .before .before .before .before .before .before .before .args in
-    stepped (a .label) (c .before .before .step-call .ensures (a .types .now))
+    looked tt (stepped (a .label) (c .before .before .step-call .ensures (a .types .now)))
 
 returns-5 : tie.Need-returns-5
 returns-5 c = let a = c .before .before .before .before .before .before .before .before .before .before .before .args in
-    stepped (a .label) (c .before .before .step-let .ensures (a .types .now) (a .functions .now) (c .before .before .before .before .before .before .before .before .before .before .before .pre .0))
+    looked tt (stepped (a .label) (c .before .before .step-let .ensures (a .types .now) (a .functions .now) (c .before .before .before .before .before .before .before .before .before .before .before .pre .0)))
 
 returns-6 : tie.Need-returns-6
 returns-6 c = let a = c .before .before .before .before .before .before .before .before .before .before .before .args in
-    stepped (a .label) (c .before .before .step-case .ensures (a .types .now) (a .functions .now) (c .before .before .before .before .before .before .before .before .before .before .before .pre .0))
+    looked tt (stepped (a .label) (c .before .before .step-case .ensures (a .types .now) (a .functions .now) (c .before .before .before .before .before .before .before .before .before .before .before .pre .0)))
 
 pub step-expression-spec : {M : Type 1} → statement M
 step-expression-spec =
