@@ -13,7 +13,7 @@ use native.Mathlib.Omega.{arith}
 use native.Mathlib.Nat.{not-suc-le-zero, le-of-suc-le-suc}
 use Rattle.reach.specs.Typing.{Signature, Exists, HasType, HaveTypes, Covers, signatureOf, FunctionTyped, WellTyped}
 use Rattle.reach.specs.declared.Refusal.{Refusal}
-use Rattle.reach.specs.declared.Refusal.the-variants.{OutOfRange, UnknownNumber, UnknownCode, TypeMismatch, TrailingBytes, EmptyType, DepthTooSmall, BadSpelling}
+use Rattle.reach.specs.declared.Refusal.the-variants.{OutOfRange, UnknownNumber, UnknownCode, TypeMismatch, TrailingBytes, EmptyType, BadSpelling}
 use Rattle.reach.specs.Base.{pick, Each}
 use Rattle.reach.specs.Limits.{nestingLimit}
 use Rattle.reach.specs.Syntax.{Expr, Types, Function, Program, fieldTypes, functionAt}
@@ -260,7 +260,7 @@ file-typed s i =
     (λ exist. if-found-then _ _ _ (functionsOf (o .declared) (o .declared .heads) s l)
     (functions-read (o .declared) (o .declared .heads) ((numbers-exist o exist) .1) s l)
     (λ fs m read. after-any _ _ (demand (noEmptyType (leastDepths (o .declared .types))) EmptyType s m)
-    (λ v h. after-any _ _ (demand (deepEnough (programOf o fs)) DepthTooSmall s h)
+    (λ v h. after-any _ _ (demand (deepEnough (programOf o fs)) _ s h)
     (λ w j. after-any _ _ (demand (wellSpelled o) BadSpelling s j)
     (λ x k. program-typed o fs exist (read .0) (read .1))))))))
 
