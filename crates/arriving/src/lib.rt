@@ -1,5 +1,7 @@
 // A path of the search arrives at its state and goes on to its end, or to a choice point where a case waits. Where the search stands between two moves.
 // Rests on crates registers, points and steps; the definitions also on machine and choices.
+#![tactic(auto)]
+
 ghost use Rattle.std.specs.Prelude.{◌≡◌};
 ghost use Rattle.skipping.specs.Ends.{Ends};
 ghost use Rattle.arriving.specs.Moving.{ended_walk, SomeUnderWay, Arrives};
@@ -10,7 +12,7 @@ use registers::{MISSING, Registers};
 use steps::{Halt, run_on};
 
 // Where the search stands: on a path, whose registers these are, or behind the end of one.
-#[derive(Drop)]
+#[derive(Clone, Copy)]
 pub enum Position {
     On(Registers),
     Over,
@@ -18,7 +20,7 @@ pub enum Position {
 
 // The search between two moves: whether it stands on a path or behind the end of one, the registers of the path, the cells in use,
 // the steps done, and how many choice points there are.
-#[derive(Drop)]
+#[derive(Clone, Copy)]
 pub struct Walk {
     pub going: bool,
     pub registers: Registers,
@@ -28,7 +30,7 @@ pub struct Walk {
 }
 
 // The search after the moves of a path, and what the path lists of the input in the cells at its end.
-#[derive(Drop)]
+#[derive(Clone, Copy)]
 pub struct Moved {
     pub walk: Walk,
     pub listing: PathEnd,

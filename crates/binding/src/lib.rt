@@ -1,5 +1,7 @@
 // A case of a closed run that waits on an open part: the part is bound to what the input has there, and the case goes on with it. Rests on
 // crates marks, lookups, machine, cells, registers, values and choosing.
+#![tactic(auto)]
+
 ghost use Rattle.binding.specs.Underway.{Bindable, BoundAs, SomeWaiting, Enters};
 
 use cells::bind_cell;
@@ -11,7 +13,7 @@ use registers::Registers;
 use values::{note_values, noted};
 
 // Where a case goes on with a part that was bound: the registers, and how many cells are in use.
-#[derive(Drop)]
+#[derive(Clone, Copy)]
 pub struct Entered {
     pub registers: Registers,
     pub cells: usize,

@@ -1,5 +1,7 @@
 // The third pass over a rule file: bodies. Each is checked inside its own length, and nothing follows its expression there.
 // Rests on crates typerecord, lookups and expressions.
+#![tactic(auto)]
+
 ghost use Rattle.std.specs.Prelude.{◌≡◌, ◌<◌, length, get_or};
 ghost use Rattle.typerecord.specs.Passed.{passed_of};
 ghost use Rattle.expressions.specs.Readers.{TablesSmall};
@@ -13,7 +15,7 @@ use typerecord::Passed;
 const NESTING_LIMIT: usize = 32;
 
 // The answer of the third pass: every body fits, or why the first that does not is refused.
-#[derive(Drop)]
+#[derive(Clone, Copy)]
 pub enum Judged {
     Fit,
     Refused(Refusal),

@@ -1,5 +1,7 @@
 // What the programs that run stored cases share: the parts and the numbers of a case are read from standard input, and what became of it is printed. A
 // container is cases, one behind the other. Rests on crates reach and refusals, and on the libraries io and libc.
+#![tactic(auto)]
+
 ghost use Rattle.std.specs.Prelude.{◌≤◌, ◌≡◌, length, drop};
 ghost use Rattle.io.specs.Counts.{IsPrefixLen};
 

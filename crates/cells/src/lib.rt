@@ -1,5 +1,7 @@
 // The input's cells in the lent words: a row of open cells, an open cell bound to a constructor with fresh open fields, a bound
 // cell opened again. Rests on crates marks, goal and machine.
+#![tactic(auto)]
+
 ghost use Rattle.std.specs.Prelude.{◌≡◌, ◌+◌, ◌*◌, ◌-◌, ◌≤◌, ◌<◌, length, get_or, set};
 ghost use Rattle.reach.specs.Places.{bytes_at};
 ghost use Rattle.reach.specs.Types.{slots, even_slots};

@@ -1,5 +1,7 @@
 // Runs the check on every file of a container, each behind its two-byte length, and prints a line for each: `accepted`, or
 // `refused` and the number. tests/make_boundary.py makes the container and the lines. Rests on crates cases and rulefile.
+#![tactic(auto)]
+
 use cases::{CASES, NO_PART, print, print_refused, read_part};
 use results::CheckResult;
 

@@ -1,5 +1,7 @@
 // The return to the last choice point with a constructor left: those behind it are dropped, their cells open again. Rests on crates depths, forks and
 // points; the definitions also on machine, cells and registers.
+#![tactic(auto)]
+
 ghost use Rattle.choices.specs.Returning.{Returns, SomeChoices};
 
 use depths::Depths;
@@ -8,7 +10,7 @@ use points::{candidate, reopen};
 
 // Where a return leads: to a choice point, whose next constructor has this number, this place of its fields' types and this many
 // of them; or nowhere, no choice point having a constructor left.
-#[derive(Drop)]
+#[derive(Clone, Copy)]
 pub enum Return {
     To(usize, usize, usize, usize),
     Nowhere,

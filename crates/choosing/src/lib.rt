@@ -1,5 +1,7 @@
 // The steps in which a waiting case has its value, a construction or a part of the input, and its alternative is chosen. With no case waiting that value is a
 // result, which crate turning goes on behind. Rests on crates machine, skipping, lookups and registers.
+#![tactic(auto)]
+
 ghost use Rattle.std.specs.Prelude.{◌≡◌, List, ℕ, ◌≤◌, ◌<◌};
 ghost use Rattle.machine.specs.Records.{record_word, no_case, part_in};
 ghost use Rattle.skipping.specs.Ends.{Ends};

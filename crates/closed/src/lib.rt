@@ -1,5 +1,7 @@
 // The closed run: the evaluation of a rule on one closed input, in the lent words. Parts of the input are bound when a case looks at
 // them. Rests on crates goal, rulefile, loaded, inputs, values, running and results.
+#![tactic(auto)]
+
 ghost use Rattle.closed.specs.Answering.{RunPromise};
 ghost use Rattle.closed.specs.Evaluating.{Runnable, RunsAs};
 

@@ -1,13 +1,15 @@
 // The cursor over the lent file: it carries the file and how far it has been read. Its functions are thin: each takes the struct
 // apart and calls a function on the slice and the place. `mark_at` and `mark_behind`, which take a plain slice, are what the first
 // pass calls. Rests on crate marks.
+#![tactic(auto)]
+
 ghost use Rattle.std.specs.Prelude.{◌≡◌};
 ghost use Rattle.reach.specs.RuleFile.{mark};
 ghost use Rattle.marks.specs.Found.{marked_of};
 
 use marks::{Marked, take_mark};
 
-#[derive(Drop)]
+#[derive(Clone, Copy)]
 pub struct Reader<'a> {
     pub file: &'a [u8],
     pub at: usize,

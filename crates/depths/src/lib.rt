@@ -1,6 +1,8 @@
 // The least depth of each type, that of its shallowest closed value, in an array of 32 numbers by value: filled round by round
 // until a round changes nothing. 0 stands for a type without a closed value. `types` holds the places of the types' records. Rests on
 // crates marks and lookups.
+#![tactic(auto)]
+
 ghost use Rattle.std.specs.Prelude.{◌≡◌, map, ◌≤◌, length, get_or, take, ltb};
 ghost use Rattle.reach.specs.Base.{pick};
 ghost use Rattle.reach.specs.Types.{known, inhabited, least_depths, shallow};
@@ -12,7 +14,7 @@ use lookups::constructors_of;
 use marks::byte_or_zero;
 
 // The least depths, by type number.
-#[derive(Drop)]
+#[derive(Clone, Copy)]
 pub struct Depths {
     pub of: [u8; 32],
 }
@@ -83,7 +85,7 @@ fn renewed<'a>(s: &'a [u8], types: &'a [u16], t: usize, number: u8, d: u8, table
 }
 
 // A table after a round, and whether the round changed it.
-#[derive(Drop)]
+#[derive(Clone, Copy)]
 pub struct Round {
     pub table: Depths,
     pub changed: bool,

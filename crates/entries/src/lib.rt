@@ -1,5 +1,7 @@
 // The entries of a list, read back: the entry of a given number, handed back as the part of the caller's list that it fills. No byte is copied. Rests on
 // crates reach and sizes.
+#![tactic(auto)]
+
 ghost use Rattle.std.specs.Prelude.{◌≡◌, length};
 ghost use Rattle.reach.specs.Lists.{entry_span, entry_part, room_of};
 ghost use Rattle.entries.specs.Spans.{span_of, bytes_on, part_place};
@@ -10,7 +12,7 @@ use sizes::{Size, size_at};
 const LIST_LIMIT: usize = 16777216;
 
 // Where an entry begins and how many bytes it fills, or there is none.
-#[derive(Drop)]
+#[derive(Clone, Copy)]
 pub enum Span {
     At(usize, usize),
     NoEntry,

@@ -1,5 +1,7 @@
 // The loop of a search: path after path while one is under way or a choice point is left, what each path lists written to the lent list, and the
 // verdict. Rests on crates depths, registers, arriving, moves, listing, verdicts and results.
+#![tactic(auto)]
+
 ghost use Rattle.std.specs.Prelude.{◌≡◌, ◌≤◌, length};
 ghost use Rattle.skipping.specs.Ends.{Ends};
 ghost use Rattle.exploring.specs.Exploring.{first_walk, GoesOn, ListableAs, WroteAs, SomeBegins, Explores};

@@ -1,5 +1,7 @@
 // The check of an expression, that of its operands and that of its alternatives, which call each other; the nesting that is left falls. Records of types
 // and functions are looked at where the first pass found them. Rests on crates marks, typerecord and lookups.
+#![tactic(auto)]
+
 ghost use Rattle.std.specs.Prelude.{◌≡◌, [], ◌∷◌, ◌++◌, ◌+◌, ◌≤◌};
 ghost use Rattle.reach.specs.Places.{bytes_at, constructors_at};
 ghost use Rattle.typerecord.specs.Passed.{passed_of};
@@ -13,7 +15,7 @@ use typerecord::Passed;
 const VIEW_LIMIT: usize = 32;
 
 // The types of the variables in view. A view beyond the limit is refused at the next expression, so 6 more are enough.
-#[derive(Drop)]
+#[derive(Clone, Copy)]
 pub struct View {
     pub types: [u8; 40],
     pub count: usize,

@@ -1,4 +1,6 @@
 // A value for each slot, at most as deep as the slot allows, and how deep the deepest is. Rests on crates marks, goal, rows and partials.
+#![tactic(auto)]
+
 ghost use Rattle.std.specs.Prelude.{◌≡◌, ◌≤◌};
 ghost use Rattle.reach.specs.Places.{bytes_at};
 ghost use Rattle.rows.specs.Values.{of_row, slots_at};

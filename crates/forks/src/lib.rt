@@ -1,12 +1,14 @@
 // The next constructor that a fork takes, found in a rule file whose records stand at known places: `types` holds the places of the types'
 // records. Rests on crates lookups and depths.
+#![tactic(auto)]
+
 ghost use Rattle.forks.specs.Untried.{NextFork};
 
 use depths::{Depths, all_shallow};
 use lookups::{Fields, fields_of};
 
 // The constructor that a fork takes next: its number, where its fields' types stand, and how many there are; or none is left.
-#[derive(Drop)]
+#[derive(Clone, Copy)]
 pub enum Candidate {
     Take(usize, usize, usize),
     NoMore,

@@ -1,4 +1,6 @@
 // What follows the mark FN, at a place of the lent bytes: a function's head, and its body passed over. Rests on crates marks and typerecord.
+#![tactic(auto)]
+
 ghost use Rattle.std.specs.Prelude.{◌≡◌};
 ghost use Rattle.reach.specs.RuleFile.{function_record};
 ghost use Rattle.typerecord.specs.Passed.{passed_of, body_part};

@@ -1,5 +1,7 @@
 // The goal of a rule file by value: what it asks for, looked up at the place of its record, and the type that NA names. No other crate reads
 // these bytes of a file that was read. Rests on crate marks.
+#![tactic(auto)]
+
 ghost use Rattle.std.specs.Prelude.{◌≡◌, ◌+◌, ◌≤◌, get_or};
 ghost use Rattle.reach.specs.Places.{goal_at};
 ghost use Rattle.goal.specs.Goals.{goal_of};
@@ -7,7 +9,7 @@ ghost use Rattle.goal.specs.Goals.{goal_of};
 use marks::byte_or_zero;
 
 // What the goal asks for: the source, the label, a depth for each parameter that the source may have, and S.
-#[derive(Drop)]
+#[derive(Clone, Copy)]
 pub struct Goal {
     pub source: usize,
     pub label: usize,
@@ -16,7 +18,7 @@ pub struct Goal {
 }
 
 // The type whose values are names, if NA names one.
-#[derive(Drop)]
+#[derive(Clone, Copy)]
 pub enum Named {
     Nothing,
     Type(usize),

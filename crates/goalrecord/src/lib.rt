@@ -1,4 +1,6 @@
 // What follows the mark GO, at a place of the lent bytes. Rests on crates marks and typerecord.
+#![tactic(auto)]
+
 ghost use Rattle.std.specs.Prelude.{◌≡◌};
 ghost use Rattle.reach.specs.RuleFile.{goal_record};
 ghost use Rattle.typerecord.specs.Passed.{passed_of, limits_part};

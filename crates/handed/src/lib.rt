@@ -1,5 +1,7 @@
 // Whether a list that is handed in is whole entries that fit its rule file: refusal 14.
 // Rests on crates lookups, goal, depths, sizes, rows and fitting.
+#![tactic(auto)]
+
 ghost use Rattle.std.specs.Prelude.{◌≡◌, ◌+◌};
 ghost use Rattle.std.proofs.Math.Option.{some};
 ghost use Rattle.reach.specs.Lists.{entry_size};

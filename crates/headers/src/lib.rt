@@ -1,4 +1,6 @@
 // The header of an entry of the search's list: its mark, its steps, and how many bytes follow. Rests on crate reach.
+#![tactic(auto)]
+
 ghost use Rattle.std.specs.Prelude.{◌≡◌, [], ◌∷◌, ◌++◌, ◌+◌, ◌≤◌, length, get_or};
 ghost use Rattle.std.proofs.lemmas.List.Edits.{sets};
 ghost use Rattle.reach.specs.Lists.{word_bytes, kind_bytes};

@@ -1,5 +1,7 @@
 // The depth of a closed input: its values read one after another, one for each parameter of the source, and nothing behind them. Rests on crates
 // lookups, goal, rows and fitting.
+#![tactic(auto)]
+
 ghost use Rattle.std.specs.Prelude.{◌≡◌};
 ghost use Rattle.inputs.specs.Depth.{reading_of, input_at};
 
@@ -9,7 +11,7 @@ use lookups::head_of;
 use rows::Measured;
 
 // What an input is: as deep as its deepest parameter, 0 without parameters; or it does not fit.
-#[derive(Drop)]
+#[derive(Clone, Copy)]
 pub enum Reading {
     Deep(usize),
     Misfit,

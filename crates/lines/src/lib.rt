@@ -1,5 +1,7 @@
 // The lines of a printed text, each written into a lent slice: the line of an entry, the total line, the line of a refusal. Rests on crates sizes,
 // words, refusals and writing.
+#![tactic(auto)]
+
 ghost use Rattle.std.specs.Prelude.{map, ◌+◌, ◌*◌, ◌≤◌, ◌<◌, length, drop};
 ghost use Rattle.reach.specs.Lists.{decoded};
 ghost use Rattle.lists.specs.Text.{spaced, part_word, line_saying, total_line, refusal_line, last_line};

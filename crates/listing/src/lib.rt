@@ -1,5 +1,7 @@
 // One entry of the search's list, written from the input's cells in the lent words, only where it fits whole. Rests on crates
 // reach, lookups, machine and headers.
+#![tactic(auto)]
+
 ghost use Rattle.std.specs.Prelude.{◌≤◌, length};
 ghost use Rattle.listing.specs.Rows.{RowFits, WroteRow};
 ghost use Rattle.listing.specs.Entry.{Listable, WroteEntry};
@@ -13,7 +15,7 @@ use reach::Kind;
 const OPEN: u8 = 0xFF;
 
 // The place behind the entry, or it does not fit.
-#[derive(Drop)]
+#[derive(Clone, Copy)]
 pub enum Written {
     Behind(usize),
     Full,

@@ -1,5 +1,7 @@
 // What a loaded rule file gives both runs: its tables, its goal and the bounds of its numbers, which are laws alone, and the beginning of a
 // run. Rests on crates goal, rulefile, lookups, machine, cells and registers.
+#![tactic(auto)]
+
 ghost use Rattle.std.specs.Prelude.{◌≡◌, ◌+◌, ◌*◌, ◌≤◌, length};
 ghost use Rattle.loaded.specs.Beginning.{Opened, start_registers};
 

@@ -1,5 +1,7 @@
 // Lookups in a rule file whose records stand at known places: the entry of a table of places, what the record of a function says,
 // where the constructors of a type stand, where the fields of a constructor do and how many there are. Rests on crate marks.
+#![tactic(auto)]
+
 ghost use Rattle.std.specs.Prelude.{◌≡◌, ℕ, ◌≤◌, get_or};
 ghost use Rattle.std.proofs.Math.ListN.{get_elem?};
 ghost use Rattle.reach.specs.Places.{constructors_at, type_at, head_at};
@@ -9,7 +11,7 @@ ghost use Rattle.lookups.specs.Heads.{head_of, NearHead, NearType};
 use marks::byte_or_zero;
 
 // Where the fields of a constructor stand, and how many there are.
-#[derive(Drop)]
+#[derive(Clone, Copy)]
 pub enum Fields {
     At(usize, usize),
     Unknown,
@@ -17,7 +19,7 @@ pub enum Fields {
 
 // What the record of a function says: where its parameters' types stand and how many there are, its result's type, and where its
 // body stands and how many bytes it has.
-#[derive(Drop)]
+#[derive(Clone, Copy)]
 pub struct Head {
     pub parameters: usize,
     pub count: usize,
@@ -27,7 +29,7 @@ pub struct Head {
 }
 
 // Where the constructors of a type stand, and how many there are.
-#[derive(Drop)]
+#[derive(Clone, Copy)]
 pub struct Constructors {
     pub at: usize,
     pub count: usize,

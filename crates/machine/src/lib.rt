@@ -1,5 +1,7 @@
 // The machine: environments, waiting cases and input cells in the lent words. Definitions and laws, where the parts of the words begin, and the
 // reading and writing of words: one word, a word of a record or of a cell, and the record at the top. Rests on crate reach's definitions.
+#![tactic(auto)]
+
 ghost use Rattle.std.specs.Prelude.{◌≡◌, ◌+◌, ◌*◌, ◌≤◌, ◌<◌, length, get_or};
 ghost use Rattle.reach.specs.Limits.{step_limit, work_words};
 ghost use Rattle.machine.specs.Layout.{records_at, choices_at};

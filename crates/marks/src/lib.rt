@@ -1,26 +1,28 @@
 // Bytes, two-byte numbers and marks at a place of lent bytes. Every function that takes one is a reader of crate reach
 // (specs/Reader.antt, specs/RuleFile.antt). Rests on crate reach.
+#![tactic(auto)]
+
 ghost use Rattle.std.specs.Prelude.{◌≡◌, ◌&&◌, eqb, get_or};
 ghost use Rattle.reach.specs.Reader.{byte, word};
 ghost use Rattle.reach.specs.RuleFile.{mark, mark_number, same_mark};
 ghost use Rattle.marks.specs.Found.{taken_of, word_of, mark_named, mark_read, marked_of};
 
 // A byte and the place behind it, or none is left.
-#[derive(Drop)]
+#[derive(Clone, Copy)]
 pub enum Taken {
     Byte(u8, usize),
     Short,
 }
 
 // A two-byte number and the place behind it, or too few bytes are left.
-#[derive(Drop)]
+#[derive(Clone, Copy)]
 pub enum TakenWord {
     Word(usize, usize),
     Short,
 }
 
 // The mark of a record.
-#[derive(Drop)]
+#[derive(Clone, Copy)]
 pub enum Mark {
     Type,
     Function,
@@ -30,7 +32,7 @@ pub enum Mark {
 }
 
 // A mark and the place behind it, or too few bytes are left.
-#[derive(Drop)]
+#[derive(Clone, Copy)]
 pub enum Marked {
     Mark(Mark, usize),
     Short,

@@ -1,6 +1,8 @@
 // The moves of the search: a step of the path under way, a fork to its first constructor, or a return to the last choice point with
 // a constructor left, taking it. One call makes the moves of a path up to its end. Rests on crates depths, registers,
 // cells, choosing, points, choices and arriving.
+#![tactic(auto)]
+
 ghost use Rattle.std.specs.Prelude.{◌≡◌, false, ◌≤◌};
 ghost use Rattle.skipping.specs.Ends.{Ends};
 ghost use Rattle.arriving.specs.Moving.{position_of, SomeForking, Takes, Active, Resumable, Resumes, SearchStands, Moves};

@@ -1,5 +1,7 @@
 // The lines of the names of a list: of each entry, those of its parameters of the named type, in their order. Rests on crates marks, lookups, rows,
 // partials, goal, rulefile, sizes, lines and naming.
+#![tactic(auto)]
+
 ghost use Rattle.std.specs.Prelude.{◌≡◌, [], map, ◌≤◌, ◌<◌, length, drop, eqb};
 ghost use Rattle.reach.specs.Base.{pick};
 ghost use Rattle.reach.specs.Places.{type_at};
@@ -22,7 +24,7 @@ use rulefile::{Loaded, load};
 use sizes::{Size, size_at};
 
 // What is asked of the parameters: where their types stand in the file, how many there are, and the type whose values are names.
-#[derive(Drop)]
+#[derive(Clone, Copy)]
 pub struct Asked {
     pub parameters: usize,
     pub count: usize,

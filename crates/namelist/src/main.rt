@@ -1,4 +1,6 @@
 // The program `namelist`: reads a rule file from standard input and prints the names of its list. Its buffers are those that `program_names` takes.
+#![tactic(auto)]
+
 use libc::{STDIN_FILENO, STDOUT_FILENO};
 use namereport::program_names;
 

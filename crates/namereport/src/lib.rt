@@ -1,5 +1,7 @@
 // The text that the program `namelist` prints for a rule file: the search in lent slices, and the names of the entries that it listed; and the same with the
 // buffers of that program, which are those of `reachlist`. Rests on crates results, search, printing, namelines and reporting.
+#![tactic(auto)]
+
 ghost use Rattle.std.specs.Prelude.{◌≤◌, length};
 ghost use Rattle.names.specs.NameList.{names_text};
 ghost use Rattle.reporting.specs.Answers.{Reports, program_page, Prints};

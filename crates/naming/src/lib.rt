@@ -1,5 +1,7 @@
 // The line of a name, written into a lent slice: its Latin-1 bytes, then its UTF-8 bytes, in decimal. The name stands in prefix form in a list, and what is
 // open in it is filled with constructor 0. Rests on crates marks, writing and utf8.
+#![tactic(auto)]
+
 ghost use Rattle.std.specs.Prelude.{◌≡◌, ◌≤◌, ◌<◌, length, drop};
 ghost use mathlib.Core.List.{map, flat_map};
 ghost use Rattle.lists.specs.Text.{spaced, decimal};

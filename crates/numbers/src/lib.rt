@@ -1,6 +1,8 @@
 // The second pass over a rule file: the type and function numbers in TY, FN heads, NA and GO all exist. The records are looked at
 // where the first pass found them: `types` and `functions` hold the places behind the marks. Rests on crates
 // marks, lookups and goal.
+#![tactic(auto)]
+
 ghost use Rattle.std.specs.Prelude.{◌≡◌, ◌≤◌, map, ltb};
 ghost use Rattle.reach.specs.RuleFile.{all_below, constructors_exist, types_exist, heads_exist, if_named, numbers_exist};
 ghost use Rattle.reach.specs.Places.{bytes_at, constructors_at, type_at, head_at, outline_at};

@@ -2,6 +2,8 @@
 // records of types and functions stand, the type that NA names, and the goal. Every mark is read through the cursor: the first where
 // the file begins, each other one where the record before it ends; the one behind the last function, NA or GO, is left by the
 // functions and read again. Rests on crates marks, cursor, turns, typerecord, functionrecord, goalrecord and goal.
+#![tactic(auto)]
+
 ghost use Rattle.std.specs.Prelude.{◌≡◌, ℕ, ◌≤◌, length};
 ghost use Rattle.reach.specs.Limits.{type_limit, function_limit};
 ghost use Rattle.reach.specs.RuleFile.{name_record, naming, outline};
@@ -23,7 +25,7 @@ const TYPE_LIMIT: usize = 32;
 const FUNCTION_LIMIT: usize = 64;
 
 // The types: how far they go, how many there are, and where each one's record stands behind its mark.
-#[derive(Drop)]
+#[derive(Clone, Copy)]
 pub struct TypeTable {
     pub step: Passed,
     pub count: usize,
@@ -31,7 +33,7 @@ pub struct TypeTable {
 }
 
 // The functions, likewise.
-#[derive(Drop)]
+#[derive(Clone, Copy)]
 pub struct FunctionTable {
     pub step: Passed,
     pub count: usize,
@@ -39,14 +41,14 @@ pub struct FunctionTable {
 }
 
 // What stands between the functions and the goal: how far it goes, and the type that NA names.
-#[derive(Drop)]
+#[derive(Clone, Copy)]
 pub struct Naming {
     pub step: Passed,
     pub named: Named,
 }
 
 // A file as the first pass leaves it.
-#[derive(Drop)]
+#[derive(Clone, Copy)]
 pub struct Outlined {
     pub step: Passed,
     pub types: usize,

@@ -1,5 +1,7 @@
 // The numbers that the calls for C answer with, each of what the call inside handed back; specs/Packing.antt defines them. Rests on the enums of crates
 // reach and results, on the span of crate entries, and on the numbers of the refusals.
+#![tactic(auto)]
+
 ghost use Rattle.std.specs.Prelude.{◌≡◌, ◌≤◌};
 ghost use Rattle.reach.specs.Words.{steps_of};
 ghost use Rattle.results.specs.Results.{check_result, search_result, list_length_in, run_result, text_result, text_length_in};

@@ -1,5 +1,7 @@
 // Reading values where they stand, partial or closed ones: of given types, in prefix form, with the place behind them and how deep the deepest is. `least` is
 // the table of the types' least depths, or empty: then nothing may be open, and the values are closed. Rests on crates marks and rows.
+#![tactic(auto)]
+
 ghost use Rattle.std.specs.Prelude.{◌≡◌, ◌≤◌};
 ghost use Rattle.rows.specs.Values.{of_value, value_at, DeepAtMost};
 ghost use Rattle.rows.specs.Stack.{Low, of_rest};

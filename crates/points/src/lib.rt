@@ -1,5 +1,7 @@
 // A choice point in the lent words, above the records: made where a case waits on an open part; its cell opened again; the next constructor to which
 // its cell is bound. Rests on crates machine, cells, depths and forks.
+#![tactic(auto)]
+
 ghost use Rattle.std.specs.Prelude.{◌≡◌, ◌+◌, ◌*◌, ◌≤◌, ◌<◌, length};
 ghost use Rattle.points.specs.Points.{choice_word, reopened, Pushes, NextForkAt};
 

@@ -1,4 +1,6 @@
 // The printed text of a list, written into a lent slice: the lines of its entries, and its last line. Rests on crates entries, sizes and lines.
+#![tactic(auto)]
+
 ghost use Rattle.std.specs.Prelude.{◌≡◌, ◌≤◌, length};
 ghost use Rattle.reach.specs.Search.{one_more};
 ghost use Rattle.reach.specs.Lists.{decoded_from};

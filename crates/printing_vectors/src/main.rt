@@ -2,6 +2,8 @@
 // the search ended in 12, a rule file and a list that is handed in with it, and the three-byte length of a text slice. Files and lists stand behind their
 // two-byte lengths. Of a list that is handed in the answers of both calls are printed, and the whole slice, which held dots. tests/make_texts.py makes the
 // container and what is printed. Rests on crates cases, printing and printout.
+#![tactic(auto)]
+
 use cases::{
     BYTES, CASES, NO_BYTE, bytes, least, print, print_number, print_refused, print_text, read_byte,
     read_number, read_part,

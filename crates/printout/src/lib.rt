@@ -1,5 +1,7 @@
 // The printed text of a list that is handed in with its rule file: its length, and the text itself, written into a lent slice. Both calls test the rule file
 // first, then the list (refusal 14), and the writer then its slice (13), before it writes. Rests on crates rulefile, depths, handed, printing and results.
+#![tactic(auto)]
+
 ghost use Rattle.printout.specs.Answering.{Judges, LengthPromise, WritePromise};
 
 use depths::Depths;

@@ -2,8 +2,10 @@
 // specs/Words.antt says which number or word of the papers each case is. There is no code in this crate: the rest of it is definitions
 // (specs/) and what is proved of them (proofs/).
 
+#![tactic(auto)]
+
 // Why a call gave no result. The comments give the word of the papers' table.
-#[derive(Drop)]
+#[derive(Clone, Copy)]
 pub enum Refusal {
     // 1, "short"
     Truncated,
@@ -38,7 +40,7 @@ pub enum Refusal {
 }
 
 // How the evaluation of a closed input ends, with the steps that it took.
-#[derive(Drop)]
+#[derive(Clone, Copy)]
 pub enum Outcome {
     Reached(u16),
     Ended(u16),
@@ -47,7 +49,7 @@ pub enum Outcome {
 }
 
 // The kind of an entry, named by its mark: the path reaches the target, its steps are used up, or a case has no alternative.
-#[derive(Drop)]
+#[derive(Clone, Copy)]
 pub enum Kind {
     RE,
     UN,
@@ -55,14 +57,14 @@ pub enum Kind {
 }
 
 // What a path lists at its end: nothing, or an entry of this kind.
-#[derive(Drop)]
+#[derive(Clone, Copy)]
 pub enum PathEnd {
     Unlisted,
     Listed(Kind),
 }
 
 // How many entries of each kind there are.
-#[derive(Drop)]
+#[derive(Clone, Copy)]
 pub struct Counts {
     pub reach: u64,
     pub unfinished: u64,
@@ -70,7 +72,7 @@ pub struct Counts {
 }
 
 // What a complete list says of its rule file.
-#[derive(Drop)]
+#[derive(Clone, Copy)]
 pub enum Verdict {
     Found,
     Undecided,

@@ -1,4 +1,6 @@
 // The program `reachlist`: reads a rule file from standard input and prints its text. Its buffers are those that `program_text` takes.
+#![tactic(auto)]
+
 use libc::{STDIN_FILENO, STDOUT_FILENO};
 use report::program_text;
 

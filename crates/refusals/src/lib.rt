@@ -1,4 +1,6 @@
 // The numbers of the refusals. Rests on crate reach.
+#![tactic(auto)]
+
 ghost use Rattle.std.specs.Prelude.{◌≡◌};
 ghost use Rattle.reach.specs.Words.{number_of};
 

@@ -1,6 +1,8 @@
 // The registers of the evaluation, what comes next, and an alternative; specs/Stepping says what the registers and the lent words stand for, and
 // what a step is. The definitions rest on crates machine and skipping.
 
+#![tactic(auto)]
+
 // The kinds of what is being evaluated: nothing, an alternative being missing; the part of the input in the cell `place`; the expression at that
 // place of the file in an environment's record. (Numbers and no enum: the loop of a search carries them around, and copying an enum there
 // costs more than a step.)
@@ -14,7 +16,7 @@ pub const EXPRESSION: usize = 2;
 pub const NO_CASE: usize = 1000000;
 
 // The registers: what is being evaluated, the number of the innermost frame, and how many records there are.
-#[derive(Drop)]
+#[derive(Clone, Copy)]
 pub struct Registers {
     pub kind: usize,
     pub place: usize,
@@ -25,7 +27,7 @@ pub struct Registers {
 
 // What comes next: the sought target is demanded, a case has no alternative, the end, one step to other registers, or a case waits on the open part
 // in a cell.
-#[derive(Drop)]
+#[derive(Clone, Copy)]
 pub enum Next {
     Demands,
     Lacks,
@@ -35,7 +37,7 @@ pub enum Next {
 }
 
 // An alternative: none, or the place of its expression.
-#[derive(Drop)]
+#[derive(Clone, Copy)]
 pub enum Alternative {
     Absent,
     Present(usize),

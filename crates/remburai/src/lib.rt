@@ -2,6 +2,8 @@
 // total line, and the names in it. Each answers with one number, that of crate packing for what the call inside hands back, and promises what
 // specs/Answering.antt says; the share answers with itself, and the names with the length of their text, of which they promise what crate reporting says.
 // include/remburai.h has the numbers for C. Rests on crates rulefile, search, closed, entries, printout, words, namereport and packing.
+#![tactic(auto)]
+
 ghost use Rattle.std.specs.Prelude.{◌≡◌};
 ghost use Rattle.lists.specs.Share.{share};
 ghost use Rattle.names.specs.NameList.{names_text};

@@ -1,5 +1,7 @@
 // The text that the program `reachlist` prints for a rule file: the search in lent slices, and the text of its answer; and the same with the buffers of
 // that program. Rests on crates results, search, printing and reporting.
+#![tactic(auto)]
+
 ghost use Rattle.std.specs.Prelude.{◌≤◌, length};
 ghost use Rattle.reporting.specs.Answers.{Reports, program_page, Prints};
 ghost use Rattle.report.specs.Answers.{report_text};

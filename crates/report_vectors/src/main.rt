@@ -1,6 +1,8 @@
 // Prints what `reachlist` prints and then what `namelist` prints for every rule file of a container, each behind its three-byte length, and a line `end` behind
 // each text. Of a longer file the first 16,385 bytes are handed on, as those programs do. tests/make_reachlist.py makes the container and the texts. Rests on
 // crates cases, report and namereport.
+#![tactic(auto)]
+
 use cases::{BYTES, CASES, NO_NUMBER, bytes, least, print, read_bytes, read_number};
 use namereport::program_names;
 use report::program_text;

@@ -1,5 +1,7 @@
 // What the reports of a rule file have in common: what is promised of a text that is written of a search, and of a program that prints one. Rests on crates
 // search, writing and printing.
+#![tactic(auto)]
+
 ghost use Rattle.reporting.specs.Answers.{FirstBytes};
 
 // The buffers of a program: the words of its work slice, the bytes of its list slice, those of its text slice, which holds every text of such a list, and

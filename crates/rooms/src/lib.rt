@@ -1,5 +1,7 @@
 // Whether each parameter of a function has a closed value that is at most as deep as the parameter may be: the test of refusal 9. Rests on crates goal and
 // depths.
+#![tactic(auto)]
+
 ghost use Rattle.std.specs.Prelude.{◌≡◌, ◌≤◌};
 ghost use Rattle.reach.specs.Types.{slots, roomy};
 ghost use Rattle.reach.specs.Places.{bytes_at};

@@ -1,5 +1,7 @@
 // Rows of values that are being read, and the first byte of a value: what it says, and how deep an open part is. `least` is the table of the types' least
 // depths, or empty: then nothing may be open, and the values are closed. Rests on crates marks and lookups.
+#![tactic(auto)]
+
 ghost use Rattle.std.specs.Prelude.{◌≡◌, max, ◌≤◌, ◌<◌};
 ghost use Rattle.rows.specs.Values.{of_value, of_open, manner_of, value_at, DeepAtMost};
 ghost use Rattle.rows.specs.Stack.{past_of, of_first, NearFirst};
@@ -8,7 +10,7 @@ use lookups::{Fields, fields_of};
 use marks::{Taken, byte_or_zero, take_byte, wide};
 
 // What was read: the place behind it, and how deep it is; or the bytes are not what they should be.
-#[derive(Drop)]
+#[derive(Clone, Copy)]
 pub enum Measured {
     At(usize, usize),
     Bad,
@@ -33,7 +35,7 @@ pub fn open_part(least: &[u8], t: usize, next: usize) -> Measured
 }
 
 // A row of values that is being read: where the type of the next one stands, how many are left, and how deep the deepest before is.
-#[derive(Drop)]
+#[derive(Clone, Copy)]
 pub struct Row {
     pub field: u32,
     pub more: u8,
@@ -60,7 +62,7 @@ pub fn past(row: Row, one: usize) -> Row
 
 // What the first byte of a value says. An open part: the place behind it, and how deep it is. A constructor: the place behind its number, and the row of its
 // fields. Or there is no such value.
-#[derive(Drop)]
+#[derive(Clone, Copy)]
 pub enum First {
     Part(usize, usize),
     Node(usize, Row),

@@ -2,6 +2,8 @@
 // the one refusal of 1 to 9 or 15; `load` also hands on what later layers need of an accepted file: the places of its types and functions,
 // the type that NA names, its goal by value and the least depths. Rests on crates typerecord, outline, numbers, bodies, depths, rooms,
 // spelling, lookups, goal and results.
+#![tactic(auto)]
+
 ghost use Rattle.std.specs.Prelude.{◌≡◌};
 ghost use Rattle.goal.specs.Goals.{goal_of, named_of};
 ghost use Rattle.rulefile.specs.Answering.{CheckPromise};
@@ -23,7 +25,7 @@ const FILE_LIMIT: usize = 16384;
 
 // A file as the check leaves it. Where it is accepted: how many types and functions there are and where their records stand
 // behind their marks, the type that NA names, what the goal asks for, and the least depth of each type.
-#[derive(Drop)]
+#[derive(Clone, Copy)]
 pub struct Loaded {
     pub answer: CheckResult,
     pub types: usize,

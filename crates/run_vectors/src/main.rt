@@ -1,5 +1,7 @@
 // Runs the closed run on every case of a container and prints a line for each: how it ended, after how many steps, and how deep the input is, or
 // `refused` and the number. tests/make_runs.py makes the container and the lines. Rests on crates cases and closed.
+#![tactic(auto)]
+
 ghost use Rattle.std.specs.Prelude.{◌≤◌, length};
 
 use cases::{

@@ -1,5 +1,7 @@
 // The loop of a closed run: steps one after the other; where a case waits on an open part, the part is bound to what the input has there and the case
 // goes on with it. Rests on crates steps and binding.
+#![tactic(auto)]
+
 ghost use Rattle.std.specs.Prelude.{◌≤◌};
 ghost use Rattle.skipping.specs.Ends.{Ends};
 ghost use Rattle.running.specs.Running.{RunBegins, EndsAs};

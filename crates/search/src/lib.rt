@@ -1,6 +1,8 @@
 // The search of a rule file for the partial inputs that reach the target, by lazy narrowing: depth first, in moves, over one path
 // with a stack of choice points, all of it in the lent words; entries are written to the lent list. Rests on crates goal, rulefile,
 // loaded, lookups, machine, skipping, exploring and results.
+#![tactic(auto)]
+
 ghost use Rattle.search.specs.Answering.{SearchPromise};
 ghost use Rattle.search.specs.Searching.{SomeSearchable, ExploresThem};
 

@@ -1,5 +1,7 @@
 // Runs the search on every case of a container and prints two lines for each: the answer, then the bytes of the list with what became
 // of the rest of the lent slices. tests/make_searches.py makes the container and the lines, and says what stands in them. Rests on crates cases and search.
+#![tactic(auto)]
+
 use cases::{
     BYTES, CASES, NO_PART, WORDS, bytes, bytes_kept, least, low_first, print, print_bytes,
     print_kept, print_number, print_refused, print_verdict, read_number, read_part, words,

@@ -1,4 +1,6 @@
 // An entry at a place of a list: its kind by its mark, its two numbers, and how many bytes it fills. Rests on crates reach and marks.
+#![tactic(auto)]
+
 ghost use Rattle.std.specs.Prelude.{◌≡◌, ◌+◌, ◌≤◌, ◌<◌, length};
 ghost use Rattle.reach.specs.Places.{word_at};
 ghost use Rattle.reach.specs.Lists.{kind_of, known_mark, kind_at, entry_size};
@@ -8,14 +10,14 @@ use marks::{is_mark, wide};
 use reach::Kind;
 
 // The kind whose mark two bytes are, or they are none.
-#[derive(Drop)]
+#[derive(Clone, Copy)]
 pub enum Found {
     Known(Kind),
     Unknown,
 }
 
 // How many bytes the entry at a place fills, or none stands there.
-#[derive(Drop)]
+#[derive(Clone, Copy)]
 pub enum Size {
     Bytes(usize),
     NoEntry,

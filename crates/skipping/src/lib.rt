@@ -1,6 +1,8 @@
 // The table of the ends of expressions: an entry for each place of a rule file. Where an expression stands, its entry is the place
 // behind it. The table is filled once, from the last place to the first, each entry from entries behind it. Rests on crates marks
 // and lookups; the definitions also on machine.
+#![tactic(auto)]
+
 ghost use Rattle.std.specs.Prelude.{◌≡◌, max, ◌+◌, ◌≤◌, ◌<◌, length};
 ghost use Rattle.skipping.specs.Ends.{passed_operands, passed_alternative, passed_alternatives, Ends, EndAt, EndsFrom};
 

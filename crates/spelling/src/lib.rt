@@ -1,6 +1,8 @@
 // The test of refusal 15: the type that NA names has the form of names. It has two constructors, 0 without fields and 1 with three: two halves of a
 // byte, which are types with sixteen constructors without fields, and the named type. `types` holds the places of the types' records. Rests on crates
 // marks and lookups.
+#![tactic(auto)]
+
 ghost use Rattle.std.specs.Prelude.{◌≡◌, map, ◌≤◌};
 ghost use Rattle.reach.specs.Names.{is_half};
 ghost use Rattle.reach.specs.Places.{constructors_at, type_at};

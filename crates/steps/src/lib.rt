@@ -1,5 +1,7 @@
 // The evaluation in the lent words: one step, and steps one after the other. Records of environments, of waiting cases and of waiting fields are added at
 // the top and never changed; expressions are read where they stand in the file. Rests on crates registers, unfolding, choosing and turning.
+#![tactic(auto)]
+
 ghost use Rattle.std.specs.Prelude.{◌≡◌};
 ghost use Rattle.machine.specs.Records.{expression_at};
 ghost use Rattle.skipping.specs.Ends.{Ends};
@@ -14,7 +16,7 @@ use unfolding::{step_call, step_case, step_let, step_target, step_variable};
 
 // What steps one after the other come to: the sought target is demanded, a case has no alternative, the end, a step where none is left, or a case waits on
 // the open part in a cell.
-#[derive(Drop)]
+#[derive(Clone, Copy)]
 pub enum Halt {
     Demands,
     Lacks,
@@ -24,7 +26,7 @@ pub enum Halt {
 }
 
 // Where they led: the registers, what they come to there, and how many steps were made.
-#[derive(Drop)]
+#[derive(Clone, Copy)]
 pub struct Ran {
     pub registers: Registers,
     pub halt: Halt,

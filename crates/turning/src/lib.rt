@@ -1,5 +1,7 @@
 // Results: a construction or a part of the input with no case waiting (000, section 3.4; 02, Slip 7). The fields of a construction are turned to, from left to
 // right, each as a result in its turn; then the next field that waits. A part of the input is not gone into. Rests on crates machine, lookups and registers.
+#![tactic(auto)]
+
 ghost use Rattle.std.specs.Prelude.{◌≡◌, List, ℕ, ◌*◌, ◌≤◌, ◌<◌};
 ghost use Rattle.machine.specs.Records.{no_case, FrameBelow};
 ghost use Rattle.registers.specs.Stepping.{Space, Standing, Result, SteppedBy, TurnedBy};

@@ -1,4 +1,6 @@
 // The turns of the first pass: what the mark behind a record calls for. Every mark is read through the cursor. Rests on crates marks, cursor and typerecord.
+#![tactic(auto)]
+
 ghost use Rattle.std.specs.Prelude.{◌≡◌};
 ghost use Rattle.reach.specs.RuleFile.{more_types, more_functions, goal_mark};
 ghost use Rattle.typerecord.specs.Passed.{passed_of};
@@ -10,7 +12,7 @@ use reach::Refusal;
 use typerecord::Passed;
 
 // What the mark behind a record calls for: one more record of its kind, the next kind, or a refusal.
-#[derive(Drop)]
+#[derive(Clone, Copy)]
 pub enum Turn {
     Again(usize),
     Done(usize),

@@ -1,5 +1,7 @@
 // The records of a rule file at a place of the lent bytes: bytes passed over, and what follows the mark TY. Every function is a reader of crate reach
 // (specs/Reader.antt, specs/RuleFile.antt), its value forgotten where only the place behind it matters. Rests on crate marks.
+#![tactic(auto)]
+
 ghost use Rattle.std.specs.Prelude.{◌≡◌};
 ghost use Rattle.reach.specs.Reader.{byte, times, passed};
 ghost use Rattle.reach.specs.RuleFile.{constructor_record, type_record};
@@ -14,7 +16,7 @@ const FIELD_LIMIT: usize = 6;
 const CONSTRUCTOR_LIMIT: usize = 16;
 
 // The place behind what was read, or why it was not read.
-#[derive(Drop)]
+#[derive(Clone, Copy)]
 pub enum Passed {
     Next(usize),
     Refused(Refusal),

@@ -1,5 +1,7 @@
 // The steps of the expressions that look at no value: a variable, a call, a case that turns to its scrutinee, a let, a target. Rests on crates
 // machine, skipping, lookups and registers.
+#![tactic(auto)]
+
 ghost use Rattle.std.specs.Prelude.{◌≡◌, List, ℕ, ◌≤◌, ◌<◌};
 ghost use Rattle.machine.specs.Walks.{outside_of};
 ghost use Rattle.registers.specs.Stepping.{Standing, Ready, Leads, LeadsBy, Looked, VariableThere, Group};

@@ -1,5 +1,7 @@
 // The UTF-8 of the Latin-1 bytes, as a table. An entry is the first byte of an encoding plus 256 times the second, which is 0 where there is none.
 // Rests on the definitions of crate names.
+#![tactic(auto)]
+
 ghost use Rattle.std.specs.Prelude.{◌≡◌, ◌<◌};
 ghost use Rattle.names.specs.NameList.{utf8};
 ghost use Rattle.utf8.specs.Encodings.{encoding_bytes};

@@ -1,6 +1,8 @@
 // Where the values of a closed input stand, noted in the open cells: the low half of the place in word 4, the high half in word 1,
 // which a bound cell needs for its first field and an open one does not. Rests on crates marks, machine, rows and partials,
 // the proofs also on cells.
+#![tactic(auto)]
+
 ghost use Rattle.std.specs.Prelude.{◌≡◌, ◌+◌, ◌*◌, ◌≤◌, ◌<◌, length};
 ghost use Rattle.reach.specs.Places.{bytes_at};
 ghost use Rattle.values.specs.Notes.{Noted, noted_place, note_place, behind_value};

@@ -1,4 +1,6 @@
 // The verdict of a list, entry by entry: found with an RE, else undecided with a UN, else none; an MI changes nothing. Rests on crate reach.
+#![tactic(auto)]
+
 ghost use Rattle.verdicts.specs.Verdicts.{WithEntry, VerdictAfter};
 
 use reach::{Kind, PathEnd, Verdict};

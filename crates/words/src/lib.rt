@@ -1,5 +1,7 @@
 // The words of a printed line, each written into a lent slice: a byte of the prefix form, a kind, the verdict that counts give; and the unfinished share.
 // Rests on crates marks and writing.
+#![tactic(auto)]
+
 ghost use Rattle.std.specs.Prelude.{◌≡◌, ◌∷◌, ◌≤◌, ◌<◌};
 ghost use Rattle.reach.specs.Search.{verdict_by};
 ghost use Rattle.reach.specs.Words.{verdict_word};

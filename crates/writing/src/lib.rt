@@ -1,5 +1,7 @@
 // Text written into a lent slice: a byte, a word, a number. Every function answers with the place behind its text, also where the slice is too short
 // for it: so a caller sees by the place whether all of it was written. Rests on the definitions of crates reach and lists.
+#![tactic(auto)]
+
 ghost use Rattle.std.specs.Prelude.{◌≡◌, [], ◌∷◌, ◌+◌, ◌≤◌, ◌<◌, length};
 ghost use Rattle.lists.specs.Text.{space, digit, decimal};
 ghost use Rattle.writing.specs.Writing.{Puts};

@@ -1,0 +1,29 @@
+-- `choosing::step_construct` meets its contract: Choosing says what the words stand for after the choice. A result is left alone.
+use Prim.Native.Nat.{◌+◌, ◌<◌}
+use mathlib.Core.Path.{refl}
+use native.Mathlib.Omega.{arith}
+use Rattle.machine.specs.Records.{no_case}
+use Rattle.registers.specs.Stepping.{built, looked, at_result}
+use Rattle.choosing.proofs.Choosing.{construct_chooses, construct_goes}
+use Rattle.choosing.proofs.step_construct.Goals as goal
+
+pub returns-then-r-ge-NO_CASE : goal.returns-then-r-ge-NO_CASE
+returns-then-r-ge-NO_CASE c = λ functions label filled. at_result refl (built c.requires.1 c.if-r-ge-NO_CASE.true)
+
+pub choose-requires : goal.choose-requires
+choose-requires c = let (functions, standing) = c.requires.0 in
+    let waits : c.args.r.frame < no_case = omega (arith, c.if-r-ge-NO_CASE.false) in (
+      c.requires.1.space,
+      (
+        omega (arith, c.byte_or_zero-c.ensures, c.shared_slice_known-1.given (c.args.at + 2)),
+        construct_chooses c.args.file.now c.args.types.now functions c.args.work.now c.args.base c.args.at c.args.env c.args.r c.requires.1 c.byte_or_zero-c.ensures waits standing,
+        c.field_count-k.ensures.1,
+        omega arith,
+        omega arith,
+      ),
+    )
+
+pub returns : goal.returns
+returns c = let waits : c.args.r.frame < no_case = omega (arith, c.if-r-ge-NO_CASE.false) in λ functions label filled.
+    looked tt (construct_goes c.args.file.now c.args.types.now functions c.args.work.now c.args.base c.args.at c.args.env c.args.r c.requires.1 c.byte_or_zero-c.ensures waits
+    c.byte_or_zero-t.ensures c.field_count-k.ensures (c.choose.ensures c.args.types.now functions filled) label)

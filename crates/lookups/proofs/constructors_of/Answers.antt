@@ -1,0 +1,16 @@
+-- `lookups::constructors_of` meets its contract: a type's constructors stand behind their number, at the place of the type's record.
+-- Rests on reach's Places.
+use native.Mathlib.Omega.{arith}
+use Rattle.reach.specs.Places.{type_at}
+use Rattle.lookups.proofs.constructors_of.Goals as goal
+
+pub returns : goal.returns
+unfolding type_at
+returns c =
+    (
+      rw (← c.place_or_zero-place.ensures.0, c.byte_or_zero.ensures),
+      (omega arith, omega (arith, c.shared_slice_known-1.given c.place_or_zero-place.result)),
+    )
+
+pub overflow_add-result : goal.overflow_add-result
+overflow_add-result c = omega arith

@@ -1,0 +1,27 @@
+-- `packing::search_number` meets its contract: the length leaves room for it in 64 bits. Rests on Numbered.
+use mathlib.Core.Path.{sym, ap, ◌∙◌}
+use native.Mathlib.Omega.{arith}
+use Rattle.results.specs.Results.{list_length_in}
+use Rattle.packing.proofs.Numbered.{no_search_number, complete_number, full_number}
+use Rattle.packing.proofs.search_number.Goals as goal
+
+pub overflow_mul-result-in-Complete : goal.overflow_mul-result-in-Complete
+overflow_mul-result-in-Complete c = omega (arith, c.requires, ap list_length_in c.result2.given.1)
+
+pub overflow_add-result : goal.overflow_add-result
+overflow_add-result c = omega (arith, c.requires, ap list_length_in c.result2.given.1, c.verdict_number.ensures.small)
+
+pub overflow_mul-result-in-Full : goal.overflow_mul-result-in-Full
+overflow_mul-result-in-Full c = omega (arith, c.requires, ap list_length_in c.result3.given.1)
+
+pub overflow_add-result-in-Full : goal.overflow_add-result-in-Full
+overflow_add-result-in-Full c = omega (arith, c.requires, ap list_length_in c.result3.given.1, c.number-in-Full.ensures)
+
+pub returns-in-Refused : goal.returns-in-Refused
+returns-in-Refused c = c.number.ensures ∙ no_search_number _ a (sym c.result.given.1 ∙ is)
+
+pub returns-in-Complete : goal.returns-in-Complete
+returns-in-Complete c = rw c.verdict_number.ensures.value (complete_number _ _ a (sym c.result2.given.1 ∙ is))
+
+pub returns-in-Full : goal.returns-in-Full
+returns-in-Full c = rw c.number-in-Full.ensures (full_number _ a (sym c.result3.given.1 ∙ is))

@@ -1,0 +1,18 @@
+-- `steps::run_on` meets its contract. The invariant: so many steps as were made led to here. The measure is what is left of them. Rests on Running.
+use Prim.Native.Nat.{suc, ◌+◌, ◌-◌, ◌≤◌}
+use mathlib.Core.Path.{◌≡◌, refl}
+use mathlib.Core.Logic.{⊎_elim}
+use lib.ListN.{length}
+use Rattle.registers.specs.declared.Next.TheVariants as Next
+use Rattle.steps.specs.declared.Halt.TheVariants as Halt
+use Rattle.steps.specs.Running.{StepsTo, no_step, one_more}
+use Rattle.steps.proofs.Running.{not_stops, not_goes, stepped-so, onward-from, ran-behind, at-a-result, ran}
+use native.Mathlib.Omega.{arith}
+use mir.Facts.{Fits-le}
+use Rattle.steps.proofs.run_on.Given as goal
+
+abbrev pub invariant-loop-work : goal.invariant-loop-work
+invariant-loop-work l = (length l.work ≡ length l.initial.work) × (l.done ≤ l.left) × StepsTo l.file l.types l.functions l.label l.base l.done l.initial.work l.initial.r l.work l.r
+
+abbrev pub decreases-loop-work : goal.decreases-loop-work
+decreases-loop-work l = l.left - l.done

@@ -1,0 +1,16 @@
+-- `steps::run_to_result` meets its contract. The invariant: so many steps as were made led to here. The measure is what is left of them. Rests on Running.
+use Prim.Native.Nat.{suc, ◌+◌, ◌-◌, ◌≤◌}
+use mathlib.Core.Path.{◌≡◌, refl}
+use lib.ListN.{length}
+use Rattle.registers.specs.declared.Next.TheVariants as Next
+use Rattle.steps.specs.declared.Halt.TheVariants as Halt
+use Rattle.steps.specs.Running.{StepsTo, no_step, one_more}
+use Rattle.steps.proofs.Running.{looked-so, looked-stepped, ran}
+use native.Mathlib.Omega.{arith}
+use Rattle.steps.proofs.run_to_result.Given as goal
+
+abbrev pub invariant-loop-x : goal.invariant-loop-x
+invariant-loop-x l = (length l.work ≡ length l.initial.work) × (l.done ≤ l.left) × StepsTo l.file l.types l.functions l.label l.base l.done l.initial.work l.initial.r l.work l.r
+
+abbrev pub decreases-loop-x : goal.decreases-loop-x
+decreases-loop-x l = l.left - l.done

@@ -1,0 +1,24 @@
+-- `unfolding::step_variable` meets its contract: Variables says what the words stand for after the step, by the mark of the group's record.
+use Prim.Native.Nat.{◌+◌}
+use Rattle.registers.proofs.Walks.{operand_there}
+use Rattle.unfolding.proofs.Variables.{variable_there, part-leads, operand-leads}
+use native.Mathlib.Omega.{arith}
+use Rattle.unfolding.proofs.step_variable.Goals as goal
+
+pub group_of-group-requires : goal.group_of-group-requires
+group_of-group-requires c = let (types, functions, standing) = c.requires.0 in
+    (variable_there c.args.file.now types functions c.args.work.now c.args.base c.args.at c.args.env c.args.r c.requires.1 c.byte_or_zero-n.ensures standing, omega arith, omega arith)
+
+pub overflow_add-result : goal.overflow_add-result
+overflow_add-result c = omega (arith, c.byte_or_zero-n.ensures, c.shared_slice_known-1.given (c.args.at + 1), c.record_word-first.ensures.1)
+
+pub returns-then-inner-eq0 : goal.returns-then-inner-eq0
+returns-then-inner-eq0 c = λ types functions filled.
+    part-leads c.args.file.now types functions c.args.work.now c.args.base c.args.at c.args.env c.args.r c.requires.1 c.byte_or_zero-n.ensures
+    c.Group-of.ensures c.Outside-of.ensures c.record_word-first.ensures.0 c.record_word-inner.ensures.0 c.if-inner-eq0.true
+
+pub returns : goal.returns
+returns c = λ types functions filled.
+    operand-leads c.args.file.now types functions c.args.work.now c.args.base c.args.at c.args.env c.args.r c.requires.1 c.byte_or_zero-n.ensures
+    c.Group-of.ensures c.Outside-of.ensures c.record_word-first.ensures.0 c.record_word-inner.ensures.0 c.if-inner-eq0.false
+    (operand_there c.args.file.now types functions c.args.ends.now filled _ _ c.pass_operands-place.ensures)
