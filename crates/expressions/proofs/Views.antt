@@ -9,7 +9,7 @@ use lib.Seq.{take-suc-set, length-take-le}
 use lib.Dec.{ltb, leb}
 use native.Mathlib.Numerals.{add-one}
 use native.Mathlib.Omega.{arith}
-use borrow.Author.Tests.{ltb-true, leb-true, not_true, not_false}
+use borrow.Author.Tests.{ltb-true, leb-true, not-true, not-false}
 use Rattle.reach.specs.Limits.{view_limit}
 use Rattle.reach.specs.Places.{bytes_at}
 use Rattle.expressions.specs.declared.View.{View}
@@ -38,13 +38,13 @@ module _ {left : ℕ} {view : View} {r : Bool} (l : Limits left view r) where
   test e = rw l.held (sym l.told ∙ e)
 
   both : not r ≡ false → (ltb 0 left ≡ true) × (leb view.count view_limit ≡ true)
-  both e = (and-eq-true_iff (ltb 0 left) (leb view.count view_limit)).0 (sym l.told ∙ not_false r e)
+  both e = (and-eq-true_iff (ltb 0 left) (leb view.count view_limit)).0 (sym l.told ∙ not-false r e)
 
   pub limits_over : not r ≡ true → (ltb 0 left && leb (length (view_of view)) view_limit) ≡ false
-  limits_over e = test (not_true r e)
+  limits_over e = test (not-true r e)
 
   pub limits_kept : not r ≡ false → (ltb 0 left && leb (length (view_of view)) view_limit) ≡ true
-  limits_kept e = test (not_false r e)
+  limits_kept e = test (not-false r e)
 
   pub limits_nested : not r ≡ false → 0 < left
   limits_nested e = ltb-true 0 left (both e).0

@@ -9,7 +9,7 @@ use Rattle.arriving.proofs.arrive.Goals as goal
 
 pub run_on-ran-requires : goal.run_on-ran-requires
 run_on-ran-requires c = let (least, p, e, s, cs, given, sought, under) = c.requires.some_under_way in
-    (c.requires.ends, λ n w₁ r₁ few steps. led-standing given under sought few steps)
+    record { ends = c.requires.ends; onward = λ n w₁ r₁ few steps. led-standing given under sought few steps }
 
 pub returns-in-Demands : goal.returns-in-Demands
 returns-in-Demands c = let last = comes-so _ _ _ _ c.run_on-ran.ensures Halt.Demands c.in-Demands.is in

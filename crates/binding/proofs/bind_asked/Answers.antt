@@ -12,7 +12,7 @@ pub bind_cell-requires : goal.bind_cell-requires
 bind_cell-requires c =
     let few = fields_few c.args.file.now c.args.types.now c.args.input.now c.args.work.now c.args.cells c.args.x _ c.noted-place.ensures c.byte_or_zero-c.ensures c.cell_word-t.ensures.0 c.fields_of.ensures.result_value c.in-At.is c.requires in
     let near = near_at _ c.fields_of.ensures.near c.in-At.is in
-    (c.requires.in_use, omega (arith, c.requires.room), omega (arith, c.byte_or_zero-c.ensures, c.shared_slice_known-3-1.given c.noted-place.result), near.1, near.0, omega (arith, c.requires.room, c.requires.narrow), c.requires.shallow)
+    (c.requires.in_use, omega (arith, c.requires.room), omega (arith, c.byte_or_zero-c.ensures, c.type_inv.input c.noted-place.result), near.1, near.0, omega (arith, c.requires.room, c.requires.narrow), c.requires.shallow)
 
 pub note_values-requires : goal.note_values-requires
 note_values-requires c =

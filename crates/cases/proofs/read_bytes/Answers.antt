@@ -11,5 +11,5 @@ slice_bounds-read_full-end-2 c = sym (length-take-le _ _ (omega arith))
 
 pub returns : goal.returns
 returns c =
-    let long = c.read_full.auto.1.0 ∙ length-take-le c.args.n c.args.part.now (omega arith) in
-    (omega arith, subst (λ k. drop k (c.read_full.new.buf.0 ++ drop c.args.n c.args.part.now) ≡ drop c.args.n c.args.part.now) long (drop-append_seam c.read_full.new.buf.0 _))
+    let long = c.read_full.auto.buf.0 ∙ length-take-le c.args.n c.args.part.now (omega arith) in
+    record { upper_bound = omega arith; kept = subst (λ k. drop k (c.read_full.new.buf.0 ++ drop c.args.n c.args.part.now) ≡ drop c.args.n c.args.part.now) long (drop-append_seam c.read_full.new.buf.0 _) }

@@ -18,7 +18,7 @@ loop-more-init c =
 
 pub open_cell-requires : goal.open_cell-requires
 open_cell-requires c =
-    let byte = c.shared_slice_known-1.given c.loop-more.place in
+    let byte = c.type_inv.file c.loop-more.place in
     omega (arith, c.byte_or_zero-t.ensures, c.loop-more.invariant.0.same_length)
 
 pub loop-more-preserved : goal.loop-more-preserved

@@ -15,7 +15,7 @@ loop-i-init c = (opens_none _ _ _, omega arith)
 
 pub open_cell-requires : goal.open_cell-requires
 open_cell-requires c =
-    let byte = c.shared_slice_known-1.given (c.args.parameters + c.loop-i.i) in
+    let byte = c.type_inv.file (c.args.parameters + c.loop-i.i) in
     omega (arith, c.byte_or_zero-t.ensures, c.loop-i.invariant.0.same_length)
 
 pub loop-i-preserved : goal.loop-i-preserved

@@ -26,7 +26,7 @@ reopen-requires c =
 
 pub loop-h-preserved : goal.loop-h-preserved
 loop-h-preserved c =
-    (c.reopen.auto.0 ∙ c.loop-h.invariant.0, omega arith, drops c.args.file.now c.args.types.now c.args.least.of c.args.work.now c.args.stack c.args.height c.loop-h.work c.loop-h.h c.loop-h.invariant.2 c.candidate-next.ensures (omega arith) c.in_default.is c.reopen.ensures)
+    (c.reopen.auto.work ∙ c.loop-h.invariant.0, omega arith, drops c.args.file.now c.args.types.now c.args.least.of c.args.work.now c.args.stack c.args.height c.loop-h.work c.loop-h.h c.loop-h.invariant.2 c.candidate-next.ensures (omega arith) c.in_default.is c.reopen.ensures)
 
 pub returns : goal.returns
 returns c =

@@ -18,16 +18,13 @@ pub cell_word-t-requires : goal.cell_word-t-requires
 cell_word-t-requires c = (part_small c.args.file.now c.args.types.now c.requires.0.0 c.args.work.now c.args.base c.args.cell c.args.r c.requires.1 c.requires.0.1, omega arith)
 
 pub choose-requires : goal.choose-requires
-choose-requires c = let (functions, standing) = c.requires.0 in (
-      standing.stands.space,
-      (
+choose-requires c = let (functions, standing) = c.requires.0 in record { space = standing.stands.space; c_bound = (
         omega (arith, c.cell_word-head.ensures.1),
         part_chooses c.args.file.now c.args.types.now functions c.args.work.now c.args.base c.args.cell c.args.r c.requires.1 c.requires.2 c.cell_word-head.ensures.0 c.if-head-eq0.false standing,
         c.field_count-k.ensures.1,
         c.cell_word-first.ensures.1,
         omega arith,
-      ),
-    )
+      ) }
 
 pub returns : goal.returns
 returns c = λ functions label filled.

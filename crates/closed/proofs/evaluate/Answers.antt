@@ -28,7 +28,7 @@ go_on-requires c =
     let under =
     begins c.requires.2 c.requires.3 c.head_of-head.result c.head_of-head.ensures.result_value c.records_at-base.ensures c.requires.4
     c.open_input-from.ensures.value c.open_input-from.ensures.words c.note_values.ensures in
-    ((limit_few c.requires.2.of_file c.requires.3, (c.requires.0, c.requires.1, start c.requires.0, under)), c.fill_ends.ensures)
+    record { limit_bound = (limit_few c.requires.2.of_file c.requires.3, (c.requires.0, c.requires.1, start c.requires.0, under)); ends = c.fill_ends.ensures }
 
 pub returns : goal.returns
 returns c =

@@ -91,7 +91,7 @@ returns c =
           c.evaluate-outcome.ensures _ (omega arith);
       words_are =
           behind-kept c.args.file.now c.load-loaded.result c.load-loaded.ensures c.in_default.is c.evaluate-outcome.new.types.1.1.1.1.0 c.args.work.now c.work_words-words.ensures
-          (c.evaluate-outcome.auto.1.1.1.1.1.0 ∙ taken_length c.work_words-words.result c.args.work.now (omega arith));
+          (c.evaluate-outcome.auto.types.1.1.1.1.0 ∙ taken_length c.work_words-words.result c.args.work.now (omega arith));
       cells_are =
           run_leaves c.args.file.now c.load-loaded.result c.load-loaded.ensures c.in_default.is c.args.input.now c.input_depth.ensures c.in-Deep.is c.work_words-words.ensures
           c.evaluate-outcome.ensures _;

@@ -15,7 +15,7 @@ loop-more-init c = (refl, omega arith)
 
 pub all_known-requires : goal.all_known-requires
 all_known-requires c =
-    omega (arith, c.byte_or_zero-fields.ensures, c.shared_slice_known-1.given c.loop-more.place)
+    omega (arith, c.byte_or_zero-fields.ensures, c.type_inv.s c.loop-more.place)
 
 pub returns-then-all_known : goal.returns-then-all_known
 unfolding inhabited
@@ -33,7 +33,7 @@ overflow_add-place-in-loop-more-2 c =
     omega (
       arith,
       c.byte_or_zero-fields.ensures,
-      c.shared_slice_known-1.given c.loop-more.place,
+      c.type_inv.s c.loop-more.place,
     )
 
 pub loop-more-preserved : goal.loop-more-preserved
@@ -49,7 +49,7 @@ loop-more-preserved c = (
   omega (
     arith,
     c.byte_or_zero-fields.ensures,
-    c.shared_slice_known-1.given c.loop-more.place,
+    c.type_inv.s c.loop-more.place,
   ),
 
 pub returns : goal.returns

@@ -4,7 +4,7 @@ use Prim.Native.Nat.{◌-◌, ◌≤◌}
 use native.Mathlib.Omega.{arith}
 use mathlib.Core.Path.{◌≡◌, sym, ◌∙◌}
 use lib.ListN.{length}
-use borrow.Author.Tests.{not_true}
+use borrow.Author.Tests.{not-true}
 use Rattle.depths.specs.Table.{array_after}
 use Rattle.depths.proofs.Rounds.{array_first, array_last, array_settled}
 use Rattle.depths.proofs.least_depths.Given as goal

@@ -17,7 +17,7 @@ slice_bounds-result-end c = search rules
 
 pub returns-in_default : goal.returns-in_default
 returns-in_default c =
-    (part_none _ _ _ c.room-end.ensures c.Span-of.ensures c.in_default.is, points_on _ (place_none _ _ _ c.room-end.ensures c.Span-of.ensures c.in_default.is))
+    record { result_value = part_none _ _ _ c.room-end.ensures c.Span-of.ensures c.in_default.is; place = points_on _ (place_none _ _ _ c.room-end.ensures c.Span-of.ensures c.in_default.is) }
 
 pub overflow_add-stop : goal.overflow_add-stop
 overflow_add-stop c =
@@ -29,4 +29,4 @@ slice_bounds-result-end-2 c =
 
 pub returns : goal.returns
 returns c =
-    (part_found _ _ _ c.room-end.ensures c.Span-of.ensures c.in-At.is, points_on _ (place_found _ _ _ c.room-end.ensures c.Span-of.ensures c.in-At.is))
+    record { result_value = part_found _ _ _ c.room-end.ensures c.Span-of.ensures c.in-At.is; place = points_on _ (place_found _ _ _ c.room-end.ensures c.Span-of.ensures c.in-At.is) }

@@ -13,7 +13,7 @@ pub loop-more-init : goal.loop-more-init
 loop-more-init c = (refl, refl, refl)
 
 pub with_one-longer-requires : goal.with_one-longer-requires
-with_one-longer-requires c = omega (arith, c.shared_slice_known-1.given c.loop-more.place)
+with_one-longer-requires c = omega (arith, c.type_inv.s c.loop-more.place)
 
 pub loop-more-preserved : goal.loop-more-preserved
 loop-more-preserved c =

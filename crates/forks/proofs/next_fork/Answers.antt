@@ -45,7 +45,7 @@ loop-c-preserved c =
 
 pub returns : goal.returns
 returns c =
-    c.loop-c.invariant.0 ∙ untried_end c.args.file.now c.args.types.now c.args.least.of c.args.t c.args.room c.loop-c.c (λ i. omega (arith, c.shared_slice_known-1.given i)) (omega arith)
+    c.loop-c.invariant.0 ∙ untried_end c.args.file.now c.args.types.now c.args.least.of c.args.t c.args.room c.loop-c.c (λ i. omega (arith, c.type_inv.file i)) (omega arith)
 
 pub loop-c-smaller : goal.loop-c-smaller
 loop-c-smaller c = omega arith

@@ -6,11 +6,11 @@ use native.Mathlib.Omega.{arith}
 use Rattle.goal.proofs.byte_behind.Goals as goal
 
 pub returns-then-s-at : goal.returns-then-s-at
-returns-then-s-at c = (sym (get_or-eq_default c.args.s.now 0 (omega arith)), omega arith)
+returns-then-s-at c = record { value = sym (get_or-eq_default c.args.s.now 0 (omega arith)); small = omega arith }
 
 pub returns-then-s-at-2 : goal.returns-then-s-at-2
-returns-then-s-at-2 c = (sym (get_or-eq_default c.args.s.now 0 (omega arith)), omega arith)
+returns-then-s-at-2 c = record { value = sym (get_or-eq_default c.args.s.now 0 (omega arith)); small = omega arith }
 
 pub returns : goal.returns
 returns c =
-    (c.byte_or_zero.ensures, omega (arith, c.byte_or_zero.ensures, c.shared_slice_known-1.given (c.args.at + c.args.far)))
+    record { value = c.byte_or_zero.ensures; small = omega (arith, c.byte_or_zero.ensures, c.type_inv.s (c.args.at + c.args.far)) }

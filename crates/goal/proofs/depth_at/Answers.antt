@@ -9,4 +9,4 @@ use Rattle.goal.proofs.depth_at.Goals as goal
 pub returns-else-i-lt8 : goal.returns-else-i-lt8
 returns-else-i-lt8 c =
     let long : length c.args.t1 ≡ 8 = search rules in
-    (sym (get_or-eq_default {A = ℕ} c.args.t1 0 (omega arith)), omega arith)
+    record { value = sym (get_or-eq_default {A = ℕ} c.args.t1 0 (omega arith)); small = omega arith }

@@ -15,8 +15,8 @@ put_number-parts-requires c =
       c.requires,
       kind_end _ c.put_kind-steps.ensures,
       c.word_call.ensures,
-      c.shared_slice_known-1.given 2,
-      c.shared_slice_known-1.given 3,
+      c.type_inv.entry 2,
+      c.type_inv.entry 3,
     )
 
 pub put_parts-end-requires : goal.put_parts-end-requires
@@ -31,8 +31,8 @@ put_parts-end-requires c =
         kind_end _ c.put_kind-steps.ensures,
         number_end _ c.put_number-parts.ensures,
         c.word_call.ensures,
-        c.shared_slice_known-1.given 2,
-        c.shared_slice_known-1.given 3,
+        c.type_inv.entry 2,
+        c.type_inv.entry 3,
       ),
     )
 
@@ -46,8 +46,8 @@ put_byte-requires c =
       number_end _ c.put_number-parts.ensures,
       c.put_parts-end.ensures.1,
       c.word_call.ensures,
-      c.shared_slice_known-1.given 2,
-      c.shared_slice_known-1.given 3,
+      c.type_inv.entry 2,
+      c.type_inv.entry 3,
     )
 
 pub returns : goal.returns
@@ -64,7 +64,7 @@ returns c =
         c.put_parts-end.ensures.1,
         c.put_byte.ensures.place,
         c.word_call.ensures,
-        c.shared_slice_known-1.given 2,
-        c.shared_slice_known-1.given 3,
+        c.type_inv.entry 2,
+        c.type_inv.entry 3,
       ),
     )

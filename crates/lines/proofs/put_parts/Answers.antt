@@ -30,7 +30,7 @@ loop-i-preserved c =
     (
       omega arith,
       omega arith,
-      omega (arith, part_end (get_or c.args.entry.now c.loop-i.i 0) (omega (arith, c.shared_slice_known-in-loop-i-1.given c.loop-i.i)) c.put_part-to.ensures),
+      omega (arith, part_end (get_or c.args.entry.now c.loop-i.i 0) (omega (arith, c.type_inv.entry c.loop-i.i)) c.put_part-to.ensures),
       parts_next _ _ c.loop-i.invariant.3 c.loop-i-test.true c.put_part-to.ensures,
     )
 

@@ -7,10 +7,7 @@ use Rattle.lookups.proofs.constructors_of.Goals as goal
 pub returns : goal.returns
 unfolding type_at
 returns c =
-    (
-      rw (← c.place_or_zero-place.ensures.0, c.byte_or_zero.ensures),
-      (omega arith, omega (arith, c.shared_slice_known-1.given c.place_or_zero-place.result)),
-    )
+    record { count_value = rw (← c.place_or_zero-place.ensures.0, c.byte_or_zero.ensures); near = (omega arith, omega (arith, c.type_inv.s c.place_or_zero-place.result)) }
 
 pub overflow_add-result : goal.overflow_add-result
 overflow_add-result c = omega arith

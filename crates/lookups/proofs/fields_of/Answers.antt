@@ -5,8 +5,8 @@ use Rattle.lookups.proofs.fields_of.Goals as goal
 
 pub returns-then-types-t : goal.returns-then-types-t
 returns-then-types-t c =
-    (sym (fields_missing c.args.s.now c.args.types.now c.args.t c.args.c c.if-types-t.true), tt)
+    record { result_value = sym (fields_missing c.args.s.now c.args.types.now c.args.t c.args.c c.if-types-t.true); near = tt }
 
 pub returns : goal.returns
 returns c =
-    (rw (c.fields_at.ensures.result_value, c.constructors_of-all.ensures.count_value) (sym (fields_found c.args.s.now c.args.types.now c.args.t c.args.c c.if-types-t.false)), c.fields_at.ensures.near)
+    record { result_value = rw (c.fields_at.ensures.result_value, c.constructors_of-all.ensures.count_value) (sym (fields_found c.args.s.now c.args.types.now c.args.t c.args.c c.if-types-t.false)); near = c.fields_at.ensures.near }

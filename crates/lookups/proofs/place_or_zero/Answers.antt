@@ -6,10 +6,10 @@ use native.Mathlib.Omega.{arith}
 use Rattle.lookups.proofs.place_or_zero.Goals as goal
 
 pub overflow_cast-result : goal.overflow_cast-result
-overflow_cast-result c = omega (arith, c.shared_slice_known-1.given c.args.n)
+overflow_cast-result c = omega (arith, c.type_inv.places c.args.n)
 
 pub returns-then-n-places : goal.returns-then-n-places
-returns-then-n-places c = (refl, omega (arith, c.shared_slice_known-1.given c.args.n))
+returns-then-n-places c = (refl, omega (arith, c.type_inv.places c.args.n))
 
 pub returns-else-n-places : goal.returns-else-n-places
 returns-else-n-places c = (sym (get_or-eq_default c.args.places.now 0 c.if-n-places.false), omega arith)

@@ -5,10 +5,10 @@ use lib.ListN.{get_or-eq_default}
 use Rattle.machine.proofs.word_or_zero.Goals as goal
 
 pub overflow_cast-result : goal.overflow_cast-result
-overflow_cast-result c = omega (arith, c.shared_slice_known-1.given c.args.at)
+overflow_cast-result c = omega (arith, c.type_inv.work c.args.at)
 
 pub returns-then-at-work : goal.returns-then-at-work
-returns-then-at-work c = (refl, omega (arith, c.shared_slice_known-1.given c.args.at))
+returns-then-at-work c = (refl, omega (arith, c.type_inv.work c.args.at))
 
 pub returns-else-at-work : goal.returns-else-at-work
 returns-else-at-work c = (sym (get_or-eq_default c.args.work.now 0 c.if-at-work.false), omega arith)

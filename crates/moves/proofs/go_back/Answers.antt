@@ -12,7 +12,7 @@ returns-in_default c =
 
 pub take_fork-requires : goal.take_fork-requires
 take_fork-requires c =
-    (back_forking c.args.file.now c.args.types.now c.args.functions.now c.args.least.of c.args.work.now c.args.base c.args.stack c.args.walk c.requires.resumable.1 _ _ c.find_return-found.ensures c.in-To.is c.requires.resumable.0, c.requires.ends)
+    record { some_forking = back_forking c.args.file.now c.args.types.now c.args.functions.now c.args.least.of c.args.work.now c.args.base c.args.stack c.args.walk c.requires.resumable.1 _ _ c.find_return-found.ensures c.in-To.is c.requires.resumable.0; ends = c.requires.ends }
 
 pub returns : goal.returns
 returns c =

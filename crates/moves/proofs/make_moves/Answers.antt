@@ -5,7 +5,7 @@ use Rattle.moves.proofs.make_moves.Goals as goal
 pub resume-from-requires : goal.resume-from-requires
 resume-from-requires c =
     let ((p, position, cs, given, sought, stands), active) = c.requires.search_stands in
-    (((p, c.args.limit, position, cs, given, stands), active), c.requires.ends)
+    record { resumable = ((p, c.args.limit, position, cs, given, stands), active); ends = c.requires.ends }
 
 pub returns-in_default : goal.returns-in_default
 returns-in_default c =
@@ -13,7 +13,7 @@ returns-in_default c =
 
 pub arrive-requires : goal.arrive-requires
 arrive-requires c =
-    (on_some c.args.file.now c.args.types.now c.args.functions.now c.args.least.of c.args.label c.args.work.now _ c.args.limit c.args.base c.args.stack c.args.walk c.resume-from.result c.resume-from.ensures c.position_of-position.ensures c.in-On.is c.requires.search_stands.0, c.requires.ends)
+    record { some_under_way = on_some c.args.file.now c.args.types.now c.args.functions.now c.args.least.of c.args.label c.args.work.now _ c.args.limit c.args.base c.args.stack c.args.walk c.resume-from.result c.resume-from.ensures c.position_of-position.ensures c.in-On.is c.requires.search_stands.0; ends = c.requires.ends }
 
 pub returns : goal.returns
 returns c =

@@ -7,4 +7,4 @@ returns-then-walk c =
     on_resumes c.args.file.now c.args.types.now c.args.functions.now c.args.least.of c.args.work.now c.args.base c.args.stack c.args.walk c.if-walk.true
 
 pub go_back-requires : goal.go_back-requires
-go_back-requires c = ((c.requires.resumable.0, c.if-walk.false, c.requires.resumable.1), c.requires.ends)
+go_back-requires c = record { resumable = (c.requires.resumable.0, c.if-walk.false, c.requires.resumable.1); ends = c.requires.ends }

@@ -13,9 +13,9 @@ put_refusal-requires c =
     omega (arith, wrote.place, lines_length c.args.file.now p checked c.args.list.now es is, is.in_limit)
 
 pub returns-then-full : goal.returns-then-full
-returns-then-full c =
+returns-then-full c p es checked is =
     rw c.if-full.true
     (puts_front (puts_then (c.put_names-end.ensures p es checked is) c.put_refusal.ensures))
 
 pub returns : goal.returns
-returns c = rw (c.if-full.false, append-nil) (puts_front (c.put_names-end.ensures p es checked is))
+returns c p es checked is = rw (c.if-full.false, append-nil) (puts_front (c.put_names-end.ensures p es checked is))

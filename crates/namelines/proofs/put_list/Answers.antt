@@ -29,7 +29,7 @@ put_entries-requires c =
     c.head_of-head.ensures.result_value c.head_of-head.ensures.near (table_there c.args.file.now c.args.loaded tabled)
 
 pub returns : goal.returns
-returns c =
+returns c p es checked is =
     let (q, taken, tabled) = loaded_accepted c.args.file.now c.args.loaded c.requires.0 (answer_accepted c.args.file.now c.args.loaded c.requires.0 checked) in
     let same : q ≡ p = cc (taken, checked) in
     rw (← names_same c.args.file.now c.args.loaded p checked (rw same at tabled) c.args.list.now es is c.args.named c.requires.1 c.head_of-head.result

@@ -9,7 +9,7 @@ use Rattle.namelines.proofs.Files.{answer_accepted, no_lines}
 use Rattle.namelines.proofs.put_names.Goals as goal
 
 pub returns-in-Nothing : goal.returns-in-Nothing
-returns-in-Nothing c =
+returns-in-Nothing c p es checked is =
     let (q, taken, tabled) = loaded_accepted c.args.file.now c.load-loaded.result c.load-loaded.ensures (answer_accepted c.args.file.now c.load-loaded.result c.load-loaded.ensures checked) in
     let same : q ≡ p = cc (taken, checked) in
     let nothing = program_named (rw same at tabled) ∙ ap named_of c.in-Nothing.is in

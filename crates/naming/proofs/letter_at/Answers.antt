@@ -13,7 +13,7 @@ overflow_mul-result c =
       c.half_of-high.ensures,
       half_few c.byte_or_zero.result,
       c.byte_or_zero.ensures,
-      c.shared_slice_known-1.given (c.args.place + 1),
+      c.type_inv.list (c.args.place + 1),
     )
 
 pub overflow_add-result : goal.overflow_add-result
@@ -23,11 +23,11 @@ overflow_add-result c =
       c.half_of-high.ensures,
       half_few c.byte_or_zero.result,
       c.byte_or_zero.ensures,
-      c.shared_slice_known-1.given (c.args.place + 1),
+      c.type_inv.list (c.args.place + 1),
       c.half_of-low.ensures,
       half_few c.byte_or_zero-2.result,
       c.byte_or_zero-2.ensures,
-      c.shared_slice_known-1.given (c.args.place + 2),
+      c.type_inv.list (c.args.place + 2),
     )
 
 pub returns : goal.returns

@@ -5,7 +5,7 @@ use mathlib.Core.Path.{◌≡◌, sym, ◌∙◌}
 use mathlib.Core.Bool.{true}
 use native.Mathlib.Omega.{arith}
 use lib.ListN.{length}
-use borrow.Author.Tests.{not_true, not_false}
+use borrow.Author.Tests.{not-true, not-false}
 use borrow.Author.Rules.{rules}
 use Rattle.writing.proofs.Digits.{decimal_few}
 use Rattle.naming.specs.Letters.{Spelt, letter_here, letter_at}
@@ -19,7 +19,7 @@ returns c =
     let test = c.before.before.before.before in
     let here = test.before.letter-here in
     let a = test.before.before.before.before.args in
-    none_put a.list.now a.at (sym here.ensures ∙ not_true here.result test.if1.true) c.before.before.put_byte.ensures
+    none_put a.list.now a.at (sym here.ensures ∙ not-true here.result test.if1.true) c.before.before.put_byte.ensures
 
 -- The first letter, and where the pieces of the line end.
 
@@ -30,7 +30,7 @@ module _ (c : tie.After-letter-at) where
   here : letter_here start.args.list.now start.args.at ≡ true
   here =
       let answer = c.before.before.before.letter-here in
-      sym answer.ensures ∙ not_false answer.result c.before.before.if1.false
+      sym answer.ensures ∙ not-false answer.result c.before.before.if1.false
 
   letters : (letter_at start.args.list.now start.args.at < 256) × Spelt start.args.list.now (start.args.at + 3)
   letters = spelt_next start.args.list.now start.args.at here start.pre.3

@@ -3,7 +3,7 @@
 use Prim.Native.Nat.{◌+◌, ◌*◌, ◌≤◌}
 use native.Mathlib.Omega.{arith}
 use mathlib.Core.Path.{◌≡◌, refl}
-use borrow.Author.Tests.{not_true, not_false}
+use borrow.Author.Tests.{not-true, not-false}
 use Rattle.reach.specs.RuleFile.{constructors_exist}
 use Rattle.reach.specs.Places.{constructors_at}
 use Rattle.lookups.proofs.Tables.{constructors_more, constructors_none}
@@ -16,7 +16,7 @@ loop-more-init c = (refl, omega arith)
 
 pub all_below-requires : goal.all_below-requires
 all_below-requires c =
-    omega (arith, c.byte_or_zero-fields.ensures, c.shared_slice_known-1.given c.loop-more.place)
+    omega (arith, c.byte_or_zero-fields.ensures, c.type_inv.s c.loop-more.place)
 
 pub returns-then-not-all_below : goal.returns-then-not-all_below
 unfolding constructors_exist
@@ -26,7 +26,7 @@ returns-then-not-all_below c =
       constructors_more _ _ _ c.loop-more-test.true,
       ← c.byte_or_zero-fields.ensures,
       ← c.all_below.ensures,
-      not_true c.all_below.result c.if-not-all_below.true,
+      not-true c.all_below.result c.if-not-all_below.true,
     )
 
 pub overflow_add-place-in-loop-more-2 : goal.overflow_add-place-in-loop-more-2
@@ -34,7 +34,7 @@ overflow_add-place-in-loop-more-2 c =
     omega (
       arith,
       c.byte_or_zero-fields.ensures,
-      c.shared_slice_known-1.given c.loop-more.place,
+      c.type_inv.s c.loop-more.place,
     )
 
 pub loop-more-preserved : goal.loop-more-preserved
@@ -45,12 +45,12 @@ loop-more-preserved c = (
     constructors_more _ _ _ c.loop-more-test.true,
     ← c.byte_or_zero-fields.ensures,
     ← c.all_below.ensures,
-    not_false c.all_below.result c.if-not-all_below.false,
+    not-false c.all_below.result c.if-not-all_below.false,
   ),
   omega (
     arith,
     c.byte_or_zero-fields.ensures,
-    c.shared_slice_known-1.given c.loop-more.place,
+    c.type_inv.s c.loop-more.place,
   ),
 
 pub returns : goal.returns

@@ -5,7 +5,7 @@ use native.Mathlib.Omega.{arith}
 use mathlib.Core.Path.{◌≡◌, refl}
 use mathlib.Core.List.{map}
 use lib.ListN.{length, drop}
-use borrow.Author.Tests.{not_true, not_false, le-ltb, lt-ltb}
+use borrow.Author.Tests.{not-true, not-false, le-ltb, lt-ltb}
 use Rattle.reach.specs.RuleFile.{heads_exist}
 use Rattle.reach.specs.Places.{head_at}
 use Rattle.lookups.proofs.Tables.{places_more, places_none}
@@ -25,7 +25,7 @@ returns-then-not-all_below c =
       places_more _ _ _ c.loop-f-test.true,
       ← c.head_of-head.ensures.result_value,
       ← c.all_below.ensures,
-      not_true c.all_below.result c.if-not-all_below.true,
+      not-true c.all_below.result c.if-not-all_below.true,
     )
 
 pub returns-then-limit-head : goal.returns-then-limit-head
@@ -36,7 +36,7 @@ returns-then-limit-head c =
       places_more _ _ _ c.loop-f-test.true,
       ← c.head_of-head.ensures.result_value,
       ← c.all_below.ensures,
-      not_false c.all_below.result c.if-not-all_below.false,
+      not-false c.all_below.result c.if-not-all_below.false,
       le-ltb _ _ c.if-limit-head.true,
     )
 
@@ -48,7 +48,7 @@ loop-f-preserved c =
       places_more _ _ _ c.loop-f-test.true,
       ← c.head_of-head.ensures.result_value,
       ← c.all_below.ensures,
-      not_false c.all_below.result c.if-not-all_below.false,
+      not-false c.all_below.result c.if-not-all_below.false,
       lt-ltb _ _ c.if-limit-head.false,
     )
 

@@ -5,7 +5,7 @@ use native.Mathlib.Omega.{arith}
 use mathlib.Core.Path.{◌≡◌, refl}
 use mathlib.Core.List.{map}
 use lib.ListN.{length, drop}
-use borrow.Author.Tests.{not_true, not_false, le-ltb, lt-ltb}
+use borrow.Author.Tests.{not-true, not-false, le-ltb, lt-ltb}
 use Rattle.reach.specs.RuleFile.{heads_exist}
 use Rattle.reach.specs.Places.{head_at}
 use Rattle.lookups.proofs.Tables.{places_more, places_none}

@@ -5,7 +5,7 @@ use native.Mathlib.Omega.{arith}
 use mathlib.Core.Path.{◌≡◌, refl}
 use mathlib.Core.List.{map}
 use lib.ListN.{length, drop}
-use borrow.Author.Tests.{not_true, not_false}
+use borrow.Author.Tests.{not-true, not-false}
 use Rattle.reach.specs.RuleFile.{types_exist}
 use Rattle.reach.specs.Places.{type_at}
 use Rattle.lookups.proofs.Tables.{places_more, places_none}
@@ -25,7 +25,7 @@ returns-then-not-constructors_exist c =
       places_more _ _ _ c.loop-t-test.true,
       ← c.constructors_of-all.ensures.count_value,
       ← c.constructors_exist.ensures,
-      not_true c.constructors_exist.result c.if-not-constructors_exist.true,
+      not-true c.constructors_exist.result c.if-not-constructors_exist.true,
     )
 
 pub loop-t-preserved : goal.loop-t-preserved
@@ -36,7 +36,7 @@ loop-t-preserved c =
       places_more _ _ _ c.loop-t-test.true,
       ← c.constructors_of-all.ensures.count_value,
       ← c.constructors_exist.ensures,
-      not_false c.constructors_exist.result c.if-not-constructors_exist.false,
+      not-false c.constructors_exist.result c.if-not-constructors_exist.false,
     )
 
 pub returns : goal.returns

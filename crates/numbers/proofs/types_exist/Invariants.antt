@@ -5,7 +5,7 @@ use native.Mathlib.Omega.{arith}
 use mathlib.Core.Path.{◌≡◌, refl}
 use mathlib.Core.List.{map}
 use lib.ListN.{length, drop}
-use borrow.Author.Tests.{not_true, not_false}
+use borrow.Author.Tests.{not-true, not-false}
 use Rattle.reach.specs.RuleFile.{types_exist}
 use Rattle.reach.specs.Places.{type_at}
 use Rattle.lookups.proofs.Tables.{places_more, places_none}

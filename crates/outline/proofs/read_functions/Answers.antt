@@ -12,7 +12,7 @@ pub loop-behind-init : goal.loop-behind-init
 loop-behind-init c = rows_none (functions_kind _) _ _ (omega arith) refl
 
 pub returns-in_default : goal.returns-in_default
-returns-in_default c = (rw c.in_default.is (rows_stop (functions_kind _) c.skip_function-step.ensures c.loop-behind.invariant c.in_default.is), omega arith)
+returns-in_default c = record { first_value = rw c.in_default.is (rows_stop (functions_kind _) c.skip_function-step.ensures c.loop-behind.invariant c.in_default.is); limit = omega arith }
 
 pub overflow_cast-places : goal.overflow_cast-places
 overflow_cast-places c = omega (arith, row_begins (functions_kind _) c.skip_function-step.ensures c.in-Next.is)
@@ -24,19 +24,13 @@ loop-behind-preserved c =
 
 pub returns-in-Done : goal.returns-in-Done
 returns-in-Done c =
-    (
-      rows_done (functions_kind _) c.skip_function-step.ensures c.loop-behind.invariant c.in-Next.is
-          c.in-Done.is c.turn_after_function.ensures.behind_value,
-      omega arith,
-    )
+    record { first_value = rows_done (functions_kind _) c.skip_function-step.ensures c.loop-behind.invariant c.in-Next.is
+          c.in-Done.is c.turn_after_function.ensures.behind_value; limit = omega arith }
 
 pub returns-in-Refused : goal.returns-in-Refused
 returns-in-Refused c =
-    (
-      rows_refused (functions_kind _) c.skip_function-step.ensures c.loop-behind.invariant c.in-Next.is
-          c.in-Refused.is c.turn_after_function.ensures.behind_value,
-      omega arith,
-    )
+    record { first_value = rows_refused (functions_kind _) c.skip_function-step.ensures c.loop-behind.invariant c.in-Next.is
+          c.in-Refused.is c.turn_after_function.ensures.behind_value; limit = omega arith }
 
 pub offset_bounds-places-count : goal.offset_bounds-places-count
 offset_bounds-places-count c = omega arith

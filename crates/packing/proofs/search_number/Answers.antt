@@ -18,10 +18,10 @@ pub overflow_add-result-in-Full : goal.overflow_add-result-in-Full
 overflow_add-result-in-Full c = omega (arith, c.requires, ap list_length_in c.result3.given.1, c.number-in-Full.ensures)
 
 pub returns-in-Refused : goal.returns-in-Refused
-returns-in-Refused c = c.number.ensures ∙ no_search_number _ a (sym c.result.given.1 ∙ is)
+returns-in-Refused c a is = c.number.ensures ∙ no_search_number _ a (sym c.result.given.1 ∙ is)
 
 pub returns-in-Complete : goal.returns-in-Complete
-returns-in-Complete c = rw c.verdict_number.ensures.value (complete_number _ _ a (sym c.result2.given.1 ∙ is))
+returns-in-Complete c a is = rw c.verdict_number.ensures.value (complete_number _ _ a (sym c.result2.given.1 ∙ is))
 
 pub returns-in-Full : goal.returns-in-Full
-returns-in-Full c = rw c.number-in-Full.ensures (full_number _ a (sym c.result3.given.1 ∙ is))
+returns-in-Full c a is = rw c.number-in-Full.ensures (full_number _ a (sym c.result3.given.1 ∙ is))

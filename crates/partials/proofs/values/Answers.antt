@@ -48,7 +48,7 @@ overflow_sub-levels c = c.loop-top.invariant.within
 
 pub returns-in-Bad : goal.returns-in-Bad
 returns-in-Bad c =
-    (sym (stopped _ _ _ _ c.loop-top.invariant (omega (arith, c.if-row-eq0.false)) c.byte_or_zero-t.ensures c.first_byte.result c.first_byte.ensures.at_value c.first_byte.ensures.near c.in-Bad.is), tt)
+    record { value = sym (stopped _ _ _ _ c.loop-top.invariant (omega (arith, c.if-row-eq0.false)) c.byte_or_zero-t.ensures c.first_byte.result c.first_byte.ensures.at_value c.first_byte.ensures.near c.in-Bad.is); near = tt }
 
 pub past-row-requires-in-Part : goal.past-row-requires-in-Part
 past-row-requires-in-Part c =

@@ -7,10 +7,10 @@ use Rattle.printout.proofs.text_length.Goals as goal
 
 pub returns-in-Refused : goal.returns-in-Refused
 returns-in-Refused c =
-    measures_refused c.args.file.now c.args.list.now (λ i. omega (arith, c.shared_slice_known-2-1.given i)) _ _
+    measures_refused c.args.file.now c.args.list.now (λ i. omega (arith, c.type_inv.list i)) _ _
     (subst (Judges c.args.file.now c.args.list.now) c.in-Refused.is c.judge.ensures)
 
 pub returns-in-Accepted : goal.returns-in-Accepted
 returns-in-Accepted c =
-    measures_length c.args.file.now c.args.list.now (λ i. omega (arith, c.shared_slice_known-2-1.given i)) _ _
+    measures_length c.args.file.now c.args.list.now (λ i. omega (arith, c.type_inv.list i)) _ _
     (subst (Judges c.args.file.now c.args.list.now) c.in-Accepted.is c.judge.ensures) c.list_length.ensures

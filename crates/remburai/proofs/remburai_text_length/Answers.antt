@@ -6,7 +6,7 @@ use Rattle.remburai.proofs.remburai_text_length.Goals as goal
 
 pub text_number-requires : goal.text_number-requires
 text_number-requires c =
-    omega (arith, length_text_small c.args.file.now c.args.list.now (λ i. omega (arith, c.shared_slice_known-2-1.given i)) c.args.full c.text_length.result c.text_length.ensures)
+    omega (arith, length_text_small c.args.file.now c.args.list.now (λ i. omega (arith, c.type_inv.list i)) c.args.full c.text_length.result c.text_length.ensures)
 
 pub returns : goal.returns
 returns c =

@@ -7,7 +7,7 @@ use Rattle.remburai.proofs.remburai_write_text.Goals as goal
 
 pub text_number-requires : goal.text_number-requires
 text_number-requires c =
-    omega (arith, write_text_small c.args.file.now c.args.list.now (λ i. omega (arith, c.shared_slice_known-2-1.given i)) c.args.full _ _ c.write_text.result c.write_text.ensures)
+    omega (arith, write_text_small c.args.file.now c.args.list.now (λ i. omega (arith, c.type_inv.list i)) c.args.full _ _ c.write_text.result c.write_text.ensures)
 
 pub returns : goal.returns
 returns c =

@@ -12,5 +12,5 @@ pub returns : goal.returns
 returns c =
     rw (manner_entries c.args.least.now c.if-least-eq0.false) (
       ap (Measured.At c.args.next) c.byte_or_zero.ensures,
-      omega (arith, c.byte_or_zero.ensures, c.shared_slice_known-1.given c.args.t),
+      omega (arith, c.byte_or_zero.ensures, c.type_inv.least c.args.t),
     )

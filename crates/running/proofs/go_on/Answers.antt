@@ -15,7 +15,7 @@ loop-x-init c =
 
 pub run_on-ran-requires : goal.run_on-ran-requires
 run_on-ran-requires c =
-    (c.requires.ends, came_onward c.args.file.now c.args.types.now c.args.functions.now c.args.input.now c.args.label c.args.limit c.args.work.now c.args.base c.args.first c.args.from c.loop-x.work c.loop-x.cells c.loop-x.done c.loop-x.r c.loop-x.invariant.2 c.loop-x.invariant.1 c.requires.limit_bound.1)
+    record { ends = c.requires.ends; onward = came_onward c.args.file.now c.args.types.now c.args.functions.now c.args.input.now c.args.label c.args.limit c.args.work.now c.args.base c.args.first c.args.from c.loop-x.work c.loop-x.cells c.loop-x.done c.loop-x.r c.loop-x.invariant.2 c.loop-x.invariant.1 c.requires.limit_bound.1 }
 
 pub overflow_add-reached : goal.overflow_add-reached
 overflow_add-reached c = omega (arith, c.run_on-ran.ensures.no_more, c.loop-x.invariant.1, c.requires.limit_bound.0)

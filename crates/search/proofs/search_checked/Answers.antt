@@ -21,7 +21,7 @@ explore-requires c =
     let under =
     begins c.requires.1 c.records_at-base.ensures c.choices_at-stack.ensures c.head_of-head.result
     c.head_of-head.ensures.result_value c.open_input-from.ensures.value c.open_input-from.ensures.words in
-    ((c.requires.0, under), c.fill_ends.ensures)
+    record { some_begins = (c.requires.0, under); ends = c.fill_ends.ensures }
 
 pub returns : goal.returns
 returns c =

@@ -7,11 +7,11 @@ use Rattle.sizes.proofs.word_at.Goals as goal
 
 pub overflow_mul-result : goal.overflow_mul-result
 overflow_mul-result c =
-    omega (arith, c.wide-low.ensures, c.wide-high.ensures, c.shared_slice_known-3-1.given c.args.at, c.shared_slice_known-3-1.given (c.args.at + 1))
+    omega (arith, c.wide-low.ensures, c.wide-high.ensures, c.type_inv.s c.args.at, c.type_inv.s (c.args.at + 1))
 
 pub overflow_add-result : goal.overflow_add-result
 overflow_add-result c =
-    omega (arith, c.wide-low.ensures, c.wide-high.ensures, c.shared_slice_known-3-1.given c.args.at, c.shared_slice_known-3-1.given (c.args.at + 1))
+    omega (arith, c.wide-low.ensures, c.wide-high.ensures, c.type_inv.s c.args.at, c.type_inv.s (c.args.at + 1))
 
 pub returns : goal.returns
 unfolding word_at

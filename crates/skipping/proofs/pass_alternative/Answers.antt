@@ -7,7 +7,7 @@ use Rattle.skipping.proofs.pass_alternative.Goals as goal
 )
 
 pub returns-then-byte_or_zero-eq0 : goal.returns-then-byte_or_zero-eq0
-returns-then-byte_or_zero-eq0 c = (sym (alternative_absent _ _ _ (sym c.byte_or_zero.ensures ∙ c.if-byte_or_zero-eq0.true)), omega arith)
+returns-then-byte_or_zero-eq0 c = record { value = sym (alternative_absent _ _ _ (sym c.byte_or_zero.ensures ∙ c.if-byte_or_zero-eq0.true)); near = omega arith }
 
 pub returns : goal.returns
 returns c = (

@@ -19,4 +19,4 @@ loop-left-preserved c =
     (rw c.pass_alternative-place.ensures.value (alternatives_more _ _ _ _ c.loop-left-test.true ∙ c.loop-left.invariant.0), omega arith, omega arith)
 
 pub returns : goal.returns
-returns c = (sym (alternatives_none _ _ _ _ c.loop-left-test.false) ∙ c.loop-left.invariant.0, omega arith)
+returns c = record { value = sym (alternatives_none _ _ _ _ c.loop-left-test.false) ∙ c.loop-left.invariant.0; near = omega arith }

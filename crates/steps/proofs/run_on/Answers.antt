@@ -16,7 +16,7 @@ pub loop-work-init : goal.loop-work-init
 loop-work-init c = (refl, omega arith, no_step)
 
 pub run_to_result-ran-requires : goal.run_to_result-ran-requires
-run_to_result-ran-requires c = (c.requires.ends, onward-from c.args.file.now c.args.types.now c.args.functions.now c.args.label c.requires.onward c.loop-work.invariant.1 c.loop-work.invariant.2)
+run_to_result-ran-requires c = record { ends = c.requires.ends; onward = onward-from c.args.file.now c.args.types.now c.args.functions.now c.args.label c.requires.onward c.loop-work.invariant.1 c.loop-work.invariant.2 }
 
 pub overflow_add-done : goal.overflow_add-done
 overflow_add-done c = Fits-le (omega (arith, c.loop-work.invariant.1, c.run_to_result-ran.ensures.no_more)) c.ranges.left

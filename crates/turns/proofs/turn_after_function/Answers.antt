@@ -9,29 +9,29 @@ use Rattle.turns.proofs.Marks.{functions_turn_law}
 use Rattle.turns.proofs.turn_after_function.Goals as goal
 
 pub returns-in_default : goal.returns-in_default
-returns-in_default c = (functions_turn_law _ _ _ ∙ rw (mark_short _ _ c.mark_behind.ensures c.in_default.is), tt)
+returns-in_default c = record { behind_value = functions_turn_law _ _ _ ∙ rw (mark_short _ _ c.mark_behind.ensures c.in_default.is); room = tt }
 
 pub returns-then-more-eq0 : goal.returns-then-more-eq0
 unfolding in_turn
 returns-then-more-eq0 c =
-    (functions_turn_law _ _ _ ∙ rw (mark_got _ _ c.mark_behind.ensures c.in-Mark.is, ← c.same_mark.ensures, c.if-same_mark.true, eq-eqb _ _ c.if-more-eq0.true), tt)
+    record { behind_value = functions_turn_law _ _ _ ∙ rw (mark_got _ _ c.mark_behind.ensures c.in-Mark.is, ← c.same_mark.ensures, c.if-same_mark.true, eq-eqb _ _ c.if-more-eq0.true); room = tt }
 
 pub returns-then-same_mark : goal.returns-then-same_mark
 unfolding in_turn
 returns-then-same_mark c =
-    (functions_turn_law _ _ _ ∙ rw (mark_got _ _ c.mark_behind.ensures c.in-Mark.is, ← c.same_mark.ensures, c.if-same_mark.true, ne_eqb _ _ c.if-more-eq0.false), omega arith)
+    record { behind_value = functions_turn_law _ _ _ ∙ rw (mark_got _ _ c.mark_behind.ensures c.in-Mark.is, ← c.same_mark.ensures, c.if-same_mark.true, ne_eqb _ _ c.if-more-eq0.false); room = omega arith }
 
 pub returns-then-same_mark-2 : goal.returns-then-same_mark-2
 unfolding in_turn
 returns-then-same_mark-2 c =
-    (functions_turn_law _ _ _ ∙ rw (mark_got _ _ c.mark_behind.ensures c.in-Mark.is, ← c.same_mark.ensures, c.if-same_mark.false, ← c.same_mark-2.ensures, c.if-same_mark-2.true), tt)
+    record { behind_value = functions_turn_law _ _ _ ∙ rw (mark_got _ _ c.mark_behind.ensures c.in-Mark.is, ← c.same_mark.ensures, c.if-same_mark.false, ← c.same_mark-2.ensures, c.if-same_mark-2.true); room = tt }
 
 pub returns-then-same_mark-3 : goal.returns-then-same_mark-3
 unfolding in_turn
 returns-then-same_mark-3 c =
-    (functions_turn_law _ _ _ ∙ rw (mark_got _ _ c.mark_behind.ensures c.in-Mark.is, ← c.same_mark.ensures, c.if-same_mark.false, ← c.same_mark-2.ensures, c.if-same_mark-2.false, ← c.same_mark-3.ensures, c.if-same_mark-3.true), tt)
+    record { behind_value = functions_turn_law _ _ _ ∙ rw (mark_got _ _ c.mark_behind.ensures c.in-Mark.is, ← c.same_mark.ensures, c.if-same_mark.false, ← c.same_mark-2.ensures, c.if-same_mark-2.false, ← c.same_mark-3.ensures, c.if-same_mark-3.true); room = tt }
 
 pub returns : goal.returns
 unfolding in_turn
 returns c =
-    (functions_turn_law _ _ _ ∙ rw (mark_got _ _ c.mark_behind.ensures c.in-Mark.is, ← c.same_mark.ensures, c.if-same_mark.false, ← c.same_mark-2.ensures, c.if-same_mark-2.false, ← c.same_mark-3.ensures, c.if-same_mark-3.false, c.out_of_turn.ensures), rw c.out_of_turn.ensures tt)
+    record { behind_value = functions_turn_law _ _ _ ∙ rw (mark_got _ _ c.mark_behind.ensures c.in-Mark.is, ← c.same_mark.ensures, c.if-same_mark.false, ← c.same_mark-2.ensures, c.if-same_mark-2.false, ← c.same_mark-3.ensures, c.if-same_mark-3.false, c.out_of_turn.ensures); room = rw c.out_of_turn.ensures tt }

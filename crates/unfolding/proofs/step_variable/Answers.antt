@@ -10,7 +10,7 @@ group_of-group-requires c = let (types, functions, standing) = c.requires.0 in
     (variable_there c.args.file.now types functions c.args.work.now c.args.base c.args.at c.args.env c.args.r c.requires.1 c.byte_or_zero-n.ensures standing, omega arith, omega arith)
 
 pub overflow_add-result : goal.overflow_add-result
-overflow_add-result c = omega (arith, c.byte_or_zero-n.ensures, c.shared_slice_known-1.given (c.args.at + 1), c.record_word-first.ensures.1)
+overflow_add-result c = omega (arith, c.byte_or_zero-n.ensures, c.type_inv.file (c.args.at + 1), c.record_word-first.ensures.1)
 
 pub returns-then-inner-eq0 : goal.returns-then-inner-eq0
 returns-then-inner-eq0 c = λ types functions filled.

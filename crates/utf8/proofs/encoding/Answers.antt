@@ -12,4 +12,4 @@ overflow_cast-result-2 c = search (entry_fits, rules)
 
 pub returns : goal.returns
 unfolding encoding_bytes utf8
-returns c = (search (entry_bytes_law, rules), search (entry_small, rules))
+returns c = record { result_value = search (entry_bytes_law, rules); small = search (entry_small, rules) }

@@ -5,10 +5,10 @@ use Rattle.reach.proofs.Lists.{found_with_unfinished, undecided_with_unfinished}
 use Rattle.verdicts.proofs.with_unfinished.Goals as goal
 
 pub returns-in-Found : goal.returns-in-Found
-returns-in-Found c = sym (found_with_unfinished counts (sym is ∙ c.in-Found.is))
+returns-in-Found c counts is = sym (found_with_unfinished counts (sym is ∙ c.in-Found.is))
 
 pub returns-in-Undecided : goal.returns-in-Undecided
-returns-in-Undecided c = sym (undecided_with_unfinished counts (λ found. clash (cc (is, found))))
+returns-in-Undecided c counts is = sym (undecided_with_unfinished counts (λ found. clash (cc (is, found))))
 
 pub returns-in-None : goal.returns-in-None
-returns-in-None c = sym (undecided_with_unfinished counts (λ found. clash (cc (is, found, c.in-None.is))))
+returns-in-None c counts is = sym (undecided_with_unfinished counts (λ found. clash (cc (is, found, c.in-None.is))))

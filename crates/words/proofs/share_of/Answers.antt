@@ -11,7 +11,7 @@ use Rattle.words.proofs.share_of.Goals as goal
 
 pub returns-then-both-eq0 : goal.returns-then-both-eq0
 unfolding share
-returns-then-both-eq0 c = (rw (eq-eqb (c.args.reach + c.args.unfinished) 0 c.if-both-eq0.true), omega arith)
+returns-then-both-eq0 c = record { value = rw (eq-eqb (c.args.reach + c.args.unfinished) 0 c.if-both-eq0.true); small = omega arith }
 
 pub nearest_to-requires : goal.nearest_to-requires
 nearest_to-requires c =
@@ -22,4 +22,4 @@ unfolding share
 returns c =
     let some = ne_eqb (c.args.reach + c.args.unfinished) 0 c.if-both-eq0.false in
     let is : c.nearest_to.result ≡ share c.args.reach c.args.unfinished = rw some c.nearest_to.ensures in
-    (is, rw is (share_most c.args.reach c.args.unfinished))
+    record { value = is; small = rw is (share_most c.args.reach c.args.unfinished) }
