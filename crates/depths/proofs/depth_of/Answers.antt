@@ -8,5 +8,5 @@ use Rattle.depths.proofs.depth_of.Goals as goal
 
 pub returns-else-t-lt32 : goal.returns-else-t-lt32
 returns-else-t-lt32 c =
-    let long : length c.args.t1.of ≡ 32 = search rules in
-    record { value = sym (get_or-eq_default {A = ℕ} c.args.t1.of 0 (omega arith)); small = omega arith }
+    let long : length c.args.table.of ≡ 32 = search rules in
+    record { value = sym (get_or-eq_default {A = ℕ} c.args.table.of 0 (omega arith)); small = omega arith }

@@ -16,16 +16,16 @@ loop-t-init c = refl
 pub returns-then-table-t-eq0 : goal.returns-then-table-t-eq0
 unfolding no_empty_type
 returns-then-table-t-eq0 c =
-    let long : length c.args.t1.of ≡ 32 = search rules in
-    let none : get_or c.args.t1.of c.loop-t.t 0 ≡ 0 = c.if-table-t-eq0.true in
-    rw (← c.loop-t.invariant, front_more c.args.t1.of c.args.types c.loop-t.t (omega arith) c.loop-t-test.true, none)
+    let long : length c.args.table.of ≡ 32 = search rules in
+    let none : get_or c.args.table.of c.loop-t.t 0 ≡ 0 = c.if-table-t-eq0.true in
+    rw (← c.loop-t.invariant, front_more c.args.table.of c.args.types c.loop-t.t (omega arith) c.loop-t-test.true, none)
 
 pub loop-t-preserved : goal.loop-t-preserved
 unfolding no_empty_type
 loop-t-preserved c =
-    let long : length c.args.t1.of ≡ 32 = search rules in
-    let some : get_or c.args.t1.of c.loop-t.t 0 ≡ 0 → ⊥ = c.if-table-t-eq0.false in
-    rw (← c.loop-t.invariant, front_more c.args.t1.of c.args.types c.loop-t.t (omega arith) c.loop-t-test.true, lt-ltb 0 (get_or c.args.t1.of c.loop-t.t 0) (omega arith))
+    let long : length c.args.table.of ≡ 32 = search rules in
+    let some : get_or c.args.table.of c.loop-t.t 0 ≡ 0 → ⊥ = c.if-table-t-eq0.false in
+    rw (← c.loop-t.invariant, front_more c.args.table.of c.args.types c.loop-t.t (omega arith) c.loop-t-test.true, lt-ltb 0 (get_or c.args.table.of c.loop-t.t 0) (omega arith))
 
 pub returns : goal.returns
 unfolding no_empty_type

@@ -6,12 +6,12 @@ use Rattle.expressions.proofs.variable.Goals as goal
 
 pub returns-in_default : goal.returns-in_default
 returns-in_default c =
-    variable_short c.args.left c.args.t4 _ _ _
+    variable_short c.args.left c.args.view _ _ _
     (byte_short _ _ c.take_byte.ensures c.in_default.is)
 
 pub returns-then-view-n : goal.returns-then-view-n
 returns-then-view-n c =
-    variable_unknown c.args.left c.args.t4 _ _ _
+    variable_unknown c.args.left c.args.view _ _ _
     (byte_got _ _ c.take_byte.ensures c.in-Byte.is)
     c.wide-n.ensures
     c.if-view-n.true

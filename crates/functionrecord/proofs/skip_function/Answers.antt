@@ -11,10 +11,6 @@ use Rattle.typerecord.proofs.Counts.{counted_got, counted_short, counted_over}
 use Rattle.typerecord.proofs.Tails.{function_tail}
 use Rattle.functionrecord.proofs.skip_function.Goals as goal
 
--- past its tests, the number of parameters was read as the definition reads it
-n-read : (c : tie.Else1) → counted 0 parameter_limit c.before.before.before.before.before.before.before.args.s.now c.before.before.before.before.before.before.before.args.at ≡ got c.before.before.before.n.given.0.0 c.before.before.before.n.given.0.1.0
-n-read c = counted_got 0 parameter_limit _ _ (byte_got _ _ c.before.before.before.before.before.take-byte.ensures c.before.before.before.n.given.1) (omega arith) (omega arith)
-
 pub returns-in_default : goal.returns-in_default
 unfolding function_record
 returns-in_default c = rw (counted_short 0 parameter_limit _ _ (byte_short _ _ c.take_byte.ensures c.in_default.is))
@@ -29,7 +25,7 @@ pub returns-in_default-step : goal.returns-in_default-step
 unfolding function_record
 returns-in_default-step c =
     rw (
-      n-read c,
+      counted_got 0 parameter_limit _ _ (byte_got _ _ c.take_byte.ensures c.in-Byte.is) (omega arith) (omega arith),
       bytes_refused _ _ c.skip_bytes-step.ensures c.wide-2.ensures c.in_default-step.is,
     )
     c.in_default-step.is
@@ -38,7 +34,7 @@ pub returns-in_default-take_byte : goal.returns-in_default-take_byte
 unfolding function_record
 returns-in_default-take_byte c =
     rw (
-      n-read c,
+      counted_got 0 parameter_limit _ _ (byte_got _ _ c.take_byte.ensures c.in-Byte.is) (omega arith) (omega arith),
       (bytes_got _ _ c.skip_bytes-step.ensures c.wide-2.ensures c.in-Next.is).1,
       byte_short _ _ c.take_byte-2.ensures c.in_default-take_byte.is,
     )
@@ -48,6 +44,6 @@ returns c =
     c.skip_body.ensures
     ∙ sym
     (function_tail _ _
-    (n-read c)
+    (counted_got 0 parameter_limit _ _ (byte_got _ _ c.take_byte.ensures c.in-Byte.is) (omega arith) (omega arith))
     (bytes_got _ _ c.skip_bytes-step.ensures c.wide-2.ensures c.in-Next.is).1
     (byte_got _ _ c.take_byte-2.ensures c.in-Byte-take_byte.is))

@@ -8,5 +8,5 @@ use Rattle.goal.proofs.depth_at.Goals as goal
 
 pub returns-else-i-lt8 : goal.returns-else-i-lt8
 returns-else-i-lt8 c =
-    let long : length c.args.t1 ≡ 8 = search rules in
-    record { value = sym (get_or-eq_default {A = ℕ} c.args.t1 0 (omega arith)); small = omega arith }
+    let long : length c.args.depths ≡ 8 = search rules in
+    record { value = sym (get_or-eq_default {A = ℕ} c.args.depths 0 (omega arith)); small = omega arith }

@@ -11,10 +11,6 @@ use Rattle.marks.proofs.Answers.{byte_got, byte_short, word_got, word_short}
 use Rattle.typerecord.proofs.Counts.{counted_got, counted_short, counted_under, counted_over}
 use Rattle.goalrecord.proofs.skip_limits.Goals as goal
 
--- past its tests, the depth was read as the definition reads it
-d-read : (c : tie.Else2) → counted 1 depth_limit c.before.before.before.before.before.before.before.before.before.args.s.now c.before.before.before.before.before.before.before.before.before.args.at ≡ got c.before.before.before.before.before.d.given.0.0 c.before.before.before.before.before.d.given.0.1.0
-d-read c = counted_got 1 depth_limit _ _ (byte_got _ _ c.before.before.before.before.before.before.before.take-byte.ensures c.before.before.before.before.before.d.given.1) (omega arith) (omega arith)
-
 pub returns-in_default : goal.returns-in_default
 unfolding limits_part
 returns-in_default c = rw (counted_short 1 depth_limit _ _ (byte_short _ _ c.take_byte.ensures c.in_default.is))
@@ -33,12 +29,12 @@ returns-then-wide-gt-DEPTH_LIMIT c =
 
 pub returns-in_default-take_word : goal.returns-in_default-take_word
 unfolding limits_part
-returns-in_default-take_word c = rw (d-read c, word_short _ _ c.take_word.ensures c.in_default-take_word.is)
+returns-in_default-take_word c = rw (counted_got 1 depth_limit _ _ (byte_got _ _ c.take_byte.ensures c.in-Byte.is) (omega arith) (omega arith), word_short _ _ c.take_word.ensures c.in_default-take_word.is)
 
 pub returns-then-n-gt-STEP_LIMIT : goal.returns-then-n-gt-STEP_LIMIT
 unfolding limits_part
-returns-then-n-gt-STEP_LIMIT c = rw (d-read c, word_got _ _ c.take_word.ensures c.in-Word.is, lt-leb c.in-Word.n step_limit (omega arith))
+returns-then-n-gt-STEP_LIMIT c = rw (counted_got 1 depth_limit _ _ (byte_got _ _ c.take_byte.ensures c.in-Byte.is) (omega arith) (omega arith), word_got _ _ c.take_word.ensures c.in-Word.is, lt-leb c.in-Word.n step_limit (omega arith))
 
 pub returns : goal.returns
 unfolding limits_part
-returns c = rw (d-read c, word_got _ _ c.take_word.ensures c.in-Word.is, le-leb c.in-Word.n step_limit (omega arith))
+returns c = rw (counted_got 1 depth_limit _ _ (byte_got _ _ c.take_byte.ensures c.in-Byte.is) (omega arith) (omega arith), word_got _ _ c.take_word.ensures c.in-Word.is, le-leb c.in-Word.n step_limit (omega arith))

@@ -11,10 +11,6 @@ use Rattle.handed.proofs.Entries.{entry_inside, entry_late, entry_told}
 use Rattle.std.proofs.Common.{rules}
 use Rattle.handed.proofs.entry_fits.Goals as goal
 
--- the table has a number for each type that there may be
-long : (c : tie.Start) → length c.args.least.of ≡ 32
-long c = search rules
-
 pub overflow_add-at : goal.overflow_add-at
 overflow_add-at c =
     omega (arith, (entry_inside c.args.file.now c.args.types.now c.args.functions.now c.args.least.of c.args.list.now c.args.goal.source c.args.goal.depths c.args.goal.steps c.args.at c.args.n c.requires).0)
@@ -33,8 +29,9 @@ overflow_add-at-2 c =
 
 pub returns-in_default : goal.returns-in_default
 returns-in_default c =
+    let long : length c.args.least.of ≡ 32 = search rules in
     let told = rw (parameters_are _ c.head_of-head.result c.head_of-head.ensures.result_value) at c.slots.ensures in
-    entry_told c.args.file.now c.args.types.now c.args.functions.now c.args.least.of c.args.list.now c.args.goal.source c.args.goal.depths c.args.goal.steps c.args.at c.args.n c.requires (omega (arith, c.word_at.ensures, c.if-limit-word_at.false)) (λ e. clash (omega (arith, e, long c))) told false (λ place deep e. absurd (clash (cc (c.in_default.is, e)))) (λ e. refl)
+    entry_told c.args.file.now c.args.types.now c.args.functions.now c.args.least.of c.args.list.now c.args.goal.source c.args.goal.depths c.args.goal.steps c.args.at c.args.n c.requires (omega (arith, c.word_at.ensures, c.if-limit-word_at.false)) (λ e. clash (omega (arith, e, long))) told false (λ place deep e. absurd (clash (cc (c.in_default.is, e)))) (λ e. refl)
 
 pub overflow_add-result : goal.overflow_add-result
 overflow_add-result c =
@@ -42,7 +39,8 @@ overflow_add-result c =
 
 pub returns : goal.returns
 returns c =
+    let long : length c.args.least.of ≡ 32 = search rules in
     let told = rw (parameters_are _ c.head_of-head.result c.head_of-head.ensures.result_value) at c.slots.ensures in
-    entry_told c.args.file.now c.args.types.now c.args.functions.now c.args.least.of c.args.list.now c.args.goal.source c.args.goal.depths c.args.goal.steps c.args.at c.args.n c.requires (omega (arith, c.word_at.ensures, c.if-limit-word_at.false)) (λ e. clash (omega (arith, e, long c))) told _
+    entry_told c.args.file.now c.args.types.now c.args.functions.now c.args.least.of c.args.list.now c.args.goal.source c.args.goal.depths c.args.goal.steps c.args.at c.args.n c.requires (omega (arith, c.word_at.ensures, c.if-limit-word_at.false)) (λ e. clash (omega (arith, e, long))) told _
     (λ place deep e. let same : c.in-At.place ≡ place = cc (c.in-At.is, e) in ap (λ (x : ℕ). eqb x (c.args.at + c.args.n)) same)
     (λ e. absurd (clash (cc (c.in-At.is, e))))

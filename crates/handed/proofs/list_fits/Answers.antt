@@ -13,10 +13,6 @@ use Rattle.handed.specs.Fits.{AcceptedTables}
 use Rattle.handed.proofs.Lists.{found, all_read, too_long, at_last, over, none_there, unfit, fit}
 use Rattle.handed.proofs.list_fits.Goals as goal
 
--- the entry ends inside the list
-inside : (c : tie.After-entry-fits invariant-loop decreases-loop) → c.before.before.before.before.before.before.before.loop.at + c.before.before.n.given.0.0 ≤ length c.before.before.before.before.before.before.before.before.before.before.before.before.before.args.list.now
-inside c = size_inside c.before.before.before.before.before.before.before.before.before.before.before.before.before.args.list.now c.before.before.before.before.before.before.before.loop.at c.before.before.n.given.0.0 (sym c.before.before.before.before.size-at.ensures ∙ ap size_of c.before.before.n.given.1)
-
 pub returns-then-end-gt16777216 : goal.returns-then-end-gt16777216
 returns-then-end-gt16777216 c p given = too_long given c.args.list.now c.if-end-gt16777216.true
 
@@ -48,13 +44,13 @@ returns-then-not-entry_fits c p given =
     ∙ c.loop-more.invariant.2 p given)
 
 pub overflow_add-at : goal.overflow_add-at
-overflow_add-at c = omega (arith, inside c)
+overflow_add-at c = omega (arith, size_inside c.args.list.now c.loop-more.at c.in-Bytes.n (sym c.size_at.ensures ∙ ap size_of c.in-Bytes.is))
 
 pub loop-more-preserved : goal.loop-more-preserved
 loop-more-preserved c =
     (
       c.loop-more.invariant.0,
-      inside c,
+      size_inside c.args.list.now c.loop-more.at c.in-Bytes.n (sym c.size_at.ensures ∙ ap size_of c.in-Bytes.is),
       λ p given. sym (fit given c.args.list.now c.loop-more.more c.loop-more.at c.loop-more-test.true (omega (arith, c.loop-more.invariant.0, c.if-end-at.false)) (c.loop-more.at + c.in-Bytes.n) c.entry_fits.result
           c.entry_fits.ensures (not-false c.entry_fits.result c.if-not-entry_fits.false))
           ∙ c.loop-more.invariant.2 p given,
