@@ -4,12 +4,11 @@ use native.Mathlib.Omega.{arith}
 use Rattle.skipping.proofs.Finding.{alternative_absent, alternative_present}
 use Rattle.skipping.proofs.pass_alternative.Goals as goal
 
-)
-
 pub returns-then-byte_or_zero-eq0 : goal.returns-then-byte_or_zero-eq0
 returns-then-byte_or_zero-eq0 c = record { value = sym (alternative_absent _ _ _ (sym c.byte_or_zero.ensures ∙ c.if-byte_or_zero-eq0.true)); near = omega arith }
 
 pub returns : goal.returns
-returns c = (
-  c.place_or_zero.ensures.0 ∙ sym (alternative_present _ _ _ (λ is. c.if-byte_or_zero-eq0.false (c.byte_or_zero.ensures ∙ is))),
-  omega (arith, c.place_or_zero.ensures.1),
+returns c = record {
+  value = c.place_or_zero.ensures.0 ∙ sym (alternative_present _ _ _ (λ is. c.if-byte_or_zero-eq0.false (c.byte_or_zero.ensures ∙ is)));
+  near = omega (arith, c.place_or_zero.ensures.1);
+}
