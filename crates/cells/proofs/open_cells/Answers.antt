@@ -9,8 +9,6 @@ use Rattle.cells.specs.Writes.{Opens}
 use Rattle.cells.proofs.Writing.{opens_none, opens-next}
 use Rattle.cells.proofs.open_cells.Goals as goal
 
-)
-
 pub loop-more-init : goal.loop-more-init
 loop-more-init c =
     let none : c.args.k - c.args.k ≡ 0 = omega arith in
@@ -35,6 +33,7 @@ loop-more-preserved c = (
   omega arith,
   omega arith,
   omega arith,
+)
 
 pub shape_of-work : goal.shape_of-work
 shape_of-work c = c.loop-more.invariant.0.same_length

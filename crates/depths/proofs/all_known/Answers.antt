@@ -9,8 +9,6 @@ use Rattle.reach.specs.Places.{bytes_at}
 use Rattle.lookups.proofs.Tables.{bytes_more, bytes_none}
 use Rattle.depths.proofs.all_known.Goals as goal
 
-)
-
 pub loop-more-init : goal.loop-more-init
 loop-more-init c = (refl, refl)
 
@@ -36,6 +34,7 @@ loop-more-preserved c = (
     lt-ltb 0 c.depth_of.result (omega arith),
   ),
   omega arith,
+)
 
 pub returns : goal.returns
 unfolding known

@@ -9,8 +9,6 @@ use Rattle.reach.specs.Places.{bytes_at}
 use Rattle.lookups.proofs.Tables.{bytes_more, bytes_none}
 use Rattle.depths.proofs.all_shallow.Goals as goal
 
-)
-
 pub loop-more-init : goal.loop-more-init
 loop-more-init c = (refl, refl)
 
@@ -49,6 +47,7 @@ loop-more-preserved c = (
     le-leb _ _ c.if-d-least.false,
   ),
   omega arith,
+)
 
 pub returns : goal.returns
 unfolding shallow

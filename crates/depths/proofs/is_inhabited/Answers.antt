@@ -8,8 +8,6 @@ use Rattle.reach.specs.Places.{constructors_at}
 use Rattle.lookups.proofs.Tables.{constructors_more, constructors_none}
 use Rattle.depths.proofs.is_inhabited.Goals as goal
 
-)
-
 pub loop-more-init : goal.loop-more-init
 loop-more-init c = (refl, omega arith)
 
@@ -51,6 +49,7 @@ loop-more-preserved c = (
     c.byte_or_zero-fields.ensures,
     c.type_inv.s c.loop-more.place,
   ),
+)
 
 pub returns : goal.returns
 unfolding inhabited

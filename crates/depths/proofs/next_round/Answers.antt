@@ -9,10 +9,6 @@ use Rattle.depths.specs.Table.{array_after}
 use Rattle.depths.proofs.Rounds.{written_to, round_next, round_done, kept_next}
 use Rattle.depths.proofs.next_round.Goals as goal
 
-)
-
-)
-
 pub loop-t-init : goal.loop-t-init
 loop-t-init c = (refl, (λ h. refl), omega arith)
 
@@ -21,12 +17,14 @@ loop-t-preserved-then-number-after c = (
   round_next _ _ c.requires c.loop-t-test.true c.loop-t.invariant.0 c.renewed-after.ensures,
   (λ h. absurd (false≢true (sym h))),
   omega arith,
+)
 
 pub loop-t-preserved : goal.loop-t-preserved
 loop-t-preserved c = (
   round_next _ _ c.requires c.loop-t-test.true c.loop-t.invariant.0 c.renewed-after.ensures,
   kept_next _ c.loop-t.t c.loop-t.invariant.1 c.if-number-after.false,
   omega arith,
+)
 
 pub returns : goal.returns
 returns c =

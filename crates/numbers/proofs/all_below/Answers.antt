@@ -9,8 +9,6 @@ use Rattle.reach.specs.Places.{bytes_at}
 use Rattle.lookups.proofs.Tables.{bytes_more, bytes_none}
 use Rattle.numbers.proofs.all_below.Goals as goal
 
-)
-
 pub loop-more-init : goal.loop-more-init
 loop-more-init c = (refl, refl)
 
@@ -34,6 +32,7 @@ loop-more-preserved c = (
     lt-ltb _ _ c.if-limit-byte_or_zero.false,
   ),
   omega arith,
+)
 
 pub returns : goal.returns
 unfolding all_below

@@ -9,8 +9,6 @@ use Rattle.reach.specs.Places.{constructors_at}
 use Rattle.lookups.proofs.Tables.{constructors_more, constructors_none}
 use Rattle.numbers.proofs.constructors_exist.Goals as goal
 
-)
-
 pub loop-more-init : goal.loop-more-init
 loop-more-init c = (refl, omega arith)
 
@@ -52,6 +50,7 @@ loop-more-preserved c = (
     c.byte_or_zero-fields.ensures,
     c.type_inv.s c.loop-more.place,
   ),
+)
 
 pub returns : goal.returns
 unfolding constructors_exist

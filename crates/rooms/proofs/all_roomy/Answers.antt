@@ -9,8 +9,6 @@ use Rattle.reach.specs.Places.{bytes_at}
 use Rattle.rooms.proofs.Rooms.{roomy_whole, roomy_fails, roomy_next, roomy_done}
 use Rattle.rooms.proofs.all_roomy.Goals as goal
 
-)
-
 pub loop-i-init : goal.loop-i-init
 loop-i-init c = (roomy_whole _ _ _ _ _, omega arith)
 
@@ -24,6 +22,7 @@ loop-i-preserved c = (
   roomy_next _ _ _ _ _ _ c.loop-i-test.true c.depth_at.ensures.value c.all_shallow.ensures c.if-all_shallow.true
       ∙ c.loop-i.invariant.0,
   omega arith,
+)
 
 pub returns : goal.returns
 returns c = roomy_done _ _ _ _ _ _ c.loop-i-test.false ∙ c.loop-i.invariant.0

@@ -6,8 +6,6 @@ use Rattle.registers.specs.Stepping.{Outward}
 use Rattle.registers.proofs.Walks.{walk_here, walk-outward, walk_less}
 use Rattle.unfolding.proofs.group_of.Goals as goal
 
-)
-
 pub loop-group-init : goal.loop-group-init
 loop-group-init c = (walk_here _ _ _ _, omega arith)
 
@@ -24,6 +22,7 @@ pub loop-group-preserved : goal.loop-group-preserved
 loop-group-preserved c = (
   walk-outward _ _ _ _ _ c.loop-group.invariant.0 c.Outside-of.ensures c.loop-group-test.true c.record_word-group.ensures.0,
   omega (arith, walk_less _ _ _ _ _ c.requires.0 c.loop-group.invariant.0 c.record_word-group.ensures.0),
+)
 
 pub returns : goal.returns
 returns c = record { outward = c.loop-group.invariant.0; inside = omega (arith, c.Outside-of.ensures); no_later = c.loop-group.invariant.1 }
