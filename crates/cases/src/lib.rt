@@ -1,12 +1,11 @@
-// What the programs that run stored cases share: the parts and the numbers of a case are read from standard input, and what became of it is printed. A
-// container is cases, one behind the other. Rests on crates reach and refusals, and on the libraries io and libc.
+// What the programs share, above all those that run stored cases: the parts and the numbers of a case are read from an input, and what became of it is printed.
+// A container is cases, one behind the other. A read that fails ends the input, and a write that fails is handed back. Rests on crates reach and refusals.
 #![tactic(auto)]
 
-ghost use Rattle.std.specs.Prelude.{◌≤◌, ◌≡◌, length, drop};
-ghost use Rattle.io.specs.Counts.{IsPrefixLen};
+ghost use Rattle.std.specs.Prelude.{◌≡◌, ◌≤◌, length, take, drop};
 
-use libc::{STDIN_FILENO, STDOUT_FILENO};
 use reach::{Refusal, Verdict};
+use std::io::{self, Read};
 
 // How many cases a program runs at most.
 pub const CASES: usize = 1000000;
@@ -55,111 +54,139 @@ pub fn least(a: usize, b: usize) -> usize
     if a < b { a } else { b }
 }
 
+// Reads once. How many bytes there were at the front of the buffer: none where the input has ended, or a read failed.
+fn read_some<R: Read>(input: &mut R, part: &mut [u8]) -> usize
+    ensures upper_bound { result ≤ length part.new }
+    ensures front { result ≡ length (take result part.new) }
+{
+    match input.read(part) {
+        Ok(n) => n,
+        Err(_) => 0,
+    }
+}
+
+// Reads until a buffer is full or the input has ended. How many bytes there were.
+fn read_full<R: Read>(input: &mut R, part: &mut [u8]) -> usize
+    ensures upper_bound { result ≤ length part.new }
+    ensures front { result ≡ length (take result part.new) }
+{
+    let mut done = 0;
+    while done < part.len() {
+        let n = read_some(input, &mut part[done..]);
+        if n == 0 {
+            break;
+        }
+        done += n;
+    }
+    done
+}
+
 // Reads a byte.
-pub fn read_byte() -> usize
+pub fn read_byte<R: Read>(input: &mut R) -> usize
     ensures { result ≤ 256 }
 {
     let mut byte = [0u8; 1];
-    if io::read_full(STDIN_FILENO, &mut byte) < 1 {
+    if read_full(input, &mut byte) < 1 {
         return NO_BYTE;
     }
     wide(byte[0])
 }
 
 // Reads a length of two bytes, low byte first.
-fn read_length() -> usize
+fn read_length<R: Read>(input: &mut R) -> usize
     ensures { result ≤ 65536 }
 {
     let mut bytes = [0u8; 2];
-    if io::read_full(STDIN_FILENO, &mut bytes) < 2 {
+    if read_full(input, &mut bytes) < 2 {
         return NO_PART;
     }
     low_first(bytes[0], bytes[1])
 }
 
 // Reads a number of three bytes, low byte first.
-pub fn read_number() -> usize
+pub fn read_number<R: Read>(input: &mut R) -> usize
     ensures { result ≤ 16777216 }
 {
     let mut bytes = [0u8; 3];
-    if io::read_full(STDIN_FILENO, &mut bytes) < 3 {
+    if read_full(input, &mut bytes) < 3 {
         return NO_NUMBER;
     }
     low_first(bytes[0], bytes[1]) + 65536 * wide(bytes[2])
 }
 
 // Reads as many bytes to the front of a slice, which has them. How many there were. Which they are, nothing can tell; those behind are as before.
-pub fn read_bytes(part: &mut [u8], n: usize) -> usize
+pub fn read_bytes<R: Read>(input: &mut R, part: &mut [u8], n: usize) -> usize
     requires { n ≤ length part.old }
     ensures upper_bound { result ≤ n }
     ensures kept { drop n part.new ≡ drop n part.old }
 {
-    least(io::read_full(STDIN_FILENO, &mut part[..n]), n)
+    least(read_full(input, &mut part[..n]), n)
 }
 
 // Reads a part behind its two-byte length to the front of a buffer, which has room for every length, and gives the length.
-pub fn read_part(part: &mut [u8]) -> usize
+pub fn read_part<R: Read>(input: &mut R, part: &mut [u8]) -> usize
     requires { 65536 ≤ length part.old }
-    ensures { IsPrefixLen result part.new }
+    ensures upper_bound { result ≤ length part.new }
+    ensures front { result ≡ length (take result part.new) }
 {
-    let n = read_length();
+    let n = read_length(input);
     if n == NO_PART {
         return NO_PART;
     }
-    read_bytes(part, n)
+    read_bytes(input, part, n)
 }
 
 // Prints bytes as they are.
-pub fn print(text: &[u8]) {
-    io::write_all(STDOUT_FILENO, text);
+pub fn print(rt: &impl Print, text: &[u8]) -> io::Result<()> {
+    rt.write_all(text)
 }
 
 // Prints the first n bytes of a text.
-pub fn print_text(text: &[u8], n: usize) {
+pub fn print_text(rt: &impl Print, text: &[u8], n: usize) -> io::Result<()> {
     if text.len() < n {
-        print(b"the text is longer than its slice\n");
-        return;
+        return print(rt, b"the text is longer than its slice\n");
     }
-    print(&text[..n]);
+    print(rt, &text[..n])
 }
 
 // Prints a number behind a word.
-pub fn print_number(word: &[u8], n: u64) {
-    io::write_all(STDOUT_FILENO, word);
-    io::print_decimal(STDOUT_FILENO, n);
+pub fn print_number(rt: &impl Print, word: &[u8], n: u64) -> io::Result<()> {
+    print(rt, word)?;
+    rt.print(n)
 }
 
 // Prints `refused` and the number.
-pub fn print_refused(why: Refusal) {
-    print_number(b"refused ", refusals::number(why));
+pub fn print_refused(rt: &impl Print, why: Refusal) -> io::Result<()> {
+    print_number(rt, b"refused ", refusals::number(why))
 }
 
 // Prints a verdict, and behind it the bytes of the list that it is said of.
-pub fn print_verdict(verdict: Verdict, count: usize) {
+pub fn print_verdict(rt: &impl Print, verdict: Verdict, count: usize) -> io::Result<()> {
     let n = count as u64;
     match verdict {
-        Verdict::Found => print_number(b"found ", n),
-        Verdict::Undecided => print_number(b"undecided ", n),
-        Verdict::None => print_number(b"none ", n),
+        Verdict::Found => print_number(rt, b"found ", n),
+        Verdict::Undecided => print_number(rt, b"undecided ", n),
+        Verdict::None => print_number(rt, b"none ", n),
     }
 }
 
 // Prints a byte in decimal, and a space.
-fn print_byte(x: u8) {
-    io::print_decimal(STDOUT_FILENO, x as u64);
-    io::write_all(STDOUT_FILENO, b" ");
+fn print_byte(rt: &impl Print, x: u8) -> io::Result<()> {
+    rt.print(x)?;
+    print(rt, b" ")
 }
 
 // Prints so many bytes of a slice, or all where there are fewer.
-pub fn print_bytes(list: &[u8], count: usize) {
+pub fn print_bytes(rt: &impl Print, list: &[u8], count: usize) -> io::Result<()> {
     let mut at: usize = 0;
     while at < list.len() {
         if count <= at {
-            return;
+            return Ok(());
         }
-        print_byte(list[at]);
+        print_byte(rt, list[at])?;
         at += 1;
     }
+    Ok(())
 }
 
 // Whether every word from `from` on is still `word`.
@@ -187,10 +214,10 @@ pub fn bytes_kept(list: &[u8], from: usize, byte: u8) -> bool {
 }
 
 // Prints whether a slice was kept as it was.
-pub fn print_kept(kept: bool) {
+pub fn print_kept(rt: &impl Print, kept: bool) -> io::Result<()> {
     if kept {
-        print(b"kept");
+        print(rt, b"kept")
     } else {
-        print(b"changed");
+        print(rt, b"changed")
     }
 }

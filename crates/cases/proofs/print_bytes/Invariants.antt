@@ -1,10 +1,6 @@
 -- `cases::print_bytes` is safe and ends: what is left of the slice gets shorter.
-use Prim.Native.Nat.{◌-◌}
-use lib.ListN.{length}
+use Rattle.std.proofs.Common.{◌-◌, length}
 use Rattle.cases.proofs.print_bytes.Given as goal
 
-abbrev pub invariant-loop-at : goal.invariant-loop-at
-invariant-loop-at l = Unit {0}
-
 abbrev pub decreases-loop-at : goal.decreases-loop-at
-decreases-loop-at l = length l.list - l.at
+decreases-loop-at g l = length l.list - l.at
