@@ -1,11 +1,9 @@
 -- `outline::read_functions` meets its contract. The invariant is Rows: the functions that were read stand at the places kept, and the rest of the
 -- whole is read from here on. The measure is the room that is left.
 -- Rests on Rows.
-use Prim.Native.Nat.{◌-◌}
 use mathlib.Core.Path.{refl}
 use native.Mathlib.Omega.{arith}
-use Rattle.turns.specs.Turns.{functions_from}
-use Rattle.outline.proofs.Rows.{functions_kind, Rows, rows_none, row_begins, rows_stop, rows_again, rows_done, rows_refused}
+use Rattle.outline.proofs.Rows.{functions_kind, rows_none, row_begins, rows_stop, rows_again, rows_done, rows_refused}
 use Rattle.outline.proofs.read_functions.Goals as goal
 
 pub loop-behind-init : goal.loop-behind-init
@@ -24,13 +22,19 @@ loop-behind-preserved c =
 
 pub returns-in-Done : goal.returns-in-Done
 returns-in-Done c =
-    record { first_value = rows_done (functions_kind _) c.skip_function-step.ensures c.loop-behind.invariant c.in-Next.is
-          c.in-Done.is c.turn_after_function.ensures.behind_value; limit = omega arith }
+    record {
+      first_value = rows_done (functions_kind _) c.skip_function-step.ensures c.loop-behind.invariant c.in-Next.is
+          c.in-Done.is c.turn_after_function.ensures.behind_value;
+      limit = omega arith;
+    }
 
 pub returns-in-Refused : goal.returns-in-Refused
 returns-in-Refused c =
-    record { first_value = rows_refused (functions_kind _) c.skip_function-step.ensures c.loop-behind.invariant c.in-Next.is
-          c.in-Refused.is c.turn_after_function.ensures.behind_value; limit = omega arith }
+    record {
+      first_value = rows_refused (functions_kind _) c.skip_function-step.ensures c.loop-behind.invariant c.in-Next.is
+          c.in-Refused.is c.turn_after_function.ensures.behind_value;
+      limit = omega arith;
+    }
 
 pub offset_bounds-places-count : goal.offset_bounds-places-count
 offset_bounds-places-count c = omega arith

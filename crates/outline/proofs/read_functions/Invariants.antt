@@ -2,10 +2,8 @@
 -- whole is read from here on. The measure is the room that is left.
 -- Rests on Rows.
 use Prim.Native.Nat.{◌-◌}
-use mathlib.Core.Path.{refl}
-use native.Mathlib.Omega.{arith}
 use Rattle.turns.specs.Turns.{functions_from}
-use Rattle.outline.proofs.Rows.{functions_kind, Rows, rows_none, row_begins, rows_stop, rows_again, rows_done, rows_refused}
+use Rattle.outline.proofs.Rows.{functions_kind, Rows}
 use Rattle.outline.proofs.read_functions.Given as goal
 
 abbrev pub invariant-loop-behind : goal.invariant-loop-behind
