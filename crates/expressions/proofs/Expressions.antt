@@ -3,7 +3,7 @@
 -- Rests on Tables, Views and Passing.
 use Prim.Native.Nat.{ℕ, ◌-◌, ◌≤◌, ◌<◌}
 use mathlib.Core.Path.{◌≡◌, sym, ◌∙◌, ap}
-use mathlib.Core.Bool.{Bool, true, false, not}
+use mathlib.Core.Bool.{Bool, true, false}
 use mathlib.Core.List.{List, [], ◌∷◌, ◌++◌, map}
 use lib.ListN.{length, get_or, length-map, length-take}
 use lib.Seq.{get_or-take}
@@ -23,7 +23,6 @@ use Rattle.typerecord.specs.Passed.{passed_of}
 use Rattle.typerecord.proofs.Answers.{step_mapped}
 use Rattle.expressions.specs.declared.View.{View}
 use Rattle.lookups.specs.declared.Fields.{Fields}
-use Rattle.lookups.specs.declared.Fields.TheVariants as Fields
 use Rattle.lookups.specs.declared.Head.{Head}
 use Rattle.lookups.specs.declared.Constructors.{Constructors}
 use Rattle.lookups.specs.Fields.{fields_of, fields_in}
@@ -52,11 +51,11 @@ module _ (left : ℕ) (view : View) (expected : ℕ) (s : List ℕ) (at : ℕ) w
       seen : ltb b (length (view_of view)) ≡ true
       seen = lt-ltb b (length (view_of view)) (omega arith)
 
-      pub variable_over : not r ≡ true → Refused OutOfRange ≡ variable_step
+      pub variable_over : r ≡ false → Refused OutOfRange ≡ variable_step
       unfolding variable_expr
       variable_over e = rw (read, seen, limits_over l e)
 
-      module _ (kept : not r ≡ false) {t : ℕ} (u : t ≡ get_or view.types n 0) where
+      module _ (kept : r ≡ true) {t : ℕ} (u : t ≡ get_or view.types n 0) where
         variable_type : t ≡ get_or (view_of view) b 0
         variable_type = rw (get_or-take view.count view.types b 0 (omega arith), ← same) u
 
@@ -100,11 +99,11 @@ module _ (file types functions : List ℕ) (left : ℕ) (view : View) (expected 
     call_unknown h = rw (read, missing (head_at file) functions b (omega arith))
 
     module _ (known : f < length functions) {r : Bool} (l : Limits left view r) where
-      pub call_over : not r ≡ true → Refused OutOfRange ≡ call_step
+      pub call_over : r ≡ false → Refused OutOfRange ≡ call_step
       unfolding call_expr call_of declarations_at
       call_over e = rw (read, found (head_at file) functions 0 b (omega arith), limits_over l e)
 
-      module _ (kept : not r ≡ false) (h : Head) (is : head_of file h ≡ head_at file (get_or functions f 0)) where
+      module _ (kept : r ≡ true) (h : Head) (is : head_of file h ≡ head_at file (get_or functions f 0)) where
         called : head_of file h ≡ head_at file (get_or functions b 0)
         called = rw (← same) is
 
@@ -148,11 +147,11 @@ module _ (file types functions : List ℕ) (left : ℕ) (view : View) (expected 
       construct_unknown e = rw (read, again, fields_are, e)
 
       module _ {first n : ℕ} (e : fields ≡ Fields.At first n) {r : Bool} (l : Limits left view r) where
-        pub construct_over : not r ≡ true → Refused OutOfRange ≡ construct_step
+        pub construct_over : r ≡ false → Refused OutOfRange ≡ construct_step
         unfolding construct_expr construct_of declarations_at
         construct_over x = rw (read, again, fields_are, e, limits_over l x)
 
-        module _ (kept : not r ≡ false) where
+        module _ (kept : r ≡ true) where
           pub construct_mismatch : (t ≡ expected → ⊥) → Refused TypeMismatch ≡ construct_step
           unfolding construct_expr construct_of declarations_at
           construct_mismatch x =
@@ -178,11 +177,11 @@ module _ (file types functions : List ℕ) (left : ℕ) (view : View) (expected 
     case_unknown h = rw (read, missing (type_at file) types b (omega arith))
 
     module _ (known : t < length types) {r : Bool} (l : Limits left view r) where
-      pub case_over : not r ≡ true → Refused OutOfRange ≡ case_step
+      pub case_over : r ≡ false → Refused OutOfRange ≡ case_step
       unfolding case_expr case_of declarations_at
       case_over e = rw (read, found (type_at file) types 0 b (omega arith), limits_over l e)
 
-      module _ (kept : not r ≡ false) {step : Passed} (told : step ≡ passed_of (inner (view_of view) t s next)) where
+      module _ (kept : r ≡ true) {step : Passed} (told : step ≡ passed_of (inner (view_of view) t s next)) where
         subject : step ≡ passed_of (inner (view_of view) b s next)
         subject = rw (← same) told
 
@@ -220,11 +219,11 @@ module _ (file types functions : List ℕ) (left : ℕ) (view : View) (expected 
     let_unknown h = rw (read, many, le-ltb b (length types) (omega arith))
 
     module _ (known : t < length types) {r : Bool} (l : Limits left view r) where
-      pub let_over : not r ≡ true → Refused OutOfRange ≡ let_step
+      pub let_over : r ≡ false → Refused OutOfRange ≡ let_step
       unfolding let_expr declarations_at
       let_over e = rw (read, many, lt-ltb b (length types) (omega arith), limits_over l e)
 
-      module _ (kept : not r ≡ false) {step : Passed} (told : step ≡ passed_of (inner (view_of view) t s next)) where
+      module _ (kept : r ≡ true) {step : Passed} (told : step ≡ passed_of (inner (view_of view) t s next)) where
         bound : step ≡ passed_of (inner (view_of view) b s next)
         bound = rw (← same) told
 
@@ -252,11 +251,11 @@ module _ (file types functions : List ℕ) (left : ℕ) (view : View) (expected 
   target_short read = rw read
 
   module _ {b next : ℕ} (read : byte s at ≡ got b next) {r : Bool} (l : Limits left view r) where
-    pub target_over : not r ≡ true → Refused OutOfRange ≡ target_step
+    pub target_over : r ≡ false → Refused OutOfRange ≡ target_step
     unfolding target_expr
     target_over e = rw (read, limits_over l e)
 
-    pub target_goes : not r ≡ false → {end : Passed} → end ≡ passed_of (inner (view_of view) expected s next) → end ≡ target_step
+    pub target_goes : r ≡ true → {end : Passed} → end ≡ passed_of (inner (view_of view) expected s next) → end ≡ target_step
     unfolding target_expr
     target_goes e ends =
         ends

@@ -2,14 +2,14 @@
 -- Rests on Tables and on Readers of specs/.
 use Prim.Native.Nat.{ℕ, ◌+◌, ◌-◌, ◌≤◌, ◌<◌}
 use mathlib.Core.Path.{◌≡◌, sym, ◌∙◌}
-use mathlib.Core.Bool.{Bool, true, false, not, ◌&&◌, and-eq-true_iff}
+use mathlib.Core.Bool.{Bool, true, false, ◌&&◌, and-eq-true_iff}
 use mathlib.Core.List.{List, [], ◌∷◌, ◌++◌, append_assoc, append-nil}
 use lib.ListN.{length, get_or, take, set}
 use lib.Seq.{take-suc-set, length-take-le}
 use lib.Dec.{ltb, leb}
 use native.Mathlib.Numerals.{add-one}
 use native.Mathlib.Omega.{arith}
-use borrow.Author.Tests.{ltb-true, leb-true, not-true, not-false}
+use borrow.Author.Tests.{ltb-true, leb-true}
 use Rattle.reach.specs.Limits.{view_limit}
 use Rattle.reach.specs.Places.{bytes_at}
 use Rattle.expressions.specs.declared.View.{View}
@@ -37,17 +37,17 @@ module _ {left : ℕ} {view : View} {r : Bool} (l : Limits left view r) where
   test : {b : Bool} → r ≡ b → (ltb 0 left && leb (length (view_of view)) view_limit) ≡ b
   test e = rw l.held (sym l.told ∙ e)
 
-  both : not r ≡ false → (ltb 0 left ≡ true) × (leb view.count view_limit ≡ true)
-  both e = (and-eq-true_iff (ltb 0 left) (leb view.count view_limit)).0 (sym l.told ∙ not-false r e)
+  both : r ≡ true → (ltb 0 left ≡ true) × (leb view.count view_limit ≡ true)
+  both e = (and-eq-true_iff (ltb 0 left) (leb view.count view_limit)).0 (sym l.told ∙ e)
 
-  pub limits_over : not r ≡ true → (ltb 0 left && leb (length (view_of view)) view_limit) ≡ false
-  limits_over e = test (not-true r e)
+  pub limits_over : r ≡ false → (ltb 0 left && leb (length (view_of view)) view_limit) ≡ false
+  limits_over e = test e
 
-  pub limits_kept : not r ≡ false → (ltb 0 left && leb (length (view_of view)) view_limit) ≡ true
-  limits_kept e = test (not-false r e)
+  pub limits_kept : r ≡ true → (ltb 0 left && leb (length (view_of view)) view_limit) ≡ true
+  limits_kept e = test e
 
-  pub limits_nested : not r ≡ false → 0 < left
+  pub limits_nested : r ≡ true → 0 < left
   limits_nested e = ltb-true 0 left (both e).0
 
-  pub limits_view : not r ≡ false → view.count ≤ 32
+  pub limits_view : r ≡ true → view.count ≤ 32
   limits_view e = leb-true view.count 32 (both e).1

@@ -84,7 +84,7 @@ fn variable(body: &[u8], at: usize, left: usize, view: View, expected: usize) ->
 }
 
 // An expression, which may nest so many deep: its code, and what its kind reads behind it.
-#[cycle(alternative_alternatives_call_case_construct_expression_let_expression_operands_target)]
+#[cycle(expressions)]
 pub fn expression<'a>(
     file: &'a [u8],
     body: &'a [u8],
@@ -113,7 +113,7 @@ pub fn expression<'a>(
 }
 
 // A call: the function's number, and an operand for each of its parameters.
-#[cycle(alternative_alternatives_call_case_construct_expression_let_expression_operands_target)]
+#[cycle(expressions)]
 fn call<'a>(
     file: &'a [u8],
     body: &'a [u8],
@@ -155,7 +155,7 @@ fn call<'a>(
 }
 
 // A construction: the type's and the constructor's number, and an operand for each field.
-#[cycle(alternative_alternatives_call_case_construct_expression_let_expression_operands_target)]
+#[cycle(expressions)]
 fn construct<'a>(
     file: &'a [u8],
     body: &'a [u8],
@@ -199,7 +199,7 @@ fn construct<'a>(
 }
 
 // A case: the type's number, the subject, and an alternative or none for each constructor of the type.
-#[cycle(alternative_alternatives_call_case_construct_expression_let_expression_operands_target)]
+#[cycle(expressions)]
 fn case<'a>(
     file: &'a [u8],
     body: &'a [u8],
@@ -243,7 +243,7 @@ fn case<'a>(
 }
 
 // A let: the type's number, the bound expression, and the body, which sees one more variable.
-#[cycle(alternative_alternatives_call_case_construct_expression_let_expression_operands_target)]
+#[cycle(expressions)]
 fn let_expression<'a>(
     file: &'a [u8],
     body: &'a [u8],
@@ -284,7 +284,7 @@ fn let_expression<'a>(
 }
 
 // A target: the label, and the expression inside.
-#[cycle(alternative_alternatives_call_case_construct_expression_let_expression_operands_target)]
+#[cycle(expressions)]
 fn target<'a>(
     file: &'a [u8],
     body: &'a [u8],
@@ -308,7 +308,7 @@ fn target<'a>(
 }
 
 // An expression for each of the n types that stand from a place of the file on.
-#[cycle(alternative_alternatives_call_case_construct_expression_let_expression_operands_target)]
+#[cycle(expressions)]
 fn operands<'a>(
     file: &'a [u8],
     body: &'a [u8],
@@ -348,7 +348,7 @@ fn operands<'a>(
 }
 
 // An alternative or none for each of the n constructors whose records stand from a place of the file on.
-#[cycle(alternative_alternatives_call_case_construct_expression_let_expression_operands_target)]
+#[cycle(expressions)]
 fn alternatives<'a>(
     file: &'a [u8],
     body: &'a [u8],
@@ -392,7 +392,7 @@ fn alternatives<'a>(
 }
 
 // A byte: 0 for no alternative, or 1 and an expression that sees the n fields too.
-#[cycle(alternative_alternatives_call_case_construct_expression_let_expression_operands_target)]
+#[cycle(expressions)]
 fn alternative<'a>(
     file: &'a [u8],
     body: &'a [u8],

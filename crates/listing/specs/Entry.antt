@@ -10,7 +10,6 @@ use Rattle.reach.specs.Search.{Entry}
 use Rattle.reach.specs.Lists.{entry_bytes}
 use Rattle.machine.specs.Cells.{Cells}
 use Rattle.listing.specs.declared.Written.{Written}
-use Rattle.listing.specs.declared.Written.TheVariants as Written
 
 -- The words stand for input e: its parameters have these slots, the types' records stand at the places of the table, and every part has a constructor of
 -- its type.

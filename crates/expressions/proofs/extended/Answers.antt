@@ -1,10 +1,7 @@
 -- `expressions::extended` meets its contract. The loop's invariant: the view so far with the bytes still to come is the whole, the counts agree, and
 -- the place and what is left add up. The measure is what is left. Rests on Views.
-use Prim.Native.Nat.{◌+◌}
-use mathlib.Core.Path.{◌≡◌, refl, ◌∙◌}
-use mathlib.Core.List.{◌++◌}
+use mathlib.Core.Path.{refl, ◌∙◌}
 use native.Mathlib.Omega.{arith}
-use Rattle.reach.specs.Places.{bytes_at}
 use Rattle.expressions.specs.Readers.{view_of}
 use Rattle.expressions.proofs.Views.{one_more, no_more}
 use Rattle.expressions.proofs.extended.Goals as goal

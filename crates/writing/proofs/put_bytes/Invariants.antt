@@ -1,10 +1,8 @@
 -- `writing::put_bytes` meets its contract. The invariant: what is left of the word gives what the whole gives.
 -- Rests on Writing.
 use Prim.Native.Nat.{◌+◌, ◌-◌, ◌≤◌}
-use native.Mathlib.Omega.{arith}
 use lib.ListN.{length, drop}
-use Rattle.writing.proofs.Writing.{Left, left_whole, puts_length}
-use Rattle.writing.proofs.Writing.{word_next, word_done}
+use Rattle.writing.proofs.Writing.{Left}
 use Rattle.writing.proofs.put_bytes.Given as goal
 
 abbrev pub invariant-loop-i : goal.invariant-loop-i
