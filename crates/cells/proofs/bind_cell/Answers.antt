@@ -15,7 +15,7 @@ open_cells-requires c =
     simp length-set (omega (arith, c.one_less-below.ensures, c.cell_word-room.ensures.0, c.requires))
 
 pub shape_of-work : goal.shape_of-work
-shape_of-work c = c.open_cells.auto.work.0 ∙ simp length-set
+shape_of-work c = c.open_cells.auto.work ∙ simp length-set
 
 pub returns : goal.returns
 returns c =

@@ -22,7 +22,7 @@ returns-then-all_known c =
       ← c.loop-more.invariant.0,
       constructors_more _ _ _ c.loop-more-test.true,
       ← c.byte_or_zero-fields.ensures,
-      ← c.all_Known.ensures,
+      ← c.all_known.ensures,
       c.if-all_known.true,
     )
 
@@ -41,7 +41,7 @@ loop-more-preserved c = (
     ← c.loop-more.invariant.0,
     constructors_more _ _ _ c.loop-more-test.true,
     ← c.byte_or_zero-fields.ensures,
-    ← c.all_Known.ensures,
+    ← c.all_known.ensures,
     c.if-all_known.false,
   ),
   omega (

@@ -40,7 +40,7 @@ pub returns-then-not-entry_fits : goal.returns-then-not-entry_fits
 returns-then-not-entry_fits c p given =
     all_read given c.args.list.now false (omega (arith, c.if-end-gt16777216.false))
     (sym (unfit given c.args.list.now c.loop-more.more c.loop-more.at c.loop-more-test.true (omega (arith, c.loop-more.invariant.0, c.if-end-at.false)) (c.loop-more.at + c.in-Bytes.n) c.entry_fits.result
-    c.entry_fits.ensures (not-true c.entry_fits.result c.if-not-entry_fits.true))
+    c.entry_fits.ensures c.if-not-entry_fits.true)
     ∙ c.loop-more.invariant.2 p given)
 
 pub overflow_add-at : goal.overflow_add-at
@@ -52,7 +52,7 @@ loop-more-preserved c =
       c.loop-more.invariant.0,
       size_inside c.args.list.now c.loop-more.at c.in-Bytes.n (sym c.size_at.ensures ∙ ap size_of c.in-Bytes.is),
       λ p given. sym (fit given c.args.list.now c.loop-more.more c.loop-more.at c.loop-more-test.true (omega (arith, c.loop-more.invariant.0, c.if-end-at.false)) (c.loop-more.at + c.in-Bytes.n) c.entry_fits.result
-          c.entry_fits.ensures (not-false c.entry_fits.result c.if-not-entry_fits.false))
+          c.entry_fits.ensures c.if-not-entry_fits.false)
           ∙ c.loop-more.invariant.2 p given,
     )
 

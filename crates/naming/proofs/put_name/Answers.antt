@@ -14,17 +14,17 @@ use Rattle.naming.proofs.put_name.Goals as goal
 
 pub returns-then-not-letter_here : goal.returns-then-not-letter_here
 returns-then-not-letter_here c =
-    none_put c.args.list.now c.args.at (sym c.letter_here.ensures ∙ not-true c.letter_here.result c.if-not-letter_here.true) c.put_byte.ensures
+    none_put c.args.list.now c.args.at (sym c.letter_here.ensures ∙ c.if-not-letter_here.true) c.put_byte.ensures
 
 pub put_decimal-others-requires : goal.put_decimal-others-requires
 put_decimal-others-requires c =
-    let here : letter_here c.args.list.now c.args.at ≡ true = sym c.letter_here.ensures ∙ not-false c.letter_here.result c.if-not-letter_here.false in
+    let here : letter_here c.args.list.now c.args.at ≡ true = sym c.letter_here.ensures ∙ c.if-not-letter_here.false in
     let letters = spelt_next c.args.list.now c.args.at here c.requires.3 in
     omega (arith, c.letter_at.ensures, letters.0)
 
 pub put_letters-encodings-requires : goal.put_letters-encodings-requires
 put_letters-encodings-requires c =
-    let here : letter_here c.args.list.now c.args.at ≡ true = sym c.letter_here.ensures ∙ not-false c.letter_here.result c.if-not-letter_here.false in
+    let here : letter_here c.args.list.now c.args.at ≡ true = sym c.letter_here.ensures ∙ c.if-not-letter_here.false in
     let letters = spelt_next c.args.list.now c.args.at here c.requires.3 in
     let small : c.letter_at.result < 256 = omega (arith, c.letter_at.ensures, letters.0) in
     let first : c.put_decimal-others.result ≤ c.args.to + 257 = omega (arith, c.put_decimal-others.ensures.place, decimal_few c.letter_at.result, small) in
@@ -32,7 +32,7 @@ put_letters-encodings-requires c =
 
 pub put_encodings-end-requires : goal.put_encodings-end-requires
 put_encodings-end-requires c =
-    let here : letter_here c.args.list.now c.args.at ≡ true = sym c.letter_here.ensures ∙ not-false c.letter_here.result c.if-not-letter_here.false in
+    let here : letter_here c.args.list.now c.args.at ≡ true = sym c.letter_here.ensures ∙ c.if-not-letter_here.false in
     let letters = spelt_next c.args.list.now c.args.at here c.requires.3 in
     let small : c.letter_at.result < 256 = omega (arith, c.letter_at.ensures, letters.0) in
     let first : c.put_decimal-others.result ≤ c.args.to + 257 = omega (arith, c.put_decimal-others.ensures.place, decimal_few c.letter_at.result, small) in
@@ -42,7 +42,7 @@ put_encodings-end-requires c =
 
 pub put_byte-requires-2 : goal.put_byte-requires-2
 put_byte-requires-2 c =
-    let here : letter_here c.args.list.now c.args.at ≡ true = sym c.letter_here.ensures ∙ not-false c.letter_here.result c.if-not-letter_here.false in
+    let here : letter_here c.args.list.now c.args.at ≡ true = sym c.letter_here.ensures ∙ c.if-not-letter_here.false in
     let letters = spelt_next c.args.list.now c.args.at here c.requires.3 in
     let small : c.letter_at.result < 256 = omega (arith, c.letter_at.ensures, letters.0) in
     let first : c.put_decimal-others.result ≤ c.args.to + 257 = omega (arith, c.put_decimal-others.ensures.place, decimal_few c.letter_at.result, small) in
@@ -52,6 +52,6 @@ put_byte-requires-2 c =
 
 pub returns : goal.returns
 returns c =
-    let here : letter_here c.args.list.now c.args.at ≡ true = sym c.letter_here.ensures ∙ not-false c.letter_here.result c.if-not-letter_here.false in
+    let here : letter_here c.args.list.now c.args.at ≡ true = sym c.letter_here.ensures ∙ c.if-not-letter_here.false in
     name_put c.args.list.now c.args.at c.letter_at.result here c.letter_at.ensures
     c.put_decimal-others.ensures c.put_letters-encodings.ensures c.put_encodings-end.ensures c.put_byte-2.ensures

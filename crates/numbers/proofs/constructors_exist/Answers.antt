@@ -24,7 +24,7 @@ returns-then-not-all_below c =
       constructors_more _ _ _ c.loop-more-test.true,
       ← c.byte_or_zero-fields.ensures,
       ← c.all_below.ensures,
-      not-true c.all_below.result c.if-not-all_below.true,
+      c.if-not-all_below.true,
     )
 
 pub overflow_add-place-in-loop-more-2 : goal.overflow_add-place-in-loop-more-2
@@ -43,7 +43,7 @@ loop-more-preserved c = (
     constructors_more _ _ _ c.loop-more-test.true,
     ← c.byte_or_zero-fields.ensures,
     ← c.all_below.ensures,
-    not-false c.all_below.result c.if-not-all_below.false,
+    c.if-not-all_below.false,
   ),
   omega (
     arith,

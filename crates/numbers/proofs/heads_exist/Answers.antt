@@ -25,7 +25,7 @@ returns-then-not-all_below c =
       places_more _ _ _ c.loop-f-test.true,
       ← c.head_of-head.ensures.result_value,
       ← c.all_below.ensures,
-      not-true c.all_below.result c.if-not-all_below.true,
+      c.if-not-all_below.true,
     )
 
 pub returns-then-limit-head : goal.returns-then-limit-head
@@ -36,7 +36,7 @@ returns-then-limit-head c =
       places_more _ _ _ c.loop-f-test.true,
       ← c.head_of-head.ensures.result_value,
       ← c.all_below.ensures,
-      not-false c.all_below.result c.if-not-all_below.false,
+      c.if-not-all_below.false,
       le-ltb _ _ c.if-limit-head.true,
     )
 
@@ -48,7 +48,7 @@ loop-f-preserved c =
       places_more _ _ _ c.loop-f-test.true,
       ← c.head_of-head.ensures.result_value,
       ← c.all_below.ensures,
-      not-false c.all_below.result c.if-not-all_below.false,
+      c.if-not-all_below.false,
       lt-ltb _ _ c.if-limit-head.false,
     )
 

@@ -7,7 +7,7 @@ use Rattle.numbers.proofs.numbers_exist.Goals as goal
 
 pub returns-then-not-types_exist : goal.returns-then-not-types_exist
 unfolding numbers_exist declarations_at outline_at
-returns-then-not-types_exist c = rw (length-map _ (type_at _), ← c.types_exist.ensures, not-true c.types_exist.result c.if-not-types_exist.true)
+returns-then-not-types_exist c = rw (length-map _ (type_at _), ← c.types_exist.ensures, c.if-not-types_exist.true)
 
 pub returns-then-not-heads_exist : goal.returns-then-not-heads_exist
 unfolding numbers_exist declarations_at outline_at
@@ -15,9 +15,9 @@ returns-then-not-heads_exist c =
     rw (
       length-map _ (type_at _),
       ← c.types_exist.ensures,
-      not-false c.types_exist.result c.if-not-types_exist.false,
+      c.if-not-types_exist.false,
       ← c.heads_exist.ensures,
-      not-true c.heads_exist.result c.if-not-heads_exist.true,
+      c.if-not-heads_exist.true,
     )
 
 pub returns-then-not-name_exists : goal.returns-then-not-name_exists
@@ -26,11 +26,11 @@ returns-then-not-name_exists c =
     rw (
       length-map _ (type_at _),
       ← c.types_exist.ensures,
-      not-false c.types_exist.result c.if-not-types_exist.false,
+      c.if-not-types_exist.false,
       ← c.heads_exist.ensures,
-      not-false c.heads_exist.result c.if-not-heads_exist.false,
+      c.if-not-heads_exist.false,
       ← c.name_exists.ensures,
-      not-true c.name_exists.result c.if-not-name_exists.true,
+      c.if-not-name_exists.true,
     )
 
 pub returns : goal.returns
@@ -39,10 +39,10 @@ returns c =
     rw (
       length-map _ (type_at _),
       ← c.types_exist.ensures,
-      not-false c.types_exist.result c.if-not-types_exist.false,
+      c.if-not-types_exist.false,
       ← c.heads_exist.ensures,
-      not-false c.heads_exist.result c.if-not-heads_exist.false,
+      c.if-not-heads_exist.false,
       ← c.name_exists.ensures,
-      not-false c.name_exists.result c.if-not-name_exists.false,
+      c.if-not-name_exists.false,
       length-map _ (head_at _),
     )

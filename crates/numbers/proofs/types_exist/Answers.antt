@@ -25,7 +25,7 @@ returns-then-not-constructors_exist c =
       places_more _ _ _ c.loop-t-test.true,
       ← c.constructors_of-all.ensures.count_value,
       ← c.constructors_exist.ensures,
-      not-true c.constructors_exist.result c.if-not-constructors_exist.true,
+      c.if-not-constructors_exist.true,
     )
 
 pub loop-t-preserved : goal.loop-t-preserved
@@ -36,7 +36,7 @@ loop-t-preserved c =
       places_more _ _ _ c.loop-t-test.true,
       ← c.constructors_of-all.ensures.count_value,
       ← c.constructors_exist.ensures,
-      not-false c.constructors_exist.result c.if-not-constructors_exist.false,
+      c.if-not-constructors_exist.false,
     )
 
 pub returns : goal.returns

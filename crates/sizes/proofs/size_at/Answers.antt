@@ -16,7 +16,7 @@ returns-then-list-at-lt6 c =
 pub returns-then-not-known_mark : goal.returns-then-not-known_mark
 unfolding entry_size
 returns-then-not-known_mark c =
-    rw (le-leb (c.args.at + 6) (length c.args.list.now) (omega arith), ← c.known_mark.ensures, not-true c.known_mark.result c.if-not-known_mark.true)
+    rw (le-leb (c.args.at + 6) (length c.args.list.now) (omega arith), ← c.known_mark.ensures, c.if-not-known_mark.true)
 
 pub returns-then-list-at : goal.returns-then-list-at
 unfolding entry_size
@@ -24,7 +24,7 @@ returns-then-list-at c =
     rw (
       le-leb (c.args.at + 6) (length c.args.list.now) (omega arith),
       ← c.known_mark.ensures,
-      not-false c.known_mark.result c.if-not-known_mark.false,
+      c.if-not-known_mark.false,
       ← c.word_at-n.ensures,
       lt-leb (c.args.at + 6 + c.word_at-n.result) (length c.args.list.now) (omega arith),
     )
@@ -35,7 +35,7 @@ returns c =
     rw (
       le-leb (c.args.at + 6) (length c.args.list.now) (omega arith),
       ← c.known_mark.ensures,
-      not-false c.known_mark.result c.if-not-known_mark.false,
+      c.if-not-known_mark.false,
       ← c.word_at-n.ensures,
       le-leb (c.args.at + 6 + c.word_at-n.result) (length c.args.list.now) (omega arith),
     )

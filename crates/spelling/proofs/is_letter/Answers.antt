@@ -20,7 +20,7 @@ returns-then-not-is_half c =
       three c.args.s.now c.args.types.now c.args.t c.fields_of.result c.fields_of.ensures.result_value c.in-At.is c.if-n-ne3.false,
       ← c.byte_or_zero.ensures,
       ← c.is_half.ensures,
-      not-true c.is_half.result c.if-not-is_half.true,
+      c.if-not-is_half.true,
     )
 
 pub overflow_add-at : goal.overflow_add-at
@@ -33,10 +33,10 @@ returns-then-not-is_half-2 c =
       three c.args.s.now c.args.types.now c.args.t c.fields_of.result c.fields_of.ensures.result_value c.in-At.is c.if-n-ne3.false,
       ← c.byte_or_zero.ensures,
       ← c.is_half.ensures,
-      not-false c.is_half.result c.if-not-is_half.false,
+      c.if-not-is_half.false,
       ← c.byte_or_zero-2.ensures,
       ← c.is_half-2.ensures,
-      not-true c.is_half-2.result c.if-not-is_half-2.true,
+      c.if-not-is_half-2.true,
     )
 
 pub overflow_add-at-2 : goal.overflow_add-at-2
@@ -49,9 +49,9 @@ returns c =
       three c.args.s.now c.args.types.now c.args.t c.fields_of.result c.fields_of.ensures.result_value c.in-At.is c.if-n-ne3.false,
       ← c.byte_or_zero.ensures,
       ← c.is_half.ensures,
-      not-false c.is_half.result c.if-not-is_half.false,
+      c.if-not-is_half.false,
       ← c.byte_or_zero-2.ensures,
       ← c.is_half-2.ensures,
-      not-false c.is_half-2.result c.if-not-is_half-2.false,
+      c.if-not-is_half-2.false,
       ← c.byte_or_zero-3.ensures,
     )

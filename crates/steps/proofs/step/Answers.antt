@@ -5,10 +5,10 @@ use Rattle.choosing.proofs.Choosing.{missing-lacks}
 use Rattle.steps.proofs.step.Goals as goal
 
 pub step_expression-requires : goal.step_expression-requires
-step_expression-requires c = (c.requires.0, c.requires.1, control_expression c.args.r.kind c.args.r.place c.args.r.env c.in-2.keys1)
+step_expression-requires c = (c.requires.0, c.requires.1, control_expression c.args.r.kind c.args.r.place c.args.r.env c.in-2.is)
 
 pub step_part-requires : goal.step_part-requires
-step_part-requires c = ((c.args.functions.now, c.requires.1), control_part c.args.r.kind c.args.r.place c.args.r.env c.in-2.keys2)
+step_part-requires c = ((c.args.functions.now, c.requires.1), control_part c.args.r.kind c.args.r.place c.args.r.env c.in-1.is)
 
 pub returns-in-1 : goal.returns-in-1
 returns-in-1 c = c.step_part.ensures c.args.functions.now c.args.label c.requires.0
