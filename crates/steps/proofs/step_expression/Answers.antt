@@ -23,7 +23,7 @@ step_let-requires c = ready_at c.args.file.now c.args.types.now c.args.functions
 
 pub step_case-requires : goal.step_case-requires
 step_case-requires c = let known = code_known c.args.file.now c.args.types.now c.args.functions.now c.args.work.now c.args.base c.args.at c.args.env c.args.r c.requires.1 c.requires.2 in
-    ready_at c.args.file.now c.args.types.now c.args.functions.now c.args.work.now c.args.base c.args.at c.args.env c.args.r c.requires.1 c.requires.2 (sym (omega (arith, known, c.byte_or_zero-code.ensures, c.in-2.rest.1, c.in-2.rest.0.1, c.in-2.rest.0.0.1, c.in-2.rest.0.0.0.1, c.in-2.rest.0.0.0.0.1)) ∙ c.byte_or_zero-code.ensures)
+    ready_at c.args.file.now c.args.types.now c.args.functions.now c.args.work.now c.args.base c.args.at c.args.env c.args.r c.requires.1 c.requires.2 (sym (omega (arith, known, c.byte_or_zero-code.ensures)) ∙ c.byte_or_zero-code.ensures)
 
 pub returns-in-2 : goal.returns-in-2
 returns-in-2 c = c.step_construct.ensures c.args.functions.now c.args.label c.requires.0
