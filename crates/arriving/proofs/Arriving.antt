@@ -19,7 +19,7 @@ use Rattle.reach.specs.Moves as Model
 use Rattle.reach.specs.Moves.{Choice}
 use Rattle.reach.proofs.Evaluation.{waits_free}
 use Rattle.machine.specs.Cells.{cell_of}
-use Rattle.machine.proofs.Cells.{kept-cells}
+use Rattle.machine.proofs.Cells.{kept_cells}
 use Rattle.registers.specs.declared.Registers.{Registers}
 use Rattle.registers.specs.declared.Next.{Next}
 use Rattle.registers.specs.declared.Next.TheVariants as Next
@@ -28,10 +28,10 @@ use Rattle.steps.specs.Running.{StepsTo, no_step, one_more}
 use Rattle.points.specs.Points.{Pushes}
 use Rattle.choices.specs.Choices.{Setting, Given, Path, ChoicesAt}
 use Rattle.choices.specs.Weights.{power, weight}
-use Rattle.choices.proofs.Keeping.{choices_kept, choices-more}
+use Rattle.choices.proofs.Keeping.{choices_kept, choices_more}
 use Rattle.choices.proofs.Pushing.{new_choice, choices_pushed}
-use Rattle.choices.proofs.Taking.{step_kept, path_stays, path-goes}
-use Rattle.choices.proofs.Weights.{power_positive, power_more, weight-kept, weight-pushed}
+use Rattle.choices.proofs.Taking.{step_kept, path_stays, path_goes}
+use Rattle.choices.proofs.Weights.{power_positive, power_more, weight_kept, weight_pushed}
 use Rattle.choices.proofs.Returning.{limit_few}
 use Rattle.arriving.specs.declared.Walk.{Walk}
 use Rattle.arriving.specs.declared.Moved.{Moved}
@@ -63,12 +63,12 @@ module _ (p : Program) (table : List ℕ) (left n : ℕ) (e : Parts) (s : State)
   unfolding Model.settle
   stopped why = ends (Eval.stops why) Unlisted (λ go fork. refl)
 
-  gone-on :
+  gone_on :
       (l : ℕ) (s' : State) → left ≡ suc l → Eval.next p e s ≡ Eval.goes s'
       → Model.arrive p table left n e s cs es
       ≡ record { position = Model.on (record { state = s'; left = l; done = suc n; input = e }); choices = cs; listed = es }
   unfolding Model.arrive Model.settle
-  gone-on l s' more next = rw (more, next)
+  gone_on l s' more next = rw (more, next)
 
   forked :
       (l : ℕ) (q : Question) → left ≡ suc l → Eval.next p e s ≡ Eval.waits q
@@ -90,10 +90,10 @@ abbrev pub ended : ℕ → ℕ → ℕ → PathEnd → Moved
 ended cells done height listing = record { walk = ended_walk cells done height; listing = listing }
 
 -- what stands for a path under way is what a step asks
-pub step-standing :
+pub step_standing :
     {g : Setting} {w : List ℕ} {cells done binds : ℕ} {r : Registers} {e : Parts} {s : State} → Given g → Path g w cells done binds r e s
     → Standing g.file g.types g.functions w g.base r
-step-standing {g} {cells = cells} {e = e} {s} given path =
+step_standing {g} {cells = cells} {e = e} {s} given path =
     record { program = g.program; cells = cells; input = e; state = s; file_of = given.file_of; stands = path.stands }
 
 -- A path to which the model was led by so many moves from its first arrival on.
@@ -118,12 +118,12 @@ unfolding Model.moves
 moves_more p table zero x = refl
 moves_more p table (suc n) x = moves_more p table n (Model.move p table x)
 
-on-arrives :
+on_arrives :
     (p : Program) (table : List ℕ) (s : State) (left done : ℕ) (e : Parts) (cs : List Choice) (es : List Entry)
     → Model.move p table (record { position = Model.on (record { state = s; left = left; done = done; input = e }); choices = cs; listed = es })
     ≡ Model.arrive p table left done e s cs es
 unfolding Model.move Model.move_from
-on-arrives p table s left done e cs es = refl
+on_arrives p table s left done e cs es = refl
 
 module _
     {g : Setting} (given : Given g) {w₀ : List ℕ} {bound : ℕ} {first : List Entry → Model.Walk} {w : List ℕ} {cells done height : ℕ} {r : Registers} {e : Parts}
@@ -145,7 +145,7 @@ module _
     choices_stay = choices_kept w' now.choices (step_kept given now.path now.in_time stepped.only_top height)
 
     weight_stays : weight g.stack g.limit w' height ≡ weight g.stack g.limit w height
-    weight_stays = weight-kept w' now.choices (step_kept given now.path now.in_time stepped.only_top height)
+    weight_stays = weight_kept w' now.choices (step_kept given now.path now.in_time stepped.only_top height)
 
     path_now : Path g w' cells done done r e s
     path_now = path_stays given now.path now.in_time stepped.only_top
@@ -206,21 +206,21 @@ module _
       pub led_on : {to : Registers} → n ≡ Next.Goes to → (s' : State) × Led g w₀ bound first w' cells (suc done) height to e s' cs
       led_on {to} is =
           let (s', next, follows) = means (Next.Goes to) is in
-          let path = path-goes given now.path now.in_time stepped.only_top follows next in (
+          let path = path_goes given now.path now.in_time stepped.only_top follows next in (
             s',
             record {
               under = record {
                 path = record { stands = path.stands; typed = path.typed; steps = path.steps; few_cells = omega (arith, path.few_cells); few_records = path.few_records; long = path.long };
                 in_time = omega arith;
                 no_higher = omega (arith, now.no_higher);
-                choices = choices-more (omega arith) follows.no_fewer choices_stay;
+                choices = choices_more (omega arith) follows.no_fewer choices_stay;
               };
               made = suc led.made;
               model_is = λ es.
                   moves_more g.program _ led.made (first es)
                   ∙ ap (Model.move g.program (least_depths g.program.types))
-                  (led.model_is es ∙ gone-on g.program _ (g.limit - done) done e s cs es (g.limit - suc done) s' more next)
-                  ∙ on-arrives g.program _ s' (g.limit - suc done) (suc done) e cs es;
+                  (led.model_is es ∙ gone_on g.program _ (g.limit - done) done e s cs es (g.limit - suc done) s' more next)
+                  ∙ on_arrives g.program _ s' (g.limit - suc done) (suc done) e cs es;
               no_heavier = omega (arith, weight_stays, ap power more, power_more (g.limit - suc done), led.no_heavier);
               same_length = stepped.only_top.same_length ∙ led.same_length;
             },
@@ -234,7 +234,7 @@ module _
         cell_now : cell_of w' asked.0.place ≡ x
         cell_now =
             let there : There (at e asked.0.place) = subst There (sym (waits_free g.program e s asked.0 asked.1)) tt in
-            (kept-cells w' now.path.stands.input path_now.stands.input.fits (step_kept given now.path now.in_time stepped.only_top height).cells_kept).0
+            (kept_cells w' now.path.stands.input path_now.stands.input.fits (step_kept given now.path now.in_time stepped.only_top height).cells_kept).0
             asked.0.place there
             ∙ asked.2
 
@@ -244,10 +244,10 @@ module _
             rw (← asked.2) (now.path.stands.input.in_use asked.0.place there)
 
         -- there is room for it, and the numbers that it keeps are small
-        pub push-bounds :
+        pub push_bounds :
             ((g.stack + 6 * (height + 1) ≤ length w') × (x ≤ 1000000) × (5 * x + 1 < g.stack))
             × ((r.frame < 4294967296) × (r.records < 4294967296) × (cells < 4294967296) × (done < 4294967296))
-        push-bounds =
+        push_bounds =
             let few = limit_few given in
             let long = path_now.long in
             let low = now.path.stands.apart in
@@ -260,10 +260,10 @@ module _
             let stack_is = given.stack_is in
             ((omega arith, omega arith, omega arith), (omega arith, omega arith, omega arith, omega arith))
 
-        pub arrive-waits :
+        pub arrive_waits :
             {w'' : List ℕ} → Pushes g.stack w' w'' height x r.frame r.records cells done
             → Makes g w₀ w'' bound (ended cells done (height + 1) Unlisted) first
-        arrive-waits {w''} pushes =
+        arrive_waits {w''} pushes =
             let one : height + 1 ≡ suc height = omega arith in
             let high = choices_pushed given path_now in_time now.no_higher asked.1 cell_now pushes choices_stay in
             record {
@@ -274,7 +274,7 @@ module _
               model_is = λ es. led.model_is es ∙ forked g.program _ (g.limit - done) done e s cs es (g.limit - suc done) asked.0 more asked.1;
               stands = (cells, r.records, rw one high);
               lists = refl;
-              lighter = rw one (omega (arith, led.no_heavier, weight_stays, weight-pushed given path_now in_time now.no_higher asked.1 cell_now pushes choices_stay));
+              lighter = rw one (omega (arith, led.no_heavier, weight_stays, weight_pushed given path_now in_time now.no_higher asked.1 cell_now pushes choices_stay));
               same_length = pushes.same_length ∙ stepped.only_top.same_length ∙ led.same_length;
             }
 
@@ -299,21 +299,21 @@ module _
     led_none : LedBy 0 w r
     led_none = let z : done + 0 ≡ done = omega arith in rw z (s, led_first)
 
-    led-more :
+    led_more :
         (n : ℕ) {w₁ w₂ : List ℕ} {r₁ r₂ : Registers} → LedBy n w₁ r₁ → Stepped g.file g.types g.functions w₁ w₂ g.base label r₁ (Next.Goes r₂)
         → done + suc n ≤ g.limit → LedBy (suc n) w₂ r₂
-    led-more n (s₁, led) stepped in_time =
+    led_more n (s₁, led) stepped in_time =
         let z : done + suc n ≡ suc (done + n) = omega arith in
         rw z (led_on given led sought stepped (omega arith) refl)
 
-    pub led-by :
+    pub led_by :
         {n : ℕ} {w₁ : List ℕ} {r₁ : Registers} → StepsTo g.file g.types g.functions label g.base n w r w₁ r₁ → done + n ≤ g.limit
         → LedBy n w₁ r₁
-    led-by no_step in_time = led_none
-    led-by (one_more {n = n} before stepped) in_time = led-more n (led-by before (omega arith)) stepped in_time
+    led_by no_step in_time = led_none
+    led_by (one_more {n = n} before stepped) in_time = led_more n (led_by before (omega arith)) stepped in_time
 
     -- so a step may be made there
-    pub led-standing :
+    pub led_standing :
         {n : ℕ} {w₁ : List ℕ} {r₁ : Registers} → n ≤ g.limit - done → StepsTo g.file g.types g.functions label g.base n w r w₁ r₁
         → Standing g.file g.types g.functions w₁ g.base r₁
-    led-standing {n} few steps = let (s₁, led) = led-by steps (omega (arith, now.in_time)) in step-standing given led.under.path
+    led_standing {n} few steps = let (s₁, led) = led_by steps (omega (arith, now.in_time)) in step_standing given led.under.path

@@ -19,24 +19,24 @@ use Rattle.reach.proofs.Evaluation.{waits_free, waits_answered}
 use Rattle.readings.proofs.ClosedInputs.{input_exactly}
 use Rattle.reach.proofs.Limits.{accepted_keeps, accepted_rooms}
 use Rattle.reach.specs.States.{one_more}
-use Rattle.reach.proofs.Reached.{steps-more}
+use Rattle.reach.proofs.Reached.{steps_more}
 use Rattle.reach.proofs.Places.{bytes_length}
 use Rattle.reach.proofs.WellTyped.{open_apart}
 use Rattle.lookups.specs.Fields.{fields_in, FieldCount}
 use Rattle.machine.specs.Cells.{cell_word, cell_of, Cells, Unmoved}
-use Rattle.machine.proofs.Cells.{kept-cells}
+use Rattle.machine.proofs.Cells.{kept_cells}
 use Rattle.cells.proofs.Rooms.{cell_room}
 use Rattle.values.specs.Notes.{FollowsInput}
-use Rattle.values.proofs.Binding.{OpenStands, open-stands, bound_follows}
+use Rattle.values.proofs.Binding.{OpenStands, open_stands, bound_follows}
 use Rattle.registers.specs.declared.Registers.{Registers}
 use Rattle.registers.specs.declared.Next.{Next}
 use Rattle.registers.specs.declared.Next.TheVariants as Next
 use Rattle.machine.specs.Records.{no_case, part_in, OnlyTop}
 use Rattle.registers.specs.Stepping.{control_in, Standing, Follows, StepMeans, Stepped}
 use Rattle.choosing.specs.Entering.{AtBoundPart}
-use Rattle.registers.proofs.Waiting.{waits-control}
+use Rattle.registers.proofs.Waiting.{waits_control}
 use Rattle.machine.proofs.Words.{records_same}
-use Rattle.registers.proofs.Standing.{stands_after, stands-below}
+use Rattle.registers.proofs.Standing.{stands_after, stands_below}
 use Rattle.binding.specs.Underway.{GivenInput, Running, Underway, noted_number, Bindable, BoundAs, Advances, AdvancesAll, NextIs, BoundSoFar}
 use Rattle.binding.proofs.Bound.{head_now, first_now, no_fewer, fields_now}
 use Rattle.binding.proofs.Reached.{below_width, reached_in, reached_sound, run_goes, run_demands, run_lacks, run_stops, run_spent}
@@ -50,7 +50,7 @@ module _
     kept i below = only.elsewhere i (λ h. absurd (omega arith))
 
     all_kept : Unmoved w w' e × Cells types ss w' cells e
-    all_kept = kept-cells w' follows.cells (rw only.same_length follows.cells.fits) kept
+    all_kept = kept_cells w' follows.cells (rw only.same_length follows.cells.fits) kept
 
     pub follows_kept : FollowsInput types ss w' cells e j
     follows_kept = record {
@@ -66,10 +66,10 @@ module _
     unmoved_kept = all_kept.0
 
 -- at most so many binds are at most more
-with-binds :
+with_binds :
     {file types functions : List ℕ} {p : Program} {j : Parts} {limit : ℕ} {w : List ℕ} {base cells done binds more : ℕ} {r : Registers} {s : State} → binds ≤ more
     → Running file types functions p j limit w base cells done binds r s → Running file types functions p j limit w base cells done more r s
-with-binds no_fewer now = record {
+with_binds no_fewer now = record {
   input = now.input;
   stands = now.stands;
   follows = now.follows;
@@ -86,10 +86,10 @@ module _ {file types functions input : List ℕ} {p : Program} {j : Parts} (give
 
   module _ {limit : ℕ} {w : List ℕ} {base cells done binds : ℕ} {r : Registers} {s : State} (now : Running file types functions p j limit w base cells done binds r s) where
     -- after a step
-    pub step-running :
+    pub step_running :
         {w' : List ℕ} {r' : Registers} {s' : State} → done ≤ limit → OnlyTop w w' base r.records → Follows file types functions w' base r.records r' s'
         → next p now.input s ≡ goes s' → Running file types functions p j limit w' base cells (suc done) binds r' s'
-    step-running in_time only follows on = record {
+    step_running in_time only follows on = record {
       input = now.input;
       stands =
           stands_after now.stands only follows on (reached_sound file p given.of_file.checked j within now.follows.below (one_more now.steps on))
@@ -107,8 +107,8 @@ module _ {file types functions input : List ℕ} {p : Program} {j : Parts} (give
     running_kept {w'} only = record {
       input = now.input;
       stands =
-          stands-below now.stands
-          (kept-cells w' now.stands.input (rw only.same_length now.stands.input.fits) (λ i below. only.elsewhere i (λ h. absurd (omega (arith, now.stands.apart))))).1
+          stands_below now.stands
+          (kept_cells w' now.stands.input (rw only.same_length now.stands.input.fits) (λ i below. only.elsewhere i (λ h. absurd (omega (arith, now.stands.apart))))).1
           (unmoved_kept now.follows now.stands.apart only) now.stands.apart only.same_length (records_same only) now.stands.there now.stands.sound;
       follows = follows_kept now.follows now.stands.apart only;
       steps = now.steps;
@@ -123,7 +123,7 @@ module _ {file types functions input : List ℕ} {p : Program} {j : Parts} (give
     bound_kept {w'} only n comes = record {
       cells = cells;
       input = now.input;
-      stands = (kept-cells w' now.stands.input (rw only.same_length now.stands.input.fits) (λ i below. only.elsewhere i (λ h. absurd (omega (arith, now.stands.apart))))).1;
+      stands = (kept_cells w' now.stands.input (rw only.same_length now.stands.input.fits) (λ i below. only.elsewhere i (λ h. absurd (omega (arith, now.stands.apart))))).1;
       below = now.follows.below;
       steps = now.steps;
       comes = comes;
@@ -138,7 +138,7 @@ module _ {file types functions input : List ℕ} {p : Program} {j : Parts} (give
       there = subst There (sym unbound) tt
 
       value : OpenStands (map (type_at file) types) (source_slots p) input w now.input j q.place
-      value = open-stands file types given.of_file.checked given.of_file.file_of.types_there input given.reads q.place now.follows unbound
+      value = open_stands file types given.of_file.checked given.of_file.file_of.types_there input given.reads q.place now.follows unbound
 
       -- no constructor has more than 6 fields
       few_fields : (t c : ℕ) (us : List ℕ) → fields_in file types t c ≡ some us → length us ≤ 6
@@ -160,10 +160,10 @@ module _ {file types functions input : List ℕ} {p : Program} {j : Parts} (give
       known = rw value.stands.number value.stands.known
 
       -- after it was bound the state is still reached, and the case goes on
-      pub bind-running :
+      pub bind_running :
           {w' : List ℕ} {more : ℕ} → BoundAs file types input w w' cells (cell_of w q.place) more
           → (after : Running file types functions p j limit w' base more done (done + 1) r s) × (s' : State) × (next p after.input s ≡ goes s')
-      bind-running {w'} {more} as_said =
+      bind_running {w'} {more} as_said =
           let x = cell_of w q.place in
           let (fields, k, same, more-is, bound) = as_said value.stands.fields known in
           let c = noted_number input w x in
@@ -173,13 +173,13 @@ module _ {file types functions input : List ℕ} {p : Program} {j : Parts} (give
           let fits : 5 * (cells + k) ≤ base = omega (arith, now.few_cells, now.base_is) in
           let (unmoved, follows) =
           bound_follows (subst OpenApart given.of_file.file_of.types_there (open_apart file p given.of_file.checked)) fields q.place now.follows unbound value value.stands.number (sym same) (omega (arith, now.long)) bound.binds refl bound.noted in
-          let steps = steps-more p (bind_refines q.place c k e) (below_width file p given.of_file.checked j within now.follows.below) now.steps in
+          let steps = steps_more p (bind_refines q.place c k e) (below_width file p given.of_file.checked j within now.follows.below) now.steps in
           let same_length = bound.noted.same_length ∙ bound.binds.same_length in
           rw more-is (
             record {
               input = bind_at q.place c k e;
               stands =
-                  stands-below now.stands (rw (← given.of_file.file_of.types_there) at follows.cells) unmoved fits same_length
+                  stands_below now.stands (rw (← given.of_file.file_of.types_there) at follows.cells) unmoved fits same_length
                   (λ i from below.
                   bound.noted.elsewhere i (λ m l. (omega (arith, bytes_length file fields k), omega (arith, bytes_length file fields k)))
                   ∙ bound.binds.elsewhere i (omega (arith, now.follows.cells.in_use q.place there)) (omega (arith, now.follows.cells.in_use q.place there)) (λ h. omega arith))
@@ -201,32 +201,32 @@ module _ {file types functions input : List ℕ} {p : Program} {j : Parts} (give
       means stepped = stepped.steps p sought cells now.input s given.of_file.file_of now.stands
 
       -- a step that was to go on does not wait
-      pub no-wait :
+      pub no_wait :
           {w' : List ℕ} {n : Next} {s' : State} → Stepped file types functions w w' base label r n → next p now.input s ≡ goes s' → (x : ℕ) → n ≡ Next.Waits x → ⊥
-      no-wait {w'} {n} stepped on x is =
+      no_wait {w'} {n} stepped on x is =
           let (q, waiting, cell) = subst (StepMeans file types functions w w' base r p now.input s) is (means stepped) in
           absurd (clash (cc))
 
       -- what comes next on the input that is bound so far
-      pub bound-so-far :
+      pub bound_so_far :
           {w' : List ℕ} (n : Next) → Stepped file types functions w w' base label r n → ((x : ℕ) → n ≡ Next.Waits x → ⊥) → BoundSoFar p j done s n w'
-      bound-so-far Next.Demands stepped no-wait = bound_kept stepped.only_top Next.Demands (means stepped)
-      bound-so-far Next.Lacks stepped no-wait = bound_kept stepped.only_top Next.Lacks (means stepped)
-      bound-so-far Next.Stops stepped no-wait = bound_kept stepped.only_top Next.Stops (means stepped)
-      bound-so-far (Next.Goes r') stepped no-wait = let (s', on, follows) = means stepped in bound_kept stepped.only_top (Next.Goes r') (s', on)
-      bound-so-far (Next.Waits x) stepped no-wait = absurd (no-wait x refl)
+      bound_so_far Next.Demands stepped no_wait = bound_kept stepped.only_top Next.Demands (means stepped)
+      bound_so_far Next.Lacks stepped no_wait = bound_kept stepped.only_top Next.Lacks (means stepped)
+      bound_so_far Next.Stops stepped no_wait = bound_kept stepped.only_top Next.Stops (means stepped)
+      bound_so_far (Next.Goes r') stepped no_wait = let (s', on, follows) = means stepped in bound_kept stepped.only_top (Next.Goes r') (s', on)
+      bound_so_far (Next.Waits x) stepped no_wait = absurd (no_wait x refl)
 
       pub advances :
           {w' : List ℕ} (n : Next) → binds ≤ done + 1 → Stepped file types functions w w' base label r n → ((x : ℕ) → n ≡ Next.Waits x → ⊥)
           → Advances file types functions input label limit w' base done p j s cells n
-      advances Next.Demands few stepped no-wait =
+      advances Next.Demands few stepped no_wait =
           λ left. run_demands file p given.of_file.checked j within now.follows.below now.steps left done (means stepped)
-      advances Next.Lacks few stepped no-wait =
+      advances Next.Lacks few stepped no_wait =
           λ left. run_lacks file p given.of_file.checked j within now.follows.below now.steps left done (means stepped)
-      advances Next.Stops few stepped no-wait =
+      advances Next.Stops few stepped no_wait =
           let (why, on) = means stepped in
           (why, λ left. run_stops file p given.of_file.checked j within now.follows.below now.steps left done why on)
-      advances (Next.Goes r') few stepped no-wait =
+      advances (Next.Goes r') few stepped no_wait =
           let (s', on, follows) = means stepped in (
             s',
             run_spent file p given.of_file.checked j within now.follows.below now.steps done s' on,
@@ -235,10 +235,10 @@ module _ {file types functions input : List ℕ} {p : Program} {j : Parts} (give
               given = given;
               sought = sought;
               in_time = omega arith;
-              running = with-binds (omega arith) (step-running in_time stepped.only_top follows on);
+              running = with_binds (omega arith) (step_running in_time stepped.only_top follows on);
             },
           )
-      advances (Next.Waits x) few stepped no-wait = absurd (no-wait x refl)
+      advances (Next.Waits x) few stepped no_wait = absurd (no_wait x refl)
 
 -- after a step that does not wait
 pub went :
@@ -247,7 +247,7 @@ pub went :
     → AdvancesAll file types functions input label w w' base cells r cells n
 went n stepped never limit done p j s h = (
   advances h.given h.running h.sought h.in_time n (omega arith) stepped never,
-  bound-so-far h.given h.running h.sought h.in_time n stepped never,
+  bound_so_far h.given h.running h.sought h.in_time n stepped never,
 )
 
 -- After one that waits on the part in cell x, which is then bound, and the case's step with it:
@@ -283,7 +283,7 @@ module _
       now₂ : (after : Running file types functions p j limit w₂ base more done (done + 1) r s) × (s' : State) × (next p after.input s ≡ goes s')
       unfolding now₁ running_kept
       now₂ =
-          bind-running h.given now₁ h.in_time (omega arith) question.0 question.1
+          bind_running h.given now₁ h.in_time (omega arith) question.0 question.1
           (subst (λ y. BoundAs file types input w₁ w₂ cells y more) (sym cell_is) bound)
 
       standing : Standing file types functions w₂ base r
@@ -291,7 +291,7 @@ module _
 
       looks : (control_in r ≡ part_in x) × (r.frame < no_case)
       looks =
-          let told = waits-control h.running.stands question.1 in
+          let told = waits_control h.running.stands question.1 in
           (told.0 ∙ ap part_in question.2, told.1)
 
       pub more_cells : cells ≤ more
@@ -319,11 +319,11 @@ module _
               small = (omega arith, omega (arith, asks.room, asks.narrow));
             }
 
-      pub went-bound :
+      pub went_bound :
           {w₃ : List ℕ} {n₂ : Next} → Stepped file types functions w₂ w₃ base label r n₂
           → Advances file types functions input label limit w₃ base done p j s more n₂ × BoundSoFar p j done s n₂ w₃
-      went-bound {n₂ = n₂} again =
-          let never = no-wait h.given now₂.0 h.sought h.in_time again now₂.2 in (
+      went_bound {n₂ = n₂} again =
+          let never = no_wait h.given now₂.0 h.sought h.in_time again now₂.2 in (
             advances h.given now₂.0 h.sought h.in_time n₂ (omega arith) again never,
-            bound-so-far h.given now₂.0 h.sought h.in_time n₂ again never,
+            bound_so_far h.given now₂.0 h.sought h.in_time n₂ again never,
           )

@@ -36,10 +36,10 @@ module _
       pub fields_few : Bindable file types input w cells x → k ≤ 6
       fields_few bindable = omega (arith, bindable.few (bytes_at file fields k) these, bytes_length file fields k)
 
-      pub bound-known :
+      pub bound_known :
           {v w' : List ℕ} → Binds w v x c cells k (bytes_at file fields k) (cell_word w x 3 - 1)
           → Noted file types input v w' cells (bytes_at file fields k) (place + 1) → BoundAs file types input w w' cells x (cells + k)
-      bound-known {v} binds noted us known =
+      bound_known {v} binds noted us known =
           let number : c ≡ noted_number input w x = c-is ∙ ap (λ i. get_or input i 0) place_is in (
             fields,
             k,

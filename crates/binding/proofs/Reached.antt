@@ -16,7 +16,7 @@ use Rattle.reach.specs.States.{StateIn, Steps, no_step, one_more, Sound}
 use Rattle.reach.proofs.Evaluation.{next_more, eval_step, eval_demands, eval_lacks, eval_stops, eval_spent}
 use Rattle.reach.proofs.Depths.{typed_width}
 use Rattle.reach.proofs.NeverStuck.{steps_sound}
-use Rattle.reach.proofs.Reached.{steps_in_law, steps-more}
+use Rattle.reach.proofs.Reached.{steps_in_law, steps_more}
 
 -- an input below one of these types is of these types
 pub below_typed : (types : Types) (ts : List ℕ) {e j : Parts} → e ⊑ j → Typed types ts j → Typed types ts e
@@ -30,12 +30,12 @@ below_typed types (t ∷ ts) (⊑-bind a) h = below_typed types ts a h.3
 below_typed types (t ∷ ts) (⊑-same f a) h = (h.0, h.1, below_typed types h.0 f h.2, below_typed types ts a h.3)
 
 -- the steps taken lead from the start to where the rest of the evaluation goes on
-pub steps-eval :
+pub steps_eval :
     (p : Program) (e : Parts) (limit : ℕ) {n : ℕ} {s : State} → Steps p e n s → n ≤ limit → eval p e limit 0 (start p) ≡ eval p e (limit - n) n s
-steps-eval p e limit no_step h = let z : limit - 0 ≡ limit = omega arith in rw z
-steps-eval p e limit (one_more {n = n} {s = s} {s' = s'} before on) h =
+steps_eval p e limit no_step h = let z : limit - 0 ≡ limit = omega arith in rw z
+steps_eval p e limit (one_more {n = n} {s = s} {s' = s'} before on) h =
     let z : limit - n ≡ suc (limit - suc n) = omega arith in
-    steps-eval p e limit before (omega arith) ∙ (ap (λ l. eval p e l n s) z ∙ eval_step p e (limit - suc n) n s s' on)
+    steps_eval p e limit before (omega arith) ∙ (ap (λ l. eval p e l n s) z ∙ eval_step p e (limit - suc n) n s s' on)
 
 -- A checked program on a closed input that fits, and on the inputs below it.
 module _ (file : List ℕ) (p : Program) (checked : check file ≡ accepted p) (j : Parts) (fits : WithinDepth p j) where
@@ -69,7 +69,7 @@ module _ (file : List ℕ) (p : Program) (checked : check file ≡ accepted p) (
     -- the evaluation on the input below comes to the same end, by what comes next there
     module _ (limit : ℕ) (in_time : n ≤ limit) where
       same_left : eval p e (limit - n) n s ≡ eval p j (limit - n) n s → eval p e limit 0 (start p) ≡ eval p j limit 0 (start p)
-      same_left same = steps-eval p e limit steps in_time ∙ (same ∙ sym (steps-eval p j limit (steps-more p below (below_width below) steps) in_time))
+      same_left same = steps_eval p e limit steps in_time ∙ (same ∙ sym (steps_eval p j limit (steps_more p below (below_width below) steps) in_time))
 
       pub same_demands : next p e s ≡ demands → eval p e limit 0 (start p) ≡ eval p j limit 0 (start p)
       same_demands on = same_left (eval_demands p e (limit - n) n s on ∙ sym (run_demands (limit - n) n on))

@@ -68,10 +68,10 @@ module _ (file : List ℕ) (place : ℕ) (h : Looked.Head) (is : head_of file h 
           (rw (le-ltb behind (end_of (head_at file place)) (omega (arith, end_is))) refl)
 
 -- a function of the table has few parameters
-pub few-parameters :
+pub few_parameters :
     {file types functions : List ℕ} {f : ℕ} → TablesSmall file types functions → f < length functions
     → (h : Looked.Head) → head_of file h ≡ head_at file (get_or functions f 0) → h.count ≤ 8
-few-parameters {file} {f = f} small more h is = omega (arith, parameters_many file h is, small.parameters_limit f more)
+few_parameters {file} {f = f} small more h is = omega (arith, parameters_many file h is, small.parameters_limit f more)
 
 -- the bodies from number f on; the place behind them is left out
 abbrev pub bodies_from : List ℕ → List ℕ → List ℕ → ℕ → Judged

@@ -16,7 +16,7 @@ use Rattle.reach.specs.Types.{Slot, slot_at}
 use Rattle.reach.specs.Places.{bytes_at}
 use Rattle.reach.proofs.Order.{free_unbound, bind_refines, ⊑-there}
 use Rattle.machine.specs.Cells.{cell_word, cell_of, Cells, Binds, KeptBut, Unmoved}
-use Rattle.machine.proofs.Cells.{field, walk_kept, bind_elsewhere, bind-slot, bind_length_exact, bind_keeps, bind-walks, bind-cells, start-cells, open-cells}
+use Rattle.machine.proofs.Cells.{field, walk_kept, bind_elsewhere, bind_slot, bind_length_exact, bind_keeps, bind_walks, bind_cells, start_cells, open_cells}
 use Rattle.cells.specs.Writes.{Opens, Starts}
 
 -- a part that is open, or bound, is there
@@ -31,22 +31,22 @@ pub starts :
     {w w' : List ℕ} {ss : List Slot} {n : ℕ} → 5 * n ≤ length w → Opens w w' 0 n ss → Starts w w' n ss
 starts fits made = record {
   same_length = made.same_length;
-  stands = λ types. start-cells (omega (arith, made.same_length)) made.cells;
+  stands = λ types. start_cells (omega (arith, made.same_length)) made.cells;
   behind = λ i out. made.elsewhere i (λ h. omega arith);
 }
 
 -- a part bound as `bind_cell` does it: the words stand for the input with the part bound, every part is in the cell where it was, and the fields
 -- are the cells from the old top on
-pub bound-cells :
+pub bound_cells :
     {types : Types} {ss : List Slot} {w w' us : List ℕ} {top c k : ℕ} {e : Parts} {s : Slot} (file : List ℕ) (fields : ℕ) (q : Place)
     → Cells types ss w top e → at e q ≡ free → slot_at types e q ss ≡ some s → 1 ≤ s.room → field_types types s.type c ≡ some us
     → us ≡ bytes_at file fields k → 5 * (top + k) ≤ length w
     → Binds w w' (cell_of w q) c top k (bytes_at file fields k) (cell_word w (cell_of w q) 3 - 1)
     → Cells types ss w' (top + k) (bind_at q c k e) × Unmoved w w' e × ((j : ℕ) → cell_of w' (field q j) ≡ top + j)
-bound-cells {w = w} {s = s} file fields q cells unbound known deep typed same fits binds =
+bound_cells {w = w} {s = s} file fields q cells unbound known deep typed same fits binds =
     let room : cell_word w (cell_of w q) 3 ≡ s.room = (cells.slot q s (open_there unbound) known).1 in
-    let walks = bind-walks q cells unbound binds in
-    (bind-cells q cells unbound known (omega arith) (rw same at typed) fits binds, walks.0, walks.1)
+    let walks = bind_walks q cells unbound binds in
+    (bind_cells q cells unbound known (omega arith) (rw same at typed) fits binds, walks.0, walks.1)
 
 -- to open a bound part again gives words that stand for the input before the bind, whatever was written since, if they stood for the input with
 -- the part bound and every part of the input before is in the cell where it was
@@ -94,22 +94,22 @@ reopened {types} {ss} {w} {v} {w'} {top} {high} {e} q c k before unbound after k
     slot_of : (r : Place) (s : Slot) → There (at e r) → slot_at types e r ss ≡ some s
         → (cell_word w' (cell_of w' r) 2 ≡ s.type) × (cell_word w' (cell_of w' r) 3 ≡ s.room)
     slot_of r s t h =
-        let said = after.slot r s (⊑-there (bind_refines q c k e) r t) (bind-slot types q c k e r ss t ∙ h) in
+        let said = after.slot r s (⊑-there (bind_refines q c k e) r t) (bind_slot types q c k e r ss t ∙ h) in
         let same : (n : ℕ) → 0 < n → n < 5 → cell_word w' (cell_of w' r) n ≡ cell_word v (cell_of v r) n =
         λ n some small. rw (moved r t, kept r t) (other (5 * cell_of w r + n) (omega arith)) in
         (same 2 (omega arith) (omega arith) ∙ said.0, same 3 (omega arith) (omega arith) ∙ said.1)
 
 -- what leaves the parts of the input with a part bound in their cells leaves those of the input before in theirs
-pub unmoved-since :
+pub unmoved_since :
     (w v v' : List ℕ) (q : Place) (c k : ℕ) (e : Parts) → Unmoved w v e → Unmoved v v' (bind_at q c k e) → Unmoved w v' e
-unmoved-since w v v' q c k e then since r t = since r (⊑-there (bind_refines q c k e) r t) ∙ then r t
+unmoved_since w v v' q c k e then since r t = since r (⊑-there (bind_refines q c k e) r t) ∙ then r t
 
 -- to open a part again right after the bind
-pub reopened-at-once :
+pub reopened_at_once :
     {types : Types} {ss : List Slot} {w v w' us : List ℕ} {top c k room : ℕ} {e : Parts} (q : Place) → Cells types ss w top e → at e q ≡ free
     → Binds w v (cell_of w q) c top k us room → w' ≡ set v (5 * cell_of w q) 0 → Unmoved w w' e × Cells types ss w' top e
-reopened-at-once {w = w} {v} {w'} {top = top} q cells unbound binds written =
-    open-cells q cells unbound (rw written (simp length-set (omega (arith, binds.same_length, cells.fits)))) keeps cleared
+reopened_at_once {w = w} {v} {w'} {top = top} q cells unbound binds written =
+    open_cells q cells unbound (rw written (simp length-set (omega (arith, binds.same_length, cells.fits)))) keeps cleared
   where
     keeps : KeptBut w w' (cell_of w q) top
     keeps = record { kept = λ i below head first. rw written (get_or-set_other v _ i 0 0 head ∙ (bind_keeps binds).kept i below head first) }

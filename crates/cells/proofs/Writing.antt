@@ -72,10 +72,10 @@ opens_none w b ss = record {
   elsewhere = λ i out. refl;
 }
 
-pub opens-more :
+pub opens_more :
     {w v : List ℕ} {ss : List Slot} {b n : ℕ} (s : Slot) → Opens w v b n ss → get_elem? ss n ≡ some s → 5 * (b + n) + 5 ≤ length v
     → Opens w (open_cell v (b + n) s.type s.room) b (n + 1) ss
-opens-more {w} {v} {ss} {b} {n} s made slot fits = record {
+opens_more {w} {v} {ss} {b} {n} s made slot fits = record {
   same_length = open_length v _ _ _ ∙ made.same_length;
   cells = record {
     no_head = below_more _ _ (λ j l. kept j l 0 (omega arith) ∙ made.cells.no_head j l) (open_head v _ _ _ fits);
@@ -99,29 +99,29 @@ opens-more {w} {v} {ss} {b} {n} s made slot fits = record {
     new z is = rw (← some-injective _ _ (sym slot ∙ is)) (open_type v _ _ _ fits, open_room v _ _ _ fits)
 
 -- the same for a row of one depth whose types are bytes of the file, of which `more` are left: the next cell has the byte at the next place
-pub opens-next :
+pub opens_next :
     {w v v' : List ℕ} {first k more t : ℕ} (file : List ℕ) (fields cell place room : ℕ) → Opens w v first (k - more) (even_slots (bytes_at file fields k) room)
     → 5 * (first + k) ≤ length w → 0 < more → more ≤ k → cell + more ≡ first + k → place + more ≡ fields + k → t ≡ get_or file place 0
     → v' ≡ open_cell v cell t room → Opens w v' first (k - (more - 1)) (even_slots (bytes_at file fields k) room)
-opens-next {first = first} {k} {more} file fields cell place room made fits some_left few here there read written =
+opens_next {first = first} {k} {more} file fields cell place room made fits some_left few here there read written =
     let n = k - more in
     let count : k - (more - 1) ≡ n + 1 = omega arith in
     let number : cell ≡ first + n = omega arith in
     let spot : place ≡ fields + n = omega arith in
     let typed : get_or (bytes_at file fields k) n 0 ≡ get_or file (fields + n) 0 = bytes_nth file fields k n (omega arith) in
     let slot = even_nth (bytes_at file fields k) room n (omega (arith, bytes_length file fields k)) in
-    rw (written, count, number, read, spot, ← typed) (opens-more _ made slot (omega (arith, made.same_length)))
+    rw (written, count, number, read, spot, ← typed) (opens_more _ made slot (omega (arith, made.same_length)))
 
 -- the same for the parameters, of which n are made: each has a depth of its own
-pub starts-next :
+pub starts_next :
     {w v v' : List ℕ} {n t room : ℕ} (file : List ℕ) (fields k : ℕ) (depths : List ℕ) → Opens w v 0 n (slots (bytes_at file fields k) depths)
     → 5 * k ≤ length w → n < k → t ≡ get_or file (fields + n) 0 → room ≡ get_or depths n 0
     → v' ≡ open_cell v n t room → Opens w v' 0 (n + 1) (slots (bytes_at file fields k) depths)
-starts-next {n = n} file fields k depths made fits some_left read deep written =
+starts_next {n = n} file fields k depths made fits some_left read deep written =
     let number : 0 + n ≡ n = omega arith in
     let typed : get_or (bytes_at file fields k) n 0 ≡ get_or file (fields + n) 0 = bytes_nth file fields k n (omega arith) in
     let slot = slots_nth (bytes_at file fields k) depths n (omega (arith, bytes_length file fields k)) in
-    let more = opens-more _ made slot (omega (arith, made.same_length)) in
+    let more = opens_more _ made slot (omega (arith, made.same_length)) in
     rw (written, read, deep, ← typed) (rw number at more)
 
 -- A bind: the head and the first field's cell are set, then the fields' cells are opened.

@@ -14,11 +14,11 @@ use Rattle.reach.specs.Types.{least_depths}
 use Rattle.reach.specs.Moves.{Choice}
 use Rattle.reach.proofs.Evaluation.{waits_free}
 use Rattle.machine.specs.Cells.{cell_word, cell_of}
-use Rattle.machine.proofs.Cells.{kept-cells}
+use Rattle.machine.proofs.Cells.{kept_cells}
 use Rattle.machine.proofs.Records.{Same}
 use Rattle.forks.specs.Untried.{untried}
 use Rattle.registers.specs.declared.Registers.{Registers}
-use Rattle.registers.proofs.Standing.{stands-below}
+use Rattle.registers.proofs.Standing.{stands_below}
 use Rattle.points.specs.Points.{choice_word, reopened}
 use Rattle.choices.specs.Choices.{Setting, waiting_state_at, Path, ChoiceAt, ChoicesAt, no_choice, one_choice}
 
@@ -30,13 +30,13 @@ pub record Kept (g : Setting) (w w' : List ℕ) (cells records h : ℕ) : Type 0
   pub choices_kept : (i : ℕ) → g.stack ≤ i → i < g.stack + 6 * h → get_or w' i 0 ≡ get_or w i 0
 
 -- a path is kept
-pub path-kept :
+pub path_kept :
     {g : Setting} {w w' : List ℕ} {cells done binds : ℕ} {r : Registers} {e : Parts} {s : State} → Path g w cells done binds r e s → length w' ≡ length w
     → ((i : ℕ) → i < 5 * cells → get_or w' i 0 ≡ get_or w i 0) → Same w w' g.base r.records → Path g w' cells done binds r e s
-path-kept {w' = w'} path same_length kept same =
-    let moved = kept-cells w' path.stands.input (rw same_length path.stands.input.fits) kept in
+path_kept {w' = w'} path same_length kept same =
+    let moved = kept_cells w' path.stands.input (rw same_length path.stands.input.fits) kept in
     record {
-      stands = stands-below path.stands moved.1 moved.0 path.stands.apart same_length same path.stands.there path.stands.sound;
+      stands = stands_below path.stands moved.1 moved.0 path.stands.apart same_length same path.stands.there path.stands.sound;
       typed = path.typed;
       steps = path.steps;
       few_cells = path.few_cells;
@@ -116,12 +116,12 @@ module _
     reopened_lengths = reopened_length g w' h ∙ same_length ∙ sym (reopened_length g w h)
 
     -- so is a path that has no more cells and records than stay
-    pub path-same :
+    pub path_same :
         {cells done binds : ℕ} {r : Registers} {e : Parts} {s : State} → Path g (reopened g.stack w h) cells done binds r e s
         → ((i : ℕ) → i < 5 * cells → i ≢ 5 * choice_word g.stack w h 0 → i ≢ 5 * choice_word g.stack w h 0 + 1 → get_or w' i 0 ≡ get_or w i 0)
         → ((i : ℕ) → g.base ≤ i → i < g.base + 4 * r.records → get_or w' i 0 ≡ get_or w i 0) → Path g (reopened g.stack w' h) cells done binds r e s
-    path-same path kept same =
-        path-kept path reopened_lengths (λ i below. reopened_same i (λ head first. kept i below head first)) (λ i from below. reopened_same i (λ head first. same i from below))
+    path_same path kept same =
+        path_kept path reopened_lengths (λ i below. reopened_same i (λ head first. kept i below head first)) (λ i from below. reopened_same i (λ head first. same i from below))
 
 -- A choice point is kept, whichever constructors it has left, while its own words are.
 module _
@@ -131,20 +131,20 @@ module _
     (same : (i : ℕ) → g.base ≤ i → i < g.base + 4 * choice_word g.stack w h 3 → get_or w' i 0 ≡ get_or w i 0)
   where
     path_there : Path g (reopened g.stack w' h) (choice_word g.stack w h 4) (choice_word g.stack w h 5) (choice_word g.stack w h 5) (waiting_state_at g.stack w h) c.input at-h.state
-    path_there = path-same at-h w' same_length word at-h.path kept same
+    path_there = path_same at-h w' same_length word at-h.path kept same
 
     -- the part of the choice point is in its cell
     cell_there : cell_of (reopened g.stack w' h) c.question.place ≡ choice_word g.stack w h 0
     cell_there =
-        (kept-cells (reopened g.stack w' h) at-h.path.stands.input path_there.stands.input.fits
+        (kept_cells (reopened g.stack w' h) at-h.path.stands.input path_there.stands.input.fits
         (λ i below. reopened_same at-h w' same_length word i (λ head first. kept i below head first))).0 c.question.place (there at-h)
         ∙ at-h.cell_is
 
-    pub choice-same :
+    pub choice_same :
         (d : Choice) → d.question ≡ c.question → d.left ≡ c.left → d.done ≡ c.done → d.input ≡ c.input
         → d.untried ≡ untried g.program.types (least_depths g.program.types) (cell_word w (choice_word g.stack w h 0) 2) (cell_word w (choice_word g.stack w h 0) 3) (cell_word w' (choice_word g.stack w h 0) 0)
         → ChoiceAt g w' h d
-    choice-same d question left done input untried-are =
+    choice_same d question left done input untried_are =
         let z₀ = word 0 (omega arith) in
         let z₂ = word 2 (omega arith) in
         let z₃ = word 3 (omega arith) in
@@ -163,7 +163,7 @@ module _
           no_higher = rw z₅ at-h.no_higher;
           left_is = rw z₅ (left ∙ at-h.left_is);
           done_is = rw z₅ (done ∙ at-h.done_is);
-          untried-are = rw (z₀, type, room) untried-are;
+          untried_are = rw (z₀, type, room) untried_are;
         }
 
 -- What is kept of the choice point at h, and of those before it, whose words are those in which its cell is open again.
@@ -179,8 +179,8 @@ module _
 
     choice_kept : ChoiceAt g w' h c
     choice_kept =
-        choice-same at-h w' kept.same_length word_kept (λ i l head first. kept.cells_kept i (omega arith)) (λ i from l. kept.records_kept i from (omega arith))
-        c refl refl refl refl (rw head_kept at-h.untried-are)
+        choice_same at-h w' kept.same_length word_kept (λ i l head first. kept.cells_kept i (omega arith)) (λ i from l. kept.records_kept i from (omega arith))
+        c refl refl refl refl (rw head_kept at-h.untried_are)
 
     pub kept_before : Kept g (reopened g.stack w h) (reopened g.stack w' h) (choice_word g.stack w h 4) (choice_word g.stack w h 3) h
     kept_before = record {
@@ -203,14 +203,14 @@ pub choices_kept :
     {g : Setting} {w : List ℕ} (w' : List ℕ) {h cells records : ℕ} {cs : List Choice} → ChoicesAt g w h cells records cs → Kept g w w' cells records h
     → ChoicesAt g w' h cells records cs
 choices_kept w' (no_choice (few, cells)) kept =
-    no_choice (few, (kept-cells w' cells (rw kept.same_length cells.fits) (λ i l. kept.cells_kept i (omega arith))).1)
+    no_choice (few, (kept_cells w' cells (rw kept.same_length cells.fits) (λ i l. kept.cells_kept i (omega arith))).1)
 choices_kept {g} w' (one_choice {h = h} at-h few_cells few_records rest) kept =
     one_kept w' at-h few_cells few_records kept (choices_kept (reopened g.stack w' h) rest (kept_before w' at-h few_cells few_records kept))
 
 -- more cells and records may be in use
-pub choices-more :
+pub choices_more :
     {g : Setting} {w : List ℕ} {h cells records more_cells more-records : ℕ} {cs : List Choice} → cells ≤ more_cells → records ≤ more-records
     → ChoicesAt g w h cells records cs → ChoicesAt g w h more_cells more-records cs
-choices-more {more_cells = cells} more fewer (no_choice (few, stands)) = no_choice {cells = cells} (omega arith, stands)
-choices-more {more_cells = cells} {more-records = records} more fewer (one_choice at-h few_cells few_records rest) =
+choices_more {more_cells = cells} more fewer (no_choice (few, stands)) = no_choice {cells = cells} (omega arith, stands)
+choices_more {more_cells = cells} {more-records = records} more fewer (one_choice at-h few_cells few_records rest) =
     one_choice {cells = cells} {records = records} at-h (omega arith) (omega arith) rest

@@ -17,7 +17,7 @@ use Rattle.reach.proofs.Evaluation.{waits_free}
 use Rattle.reach.specs.States.{PartHas}
 use Rattle.reach.proofs.NeverStuck.{never_stuck}
 use Rattle.machine.specs.Cells.{cell_word, cell_of}
-use Rattle.machine.proofs.Cells.{kept-cells}
+use Rattle.machine.proofs.Cells.{kept_cells}
 use Rattle.machine.specs.Records.{Control, part_in, StateAt, inspecting_at}
 use Rattle.forks.specs.Untried.{untried}
 use Rattle.forks.proofs.Untried.{untried_all}
@@ -26,7 +26,7 @@ use Rattle.registers.specs.Stepping.{declarations_of, control_in, part_kind}
 use Rattle.registers.proofs.Waiting.{inspects}
 use Rattle.points.specs.Points.{choice_word, reopened, Pushes}
 use Rattle.choices.specs.Choices.{Setting, Given, Path, ChoiceAt, ChoicesAt, one_choice}
-use Rattle.choices.proofs.Keeping.{Kept, path-kept, reopened_length, reopened_other, reopened_head, reopened_first, choices_kept}
+use Rattle.choices.proofs.Keeping.{Kept, path_kept, reopened_length, reopened_other, reopened_head, reopened_first, choices_kept}
 
 -- the registers that look at cell x, with the frames of others
 abbrev looking_at : ℕ → Registers → Registers
@@ -75,16 +75,16 @@ module _ {g : Setting} {w : List ℕ} {cells done binds : ℕ} {r : Registers} {
         }
 
 -- the constructors of a fork, by the slot of the part and by the words of its cell
-branches-are :
+branches_are :
     (p : Program) (table : List ℕ) (e : Parts) (q : Question) (s : Slot) → slot_at p.types e q.place (source_slots p) ≡ some s
     → branches p table e q ≡ forks p.types table s.type s.room
 unfolding branches forks_at
-branches-are p table e q s h = rw h
+branches_are p table e q s h = rw h
 
-cell-untried :
+cell_untried :
     (types : Types) (table w : List ℕ) (x t room : ℕ) → cell_word w x 2 ≡ t → cell_word w x 3 ≡ room
     → forks types table t room ≡ untried types table (cell_word w x 2) (cell_word w x 3) 0
-cell-untried types table w x t room type_is room_is = rw (type_is, room_is) (sym (untried_all types table t room))
+cell_untried types table w x t room type_is room_is = rw (type_is, room_is) (sym (untried_all types table t room))
 
 -- the choice point of a case that waits after so many steps, with every constructor of the fork untried
 abbrev pub new_choice : Setting → Question → ℕ → Parts → Choice
@@ -154,20 +154,20 @@ module _
     }
 
     waits_there : Path g (reopened g.stack w' h) cells done done (looking_at x r) e s
-    waits_there = path-kept (path_looking path asks cell_is) same_length kept.cells_kept kept.records_kept
+    waits_there = path_kept (path_looking path asks cell_is) same_length kept.cells_kept kept.records_kept
 
     -- the part has a slot, of which its cell tells the type and the depth
     slotted : (t : ℕ) × PartHas g.program e q.place t
     slotted = let found = (never_stuck g.file g.program given.checked e path.typed path.steps).1 q asks in (found.0, found.1)
 
-    all-untried :
+    all_untried :
         branches g.program (least_depths g.program.types) e q
         ≡ untried g.program.types (least_depths g.program.types) (cell_word w x 2) (cell_word w x 3) 0
-    all-untried =
+    all_untried =
         let (t, (room, slot_is)) = slotted in
         let said = path.stands.input.slot q.place (record { type = t; room = room }) there slot_is in
-        branches-are g.program (least_depths g.program.types) e q (record { type = t; room = room }) slot_is
-        ∙ cell-untried g.program.types (least_depths g.program.types) w x t room (ap (λ y. cell_word w y 2) (sym cell_is) ∙ said.0)
+        branches_are g.program (least_depths g.program.types) e q (record { type = t; room = room }) slot_is
+        ∙ cell_untried g.program.types (least_depths g.program.types) w x t room (ap (λ y. cell_word w y 2) (sym cell_is) ∙ said.0)
         (ap (λ y. cell_word w y 3) (sym cell_is) ∙ said.1)
 
     pub head_new : cell_word w' x 0 ≡ 0
@@ -183,7 +183,7 @@ module _
         let type : cell_word w' x 2 ≡ cell_word w x 2 = above (5 * x + 2) (omega (arith, cells_low, base_low, below)) in
         let room : cell_word w' x 3 ≡ cell_word w x 3 = above (5 * x + 3) (omega (arith, cells_low, base_low, below)) in
         let moved : cell_of (reopened g.stack w' h) q.place ≡ x =
-        (kept-cells (reopened g.stack w' h) path.stands.input waits_there.stands.input.fits kept.cells_kept).0 q.place there ∙ cell_is in
+        (kept_cells (reopened g.stack w' h) path.stands.input waits_there.stands.input.fits kept.cells_kept).0 q.place there ∙ cell_is in
         record {
           state = s;
           path = rw (z₀, z₂, z₃, z₄, z₅) waits_there;
@@ -193,7 +193,7 @@ module _
           no_higher = rw z₅ no_higher;
           left_is = rw z₅ refl;
           done_is = rw z₅ refl;
-          untried-are = rw (z₀, type, room, head_new) all-untried;
+          untried_are = rw (z₀, type, room, head_new) all_untried;
         }
 
     pub choices_pushed : {cs : List Choice} → ChoicesAt g w h cells r.records cs → ChoicesAt g w' (suc h) cells r.records (new_choice g q done e ∷ cs)

@@ -33,10 +33,10 @@ pub record LastChoice (g : Setting) (w : List ℕ) (h : ℕ) (cs : List Choice) 
   pub choice_at : ChoiceAt g w h choice
   pub before_at : ChoicesAt g (reopened g.stack w h) h (choice_word g.stack w h 4) (choice_word g.stack w h 3) before
 
-pub last-choice :
+pub last_choice :
     {g : Setting} {w : List ℕ} {h cells records : ℕ} {cs : List Choice} → ChoicesAt g w h cells records cs → 0 < h → LastChoice g w (h - 1) cs
-last-choice (no_choice open_there) higher = absurd (omega arith)
-last-choice (one_choice {h = h} {c = c} {cs = cs} at-h few_cells few_records rest) higher =
+last_choice (no_choice open_there) higher = absurd (omega arith)
+last_choice (one_choice {h = h} {c = c} {cs = cs} at-h few_cells few_records rest) higher =
     let z : suc h - 1 ≡ h = omega arith in
     rw z (record { choice = c; before = cs; choices_are = refl; choice_at = at-h; before_at = rest })
 
@@ -66,32 +66,32 @@ module _ {g : Setting} (given : Given g) where
     cell_small = omega (arith, cell_below at-h, cells_small)
 
     -- the constructors left, as the search for the next one has them
-    left-are :
+    left_are :
         untried (map (type_at g.file) g.types) g.least (cell_word w (choice_word g.stack w h 0) 2) (cell_word w (choice_word g.stack w h 0) 3) (cell_word w (choice_word g.stack w h 0) 0)
         ≡ c.untried
-    left-are =
+    left_are =
         rw (← given.file_of.types_there, given.least_are)
-        (untried_padded (least_depths g.program.types) g.program.types _ _ _ ∙ sym at-h.untried-are)
+        (untried_padded (least_depths g.program.types) g.program.types _ _ _ ∙ sym at-h.untried_are)
 
     -- a choice point without a constructor left
     pub exhausted :
         NextForkAt g.file g.types g.least g.stack w h Candidate.NoMore
         → c.untried ≡ []
-    exhausted none = sym left-are ∙ none
+    exhausted none = sym left_are ∙ none
 
     -- one with a constructor left
-    pub next-found :
+    pub next_found :
         (n i k : ℕ)
         → NextForkAt g.file g.types g.least g.stack w h (Candidate.Take n i k)
         → NextAt g w c h n i k
-    next-found n i k (untried_is, known, deep, from, near, few, small) = record {
+    next_found n i k (untried_is, known, deep, from, near, few, small) = record {
       choice_at = at-h;
       rest = untried g.program.types (least_depths g.program.types) (cell_word w (choice_word g.stack w h 0) 2) (cell_word w (choice_word g.stack w h 0) 3) (suc n);
       untried_is =
-          sym left-are ∙ untried_is
+          sym left_are ∙ untried_is
           ∙ ap (λ fs. record { constructor = n; fields = k } ∷ fs)
           (rw (← given.file_of.types_there, given.least_are) (untried_padded (least_depths g.program.types) g.program.types _ _ _));
-      rest-is = refl;
+      rest_is = refl;
       known = rw given.file_of.types_there known;
       deep = deep;
       from = from;
@@ -104,11 +104,11 @@ return_on : (p : Program) (table : List ℕ) (c : Choice) (cs : List Choice) (es
 unfolding return
 return_on p table c cs es none = rw none
 
-return-here :
+return_here :
     (p : Program) (table : List ℕ) (c : Choice) (f : Fork) (rest : List Fork) (cs : List Choice) (es : List Entry) → c.untried ≡ f ∷ rest
     → return p table (c ∷ cs) es ≡ take_fork p table c f rest cs es
 unfolding return
-return-here p table c f rest cs es left =
+return_here p table c f rest cs es left =
     ap (λ (fs : List Fork). elim fs [ [] ↦ return p table cs es | h ∷ hs ↦ take_fork p table c h hs cs es ]) left
 
 return_none : (p : Program) (table : List ℕ) (es : List Entry) → return p table [] es ≡ behind [] es
@@ -143,20 +143,20 @@ module _ (file types least w₀ : List ℕ) (stack height : ℕ) where
         (functions, p, limit, base, now.cells, now.records, now.choices, given, now.choices_at_law)
 
     -- the numbers of the last choice point are small
-    pub came-bounds :
+    pub came_bounds :
         SomeChoices file types least w₀ stack height → 0 < h
         → (stack ≤ 1000000) × (h - 1 ≤ 1000000) × (choice_word stack w (h - 1) 0 ≤ 1000000) × (5 * choice_word stack w (h - 1) 0 + 1 < length w)
-    came-bounds (functions, p, limit, base, cells, records, cs, given, at_first) higher =
-        let last = last-choice (came functions p limit base cells records cs given at_first).choices_at_law higher in
+    came_bounds (functions, p, limit, base, cells, records, cs, given, at_first) higher =
+        let last = last_choice (came functions p limit base cells records cs given at_first).choices_at_law higher in
         (stack_small given, omega (arith, height_small given last.choice_at), cell_small given last.choice_at, cell_fits last.choice_at)
 
     -- the last choice point has no constructor left, and is dropped
-    came-back :
+    came_back :
         NextForkAt file types least stack w (h - 1) Candidate.NoMore
         → 0 < h → CameTo (reopened stack w (h - 1)) (h - 1)
-    came-back none higher functions p limit base cells records cs given at_first =
+    came_back none higher functions p limit base cells records cs given at_first =
         let now = came functions p limit base cells records cs given at_first in
-        let last = last-choice now.choices_at_law higher in
+        let last = last_choice now.choices_at_law higher in
         let one : suc (h - 1) ≡ h = omega arith in
         record {
           cells = choice_word stack w (h - 1) 4;
@@ -169,14 +169,14 @@ module _ (file types least w₀ : List ℕ) (stack height : ℕ) where
         }
 
     -- or it has, and is the one that the return leads to
-    came-to :
+    came_to :
         (n i k : ℕ)
         → NextForkAt file types least stack w (h - 1) (Candidate.Take n i k)
         → 0 < h → length w ≡ length w₀ → Returns file types least w₀ w stack height (Return.To (h - 1) n i k)
-    came-to n i k found higher same_length functions p limit base cells records cs given at_first =
+    came_to n i k found higher same_length functions p limit base cells records cs given at_first =
         let now = came functions p limit base cells records cs given at_first in
-        let last = last-choice now.choices_at_law higher in
-        let next = next-found given last.choice_at n i k found in
+        let last = last_choice now.choices_at_law higher in
+        let next = next_found given last.choice_at n i k found in
         let one : suc (h - 1) ≡ h = omega arith in (
           same_length,
           record {
@@ -185,7 +185,7 @@ module _ (file types least w₀ : List ℕ) (stack height : ℕ) where
             before = last.before;
             next_at = next;
             before_at = last.before_at;
-            returns = λ es. now.returns es ∙ ap (λ ds. return p (least_depths p.types) ds es) last.choices_are ∙ (return-here p (least_depths p.types) last.choice (record { constructor = n; fields = k }) next.rest last.before es next.untried_is);
+            returns = λ es. now.returns es ∙ ap (λ ds. return p (least_depths p.types) ds es) last.choices_are ∙ (return_here p (least_depths p.types) last.choice (record { constructor = n; fields = k }) next.rest last.before es next.untried_is);
             no_heavier = omega (arith, ap (weight stack limit w) one, now.no_heavier);
           },
         )
@@ -203,7 +203,7 @@ module _ (file types least w₀ : List ℕ) (stack height : ℕ) where
     -- the same by what `candidate` answers
     module _ {a : Candidate} (answer : NextForkAt file types least stack w (h - 1) a) (higher : 0 < h) where
       pub drops : {w' : List ℕ} → a ≡ Candidate.NoMore → w' ≡ reopened stack w (h - 1) → CameTo w' (h - 1)
-      drops is written = rw written (came-back (subst (NextForkAt file types least stack w (h - 1)) is answer) higher)
+      drops is written = rw written (came_back (subst (NextForkAt file types least stack w (h - 1)) is answer) higher)
 
       pub leads : {n i k : ℕ} → a ≡ Candidate.Take n i k → length w ≡ length w₀ → Returns file types least w₀ w stack height (Return.To (h - 1) n i k)
-      leads {n} {i} {k} is same_length = came-to n i k (subst (NextForkAt file types least stack w (h - 1)) is answer) higher same_length
+      leads {n} {i} {k} is same_length = came_to n i k (subst (NextForkAt file types least stack w (h - 1)) is answer) higher same_length

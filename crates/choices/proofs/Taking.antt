@@ -19,26 +19,26 @@ use Rattle.reach.proofs.Depths.{typed_width}
 use Rattle.reach.proofs.Evaluation.{waits_answered}
 use Rattle.reach.specs.States.{Steps, one_more, PartHas}
 use Rattle.reach.proofs.NeverStuck.{steps_sound, never_stuck}
-use Rattle.reach.proofs.Reached.{steps_in_law, steps-more, bind-typed}
+use Rattle.reach.proofs.Reached.{steps_in_law, steps_more, bind_typed}
 use Rattle.reach.proofs.Slots.{source_types_law}
 use Rattle.machine.specs.Cells.{cell_word, cell_of, Cells, Binds, Unmoved}
-use Rattle.machine.proofs.Cells.{bind-walks, bind-cells}
+use Rattle.machine.proofs.Cells.{bind_walks, bind_cells}
 use Rattle.forks.specs.Untried.{untried}
 use Rattle.registers.specs.declared.Registers.{Registers}
 use Rattle.machine.specs.Records.{OnlyTop}
 use Rattle.registers.specs.Stepping.{Follows}
-use Rattle.registers.proofs.Standing.{stands_after, stands-below}
+use Rattle.registers.proofs.Standing.{stands_after, stands_below}
 use Rattle.machine.proofs.Words.{records_same}
 use Rattle.points.specs.Points.{choice_word, reopened}
 use Rattle.choices.specs.Choices.{Setting, Given, waiting_state_at, Path, ChoiceAt, ChoicesAt, one_choice}
-use Rattle.choices.proofs.Keeping.{Kept, path-kept, reopened_length, reopened_other, reopened_same, reopened_lengths, unbound, there, cell_below, choice-same, choices_kept}
+use Rattle.choices.proofs.Keeping.{Kept, path_kept, reopened_length, reopened_other, reopened_same, reopened_lengths, unbound, there, cell_below, choice_same, choices_kept}
 
 -- binding keeps the types of an input, whatever the number of fields is called
-typed-bound :
+typed_bound :
     (p : Program) (e : Parts) (q : Place) (s : Slot) (c k : ℕ) (us : List ℕ) → k ≡ length us → Typed p.types (source_types p) e → at e q ≡ free
     → slot_at p.types e q (source_slots p) ≡ some s → field_types p.types s.type c ≡ some us → Typed p.types (source_types p) (bind_at q c k e)
-typed-bound p e q s c k us many typed open_there slot_is known =
-    rw (many, ← source_types_law p) (bind-typed p.types (source_slots p) e q s c us (rw (source_types_law p) typed) open_there slot_is known)
+typed_bound p e q s c k us many typed open_there slot_is known =
+    rw (many, ← source_types_law p) (bind_typed p.types (source_slots p) e q s c us (rw (source_types_law p) typed) open_there slot_is known)
 
 module _
     {g : Setting} (given : Given g) {w : List ℕ} {h : ℕ} {c : Choice} (at-h : ChoiceAt g w h c) {w' us : List ℕ} {n k : ℕ}
@@ -112,23 +112,23 @@ module _
     cells_there : Cells g.program.types (source_slots g.program) w' (choice_word g.stack w h 4 + k) bound
     unfolding w₀
     cells_there =
-        bind-cells q at-h.path.stands.input (unbound at-h) slotted.1.1 (omega (arith, room_is)) known_there
+        bind_cells q at-h.path.stands.input (unbound at-h) slotted.1.1 (omega (arith, room_is)) known_there
         (omega (arith, fits, given.base_is, long)) binds_open
 
     unmoved : Unmoved w₀ w' c.input
     unfolding w₀
-    unmoved = (bind-walks q at-h.path.stands.input (unbound at-h) binds_open).0
+    unmoved = (bind_walks q at-h.path.stands.input (unbound at-h) binds_open).0
 
     typed : Typed g.program.types (source_types g.program) bound
     typed =
-        typed-bound g.program c.input q (record { type = slotted.0; room = slotted.1.0 }) n k us many
+        typed_bound g.program c.input q (record { type = slotted.0; room = slotted.1.0 }) n k us many
         at-h.path.typed (unbound at-h) slotted.1.1 known_there
 
     wide : (e : Parts) → Typed g.program.types (source_types g.program) e → width e ≡ length (source_types g.program)
     wide e = typed_width g.program.types (source_types g.program) e
 
     steps_there : Steps g.program bound (choice_word g.stack w h 5) at-h.state
-    steps_there = steps-more g.program (bind_refines q n k c.input) (wide c.input at-h.path.typed) at-h.path.steps
+    steps_there = steps_more g.program (bind_refines q n k c.input) (wide c.input at-h.path.typed) at-h.path.steps
 
     base_high : g.base + 4 * choice_word g.stack w h 3 ≤ g.stack
     base_high = omega (arith, given.base_is, given.stack_is, at-h.path.few_records, at-h.in_time)
@@ -145,7 +145,7 @@ module _
     unfolding w₀
     path_taken = record {
       stands =
-          stands-below at-h.path.stands cells_there unmoved fits same_length
+          stands_below at-h.path.stands cells_there unmoved fits same_length
           (λ i from below. above i from ∙ sym (other i (omega (arith, cell_below at-h, fits)) (omega (arith, cell_below at-h, fits))))
           (steps_in_law g.program bound (wide bound typed) steps_there) (steps_sound g.file g.program given.checked bound typed steps_there);
       typed = typed;
@@ -175,17 +175,17 @@ module _
     }
 
     -- the choice point with these constructors left
-    pub choices-taken :
+    pub choices_taken :
         {cs : List Choice} (d : Choice) → d.question ≡ c.question → d.left ≡ c.left → d.done ≡ c.done → d.input ≡ c.input
         → d.untried ≡ untried g.program.types (least_depths g.program.types) (cell_word w x 2) (cell_word w x 3) (suc n)
         → ChoicesAt g (reopened g.stack w h) h (choice_word g.stack w h 4) (choice_word g.stack w h 3) cs
         → ChoicesAt g w' (suc h) (choice_word g.stack w h 4 + k) (choice_word g.stack w h 3) (d ∷ cs)
-    choices-taken {cs} d question left done input untried-are rest =
+    choices_taken {cs} d question left done input untried_are rest =
         let z₃ = word 3 (omega arith) in
         let z₄ = word 4 (omega arith) in
         let head : cell_word w' x 0 ≡ suc n = binds.new_head in
         one_choice {cells = choice_word g.stack w h 4 + k} {records = choice_word g.stack w h 3} {cs = cs}
-        (choice-same at-h w' binds.same_length word cells_same (λ i from l. above i from) d question left done input (rw head untried-are))
+        (choice_same at-h w' binds.same_length word cells_same (λ i from l. above i from) d question left done input (rw head untried_are))
         (rw z₄ (omega arith))
         (rw z₃ (omega arith))
         (rw (z₄, z₃) (choices_kept (reopened g.stack w' h) rest kept))
@@ -205,13 +205,13 @@ module _
     }
 
     pub path_stays : Path g w' cells done binds r e s
-    path_stays = path-kept path only.same_length (step_kept 0).cells_kept (records_same only)
+    path_stays = path_kept path only.same_length (step_kept 0).cells_kept (records_same only)
 
     -- the path goes on
-    pub path-goes :
+    pub path_goes :
         {r' : Registers} {s' : State} → Follows g.file g.types g.functions w' g.base r.records r' s' → next g.program e s ≡ goes s'
         → Path g w' cells (suc done) binds r' e s'
-    path-goes follows on = record {
+    path_goes follows on = record {
       stands =
           stands_after path.stands only follows on
           (steps_sound g.file g.program given.checked e path.typed (one_more path.steps on))

@@ -65,7 +65,7 @@ pub record ChoiceAt (g : Setting) (w : List ℕ) (h : ℕ) (c : Choice) : Type 0
   pub no_higher : h ≤ choice_word g.stack w h 5
   pub left_is : c.left ≡ g.limit - suc (choice_word g.stack w h 5)
   pub done_is : c.done ≡ suc (choice_word g.stack w h 5)
-  pub untried-are :
+  pub untried_are :
       c.untried
       ≡ untried g.program.types (least_depths g.program.types) (cell_word w (choice_word g.stack w h 0) 2) (cell_word w (choice_word g.stack w h 0) 3)
       (cell_word w (choice_word g.stack w h 0) 0)

@@ -25,7 +25,7 @@ pub record NextAt (g : Setting) (w : List ℕ) (c : Choice) (h n i k : ℕ) : Ty
   pub choice_at : ChoiceAt g w h c
   pub rest : List Fork
   pub untried_is : c.untried ≡ record { constructor = n; fields = k } ∷ rest
-  pub rest-is :
+  pub rest_is :
       rest ≡ untried g.program.types (least_depths g.program.types) (cell_word w (choice_word g.stack w h 0) 2) (cell_word w (choice_word g.stack w h 0) 3) (suc n)
   pub known : field_types g.program.types (cell_word w (choice_word g.stack w h 0) 2) n ≡ some (bytes_at g.file i k)
   pub deep : 1 ≤ cell_word w (choice_word g.stack w h 0) 3

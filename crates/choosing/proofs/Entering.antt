@@ -11,7 +11,7 @@ use Rattle.registers.specs.declared.Registers.{Registers}
 use Rattle.registers.specs.declared.Next.TheVariants as Next
 use Rattle.registers.specs.Stepping.{Stepped, Chose}
 use Rattle.choosing.specs.Entering.{AtBoundPart}
-use Rattle.choosing.proofs.Inspecting.{part_chooses, part-goes}
+use Rattle.choosing.proofs.Inspecting.{part_chooses, part_goes}
 
 module _
     (file types functions w : List ℕ) (base cell : ℕ) (r : Registers) (c k first : ℕ) (bound : AtBoundPart file types functions w base cell r c k first)
@@ -25,6 +25,6 @@ module _
         → Stepped file types functions w w' base label r (Next.Goes r')
     entered {w'} {r'} chose =
         let same : suc c - 1 ≡ c = omega arith in
-        part-goes file types functions w base cell r bound.is_part {head = suc c} bound.case_waits (sym bound.head_is) (λ none. absurd (omega arith))
+        part_goes file types functions w base cell r bound.is_part {head = suc c} bound.case_waits (sym bound.head_is) (λ none. absurd (omega arith))
         (sym bound.first_is) refl (subst (λ (d : ℕ). FieldCount file types (cell_word w cell 2) d k) (sym same) bound.fields)
         (subst (λ (d : ℕ). Chose file types functions w w' base r d k first 0 r') (sym same) chose)

@@ -12,7 +12,7 @@ use Rattle.reach.specs.States.{PartHas, Chooses, Sound}
 use Rattle.reach.proofs.Order.{field_there}
 use Rattle.machine.specs.Cells.{cell_of, cell_word}
 use Rattle.machine.specs.Records.{record_word, no_case, part_in, EnvAt, Wrote}
-use Rattle.machine.proofs.Cells.{walk_field, head_open, head-constructor}
+use Rattle.machine.proofs.Cells.{walk_field, head_open, head_constructor}
 use Rattle.machine.proofs.Records.{count_word, parts_added}
 use Rattle.registers.specs.declared.Registers.{Registers}
 use Rattle.registers.specs.declared.Next.TheVariants as Next
@@ -21,7 +21,7 @@ use Rattle.registers.specs.Stepping.{declarations_of, control_in, StandsFor, Sta
 use Rattle.machine.proofs.Words.{records_same, nothing_written}
 use Rattle.registers.proofs.Words.{cells_same}
 use Rattle.registers.proofs.Kept.{inspected}
-use Rattle.choosing.proofs.Choosing.{Pending, pending, pending-there, chose-only, counted, chosen}
+use Rattle.choosing.proofs.Choosing.{Pending, pending, pending_there, chose_only, counted, chosen}
 
 -- What comes next at a part of the input that a case looks at: by what stands there.
 
@@ -32,11 +32,11 @@ module _ (p : Program) (e : Parts) (q : Place) (alts : Alternatives) (outer : En
   unfolding next answer view look
   open_next is = rw is
 
-  bound-next :
+  bound_next :
       (c k : ℕ) → at e q ≡ has c k
       → next p e (Eval.inspecting q (waiting alts outer ∷ rest)) ≡ Eval.goes (choose alts c (input_parts outer (fields_of q) k) rest)
   unfolding next answer view look answered
-  bound-next c k is = rw is
+  bound_next c k is = rw is
 
 module _ (file types functions w : List ℕ) (base cell : ℕ) (r : Registers) (is_part : control_in r ≡ part_in cell) where
   pub part_small : Standing file types functions w base r → cell ≤ 1000000
@@ -73,7 +73,7 @@ module _ (file types functions w : List ℕ) (base cell : ℕ) (r : Registers) (
           pending {r = r} (λ fs'. Sound p e (Eval.inspecting q fs') → G (Eval.inspecting q fs')) case_waits frames frames_in
           (λ alts outer rest here met.
           let z : head ≡ suc (head - 1) = omega arith in
-          let bound = head-constructor stands.input q there (head - 1) (ap (λ (x : ℕ). cell_word w x 0) is ∙ (sym is-head ∙ z)) in
+          let bound = head_constructor stands.input q there (head - 1) (ap (λ (x : ℕ). cell_word w x 0) is ∙ (sym is-head ∙ z)) in
           show q alts outer rest bound.0 met.0 is there bound.1 here met.1 (met.3 (head - 1) bound.0 bound.1)) sound)
 
       pub part_chooses : Standing file types functions w base r → record_word w base r.frame 2 < r.records
@@ -95,13 +95,13 @@ module _ (file types functions w : List ℕ) (base cell : ℕ) (r : Registers) (
           wrote.holds (omega (arith, case_waits, here.env_before, stands.space.frame_below.0)) many here.env_at here.env_in
           (λ j below. same.0 (part_of (fields_of q) j) (field_there e q (head - 1) k j bound below) ∙ (walk_field w q j ∙ ap (λ (x : ℕ). cell_word w x 1 + j) is))
 
-      pub part-goes :
+      pub part_goes :
           {w' : List ℕ} {t' first k : ℕ} {r' : Registers} → first ≡ cell_word w cell 1 → t' ≡ cell_word w cell 2
           → FieldCount file types t' (head - 1) k
           → Chose file types functions w w' base r (head - 1) k first 0 r' → (label : ℕ) → Stepped file types functions w w' base label r (Next.Goes r')
       unfolding size
-      part-goes {w'} {t'} {first} {k} {r'} is-first is-t fields chose label = record {
-        only_top = chose-only chose;
+      part_goes {w'} {t'} {first} {k} {r'} is-first is-t fields chose label = record {
+        only_top = chose_only chose;
         steps = λ p sought cells e s file_of stands.
             bound_there p cells e s (λ s'. StepMeans file types functions w w' base r p e s' (Next.Goes r')) stands
             (λ q alts outer rest m t is there bound here has-type chooses.
@@ -109,10 +109,10 @@ module _ (file types functions w : List ℕ) (base cell : ℕ) (r : Registers) (
             let size_is = counted file_of fields (is-t ∙ (ap (λ (x : ℕ). cell_word w x 2) (sym is) ∙ type_is)) refl chooses in
             let many = count_word file (declarations_of file types functions) w base (cell_of w) stands.zeros here.env_at in (
               choose alts (head - 1) (input_parts outer (fields_of q) m) rest,
-              bound-next p e q alts outer rest (head - 1) m bound,
+              bound_next p e q alts outer rest (head - 1) m bound,
               chosen stands here fields.1
                   (λ wrote. fields_there p cells e s w' stands q alts outer rest m _ is bound here (omega (arith, many, size_is))
                   (subst (λ (x : ℕ). Wrote w w' base r.records (record_word w base r.frame 2) (record_word w base (record_word w base r.frame 2) 1 + k) x 0) is-first wrote))
-                  (pending-there here chooses) chose,
+                  (pending_there here chooses) chose,
             ));
       }

@@ -28,8 +28,8 @@ use Rattle.results.specs.declared.CheckResult.TheVariants as CheckResult
 use Rattle.rulefile.specs.declared.Loaded.{Loaded}
 use Rattle.rulefile.specs.Loading.{type_places, function_places, Tabled, Loads}
 use Rattle.rulefile.proofs.Tabled.{program_goal}
-use Rattle.machine.proofs.Cells.{kept-cells}
-use Rattle.loaded.proofs.Files.{given-file}
+use Rattle.machine.proofs.Cells.{kept_cells}
+use Rattle.loaded.proofs.Files.{given_file}
 use Rattle.loaded.proofs.Loaded.{loaded_accepted}
 use Rattle.running.specs.Looked.{LookedAt}
 use Rattle.binding.specs.Underway.{GivenInput}
@@ -56,7 +56,7 @@ module _ {file : List ℕ} {r : Loaded} {p : Program} (checked : check file ≡ 
   input_is : (input : List ℕ) → input_there input ≡ read_input p input
   unfolding read_input source_slots
   input_is input =
-      let given = given-file checked t in
+      let given = given_file checked t in
       rw ((program_goal t).source_is, (program_goal t).depths_are, ← given.file_of.types_there, ← given.parameters_there)
 
   -- an input that does not fit
@@ -70,7 +70,7 @@ module _ {file : List ℕ} {r : Loaded} {p : Program} (checked : check file ≡ 
 
     pub given_of : GivenInput file (type_places r) (function_places r) input p j
     unfolding input_of
-    given_of = record { of_file = given-file checked t; reads = rw read refl }
+    given_of = record { of_file = given_file checked t; reads = rw read refl }
 
     -- no value is deeper than 64
     pub deep_small : deep ≤ 64
@@ -86,11 +86,11 @@ module _ {file : List ℕ} {r : Loaded} {p : Program} (checked : check file ≡ 
         rw (checked, read, lt-leb _ _ z)
 
     -- the run
-    pub answer-ran :
+    pub answer_ran :
         (work : ℕ) (o : Outcome) → work_words r.goal.steps ≤ work → o ≡ outcome_of (Eval.run p j)
         → RunResult.Ran o deep ≡ run_result (run_answer file input work)
     unfolding run_answer run_checked run_input
-    answer-ran work o enough is =
+    answer_ran work o enough is =
         let z : work_words p.steps ≤ work = omega (arith, (program_goal t).steps_is) in
         rw (checked, read, le-leb _ _ z, is)
 
@@ -134,7 +134,7 @@ module _ (file : List ℕ) (r : Loaded) (loads : Loads file r) (is : r.answer �
       module _ {v : List ℕ} {o : Outcome} (runs : RunsAs file (type_places r) (function_places r) input r.goal v o) where
         pub run_ran : (work : ℕ) → words ≤ work → RunResult.Ran o deep ≡ run_result (run_answer file input work)
         run_ran work enough =
-            answer-ran here.1 here.2 input fits.1 work o (omega arith)
+            answer_ran here.1 here.2 input fits.1 work o (omega arith)
             (runs here.0 fits.0 (given_of here.1 here.2 input fits.1) (program_goal here.2)).0
 
         -- what the words that were lent on stand for, they stand for with those behind them
@@ -145,7 +145,7 @@ module _ (file : List ℕ) (r : Loaded) (loads : Loads file r) (is : r.answer �
             let looked = (runs here.0 fits.0 given (program_goal here.2)).1 in
             let stand = looked.stands in
             let two : fits.0 ≡ j = cc given.reads in
-            let longer = (kept-cells (v ++ behind) stand (omega (arith, stand.fits, length-append v behind)) (λ i l. get_or-append v behind 0 i (omega (arith, stand.fits)))).1 in
+            let longer = (kept_cells (v ++ behind) stand (omega (arith, stand.fits, length-append v behind)) (λ i l. get_or-append v behind 0 i (omega (arith, stand.fits)))).1 in
             subst (λ q. LookedAt q j q.steps (v ++ behind)) one
             (subst (λ k. LookedAt here.0 k here.0.steps (v ++ behind)) two
             (record { cells = looked.cells; input = looked.input; stands = longer; below = looked.below; enough = looked.enough }))

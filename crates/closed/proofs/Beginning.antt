@@ -24,9 +24,9 @@ use Rattle.machine.specs.Layout.{records_at}
 use Rattle.machine.specs.Cells.{Cells, Unmoved}
 use Rattle.machine.proofs.Records.{Same}
 use Rattle.values.specs.Notes.{Noted, FollowsInput}
-use Rattle.values.proofs.Binding.{noted_unmoved, start-follows}
+use Rattle.values.proofs.Binding.{noted_unmoved, start_follows}
 use Rattle.registers.specs.declared.Registers.{Registers}
-use Rattle.registers.proofs.Standing.{stands-below}
+use Rattle.registers.proofs.Standing.{stands_below}
 use Rattle.loaded.specs.Beginning.{Opened, start_registers}
 use Rattle.loaded.proofs.Beginning as Begin
 use Rattle.running.specs.Looked.{LookedAt}
@@ -36,19 +36,19 @@ module _
     {file types functions input : List ℕ} {goal : Goal} {p : Program} {j : Parts} (given : GivenInput file types functions input p j) (asks : Asks goal p)
   where
     module _ (head : Head) (head_read : head_of file head ≡ head_at file (get_or functions goal.source 0)) where
-      begins-there :
+      begins_there :
           {w v w' : List ℕ} {base : ℕ} → base ≡ records_at goal.steps → length w ≡ work_words p.steps
           → Opened file w v base head.parameters head.count goal.depths
           → Noted file types input v w' 0 (bytes_at file head.parameters head.count) 0
           → Underway file types functions input goal.label goal.steps w' base head.count 0 (start_registers head.body) p j (start p)
-      begins-there {w} {v} {w'} {base} base_is long opened noted =
+      begins_there {w} {v} {w'} {base} base_is long opened noted =
           let of_file = given.of_file in
           let few = Begin.parameters_few of_file asks head head_read in
-          let stands = Begin.opened-stands of_file asks head head_read w base_is long opened in
+          let stands = Begin.opened_stands of_file asks head head_read w base_is long opened in
           let cells : Cells (map (type_at file) types) (source_slots p) v head.count (all_open head.count) =
           subst (λ ts. Cells ts (source_slots p) v head.count (all_open head.count)) of_file.file_of.types_there stands.input in
           let follows : FollowsInput (map (type_at file) types) (source_slots p) w' head.count (all_open head.count) j =
-          start-follows file types of_file.checked of_file.file_of.types_there input given.reads (Begin.source_parameters of_file asks head head_read)
+          start_follows file types of_file.checked of_file.file_of.types_there input given.reads (Begin.source_parameters of_file asks head head_read)
           (bytes_length file head.parameters head.count) cells noted in
           let unmoved : Unmoved v w' (all_open head.count) = noted_unmoved cells noted (λ r c k h. absurd (open_unbound head.count r h)) in
           let same : Same v w' base 2 =
@@ -60,7 +60,7 @@ module _
             running = record {
               input = all_open head.count;
               stands =
-                  stands-below stands
+                  stands_below stands
                   (subst (λ ts. Cells ts (source_slots p) w' head.count (all_open head.count)) (sym of_file.file_of.types_there) follows.cells)
                   unmoved stands.apart noted.same_length same stands.there stands.sound;
               follows = follows;
@@ -79,7 +79,7 @@ module _
           → Underway file types functions input goal.label goal.steps w' base head.count 0 from p j (start p)
       begins {w' = w'} {base} base_is long from_is opened noted =
           subst (λ r. Underway file types functions input goal.label goal.steps w' base head.count 0 r p j (start p)) (sym from_is)
-          (begins-there base_is long opened noted)
+          (begins_there base_is long opened noted)
 
     -- the whole run is the one from there
     pub whole_run_law : {o : Outcome} → o ≡ outcome_of (eval p j goal.steps 0 (start p)) → o ≡ outcome_of (run p j)

@@ -238,12 +238,12 @@ module _ (file input work work' : List ℕ) (r : RunResult) (call : RunPromise f
       ⊎ ((why ≡ WorkTooShort) × ((p : Program) × (check file ≡ accepted p) × ((j : Parts) × IsInput p input j × (length work < work_words p.steps))))))
   refused_exactly why = (λ is. from (check file) refl is, ⊎_elim (λ h. refused_file why h.1) (⊎_elim bad short))
     where
-      by-means :
+      by_means :
           (p : Program) → check file ≡ accepted p → (a : RunAnswer) → RunMeans p input (length work) a → run_result a ≡ RunResult.Refused why
           → (why ≡ BadInput) ⊎ (why ≡ WorkTooShort)
-      by-means p checked (no_run by) (inl (same-as, unread)) is = let same : by ≡ why = cc in inl (sym same ∙ same-as)
-      by-means p checked (no_run by) (inr (same-as, rest)) is = let same : by ≡ why = cc in inr (sym same ∙ same-as)
-      by-means p checked (ran o deep) m is = absurd (clash (cc))
+      by_means p checked (no_run by) (inl (same-as, unread)) is = let same : by ≡ why = cc in inl (sym same ∙ same-as)
+      by_means p checked (no_run by) (inr (same-as, rest)) is = let same : by ≡ why = cc in inr (sym same ∙ same-as)
+      by_means p checked (ran o deep) m is = absurd (clash (cc))
 
       from : (c : Checked) → check file ≡ c → r ≡ RunResult.Refused why → Refusable why
       from (turned_back by) checked is =
@@ -253,7 +253,7 @@ module _ (file input work work' : List ℕ) (r : RunResult) (call : RunPromise f
       from (accepted p) checked is =
           inr (⊎_elim (λ same-as. inl (same-as, (p, checked, (bad_exactly p checked).0 (is ∙ ap RunResult.Refused same-as))))
           (λ same-as. inr (same-as, (p, checked, (short_exactly p checked).0 (is ∙ ap RunResult.Refused same-as))))
-          (by-means p checked (run_answer file input (length work)) (run_means file input (length work) p checked) (sym call.answer_is ∙ is)))
+          (by_means p checked (run_answer file input (length work)) (run_means file input (length work) p checked) (sym call.answer_is ∙ is)))
 
       bad : (why ≡ BadInput) × ((p : Program) × (check file ≡ accepted p) × ((j : Parts) → ¬ IsInput p input j)) → r ≡ RunResult.Refused why
       bad (same-as, (p, checked, never)) = (bad_exactly p checked).1 never ∙ ap RunResult.Refused (sym same-as)

@@ -24,7 +24,7 @@ use Rattle.reach.specs.Answers.{accepted, turned_back, check}
 use Rattle.reach.specs.Encoding.{encode, encode_all, encode_alternatives, ByteAt, BytesAt, Stands, StandsAll, StandsAlternatives, count_alternatives, Arity, ArityAll, ArityAlternatives, nesting, nesting_all, nesting_alternatives, Skip, skipped_all, skipped_alternatives, skipped_call, skipped_construct, skipped_case, skipped_by, skipped}
 use Rattle.reach.proofs.Base.{clash}
 use Rattle.reach.proofs.InTurn.{in_turn_law}
-use Rattle.reach.proofs.Limits.{IfFound, if-found-then}
+use Rattle.reach.proofs.Limits.{IfFound, if_found_then}
 use Rattle.reach.proofs.Reading.{Reads, reads_none, reads_then, byte_finds}
 use Rattle.reach.proofs.Heads.{any_then}
 
@@ -80,30 +80,30 @@ module _ (s : List ℕ) (i : ℕ) where
   unfolding encode
   stands_call f es there = first_two s i 1 f (encode_all es) there
 
-  pub stands-construct :
+  pub stands_construct :
       (t c : ℕ) (es : Exprs) → Stands s i (construct t c es)
       → ByteAt s i 2 × ByteAt s (i + 1) t × ByteAt s (i + 2) c × StandsAll s (i + 3) es
   unfolding encode
-  stands-construct t c es there =
+  stands_construct t c es there =
       let at = first_two s i 2 t (c ∷ encode_all es) there in
       let behind = first_byte s (i + 2) c (encode_all es) at.2 in
       let z : i + 3 ≡ i + 2 + 1 = omega arith in
       (at.0, at.1, behind.0, rw z behind.1)
 
-  pub stands-case :
+  pub stands_case :
       (t : ℕ) (e : Expr) (alts : Alternatives) → Stands s i (case t e alts)
       → ByteAt s i 3 × ByteAt s (i + 1) t × Stands s (i + 2) e × StandsAlternatives s (i + 2 + length (encode e)) alts
   unfolding encode
-  stands-case t e alts there =
+  stands_case t e alts there =
       let at = first_two s i 3 t (encode e ++ encode_alternatives alts) there in
       let parts = split s (i + 2) (encode e) (encode_alternatives alts) at.2 in
       (at.0, at.1, parts.0, parts.1)
 
-  pub stands-let :
+  pub stands_let :
       (t : ℕ) (e b : Expr) → Stands s i (let_in t e b)
       → ByteAt s i 4 × ByteAt s (i + 1) t × Stands s (i + 2) e × Stands s (i + 2 + length (encode e)) b
   unfolding encode
-  stands-let t e b there =
+  stands_let t e b there =
       let at = first_two s i 4 t (encode e ++ encode b) there in
       let parts = split s (i + 2) (encode e) (encode b) at.2 in
       (at.0, at.1, parts.0, parts.1)
@@ -120,11 +120,11 @@ module _ (s : List ℕ) (i : ℕ) where
   unfolding encode
   stands_absent alts there = first_byte s i 0 (encode_alternatives alts) there
 
-  pub stands-present :
+  pub stands_present :
       (e : Expr) (alts : Alternatives) → StandsAlternatives s i (present e alts)
       → ByteAt s i 1 × Stands s (i + 1) e × StandsAlternatives s (i + 1 + length (encode e)) alts
   unfolding encode
-  stands-present e alts there =
+  stands_present e alts there =
       let at = first_byte s i 1 (encode e ++ encode_alternatives alts) there in
       let parts = split s (i + 1) (encode e) (encode_alternatives alts) at.1 in
       (at.0, parts.0, parts.1)
@@ -135,18 +135,18 @@ reads_as : {s : List ℕ} {i k b c : ℕ} → Reads s i (b ∷ []) k → b ≡ c
 reads_as {s} {i} {k} first is = subst (λ (b : ℕ). Reads s i (b ∷ []) k) is first
 
 -- what is found after a test that was demanded
-demand-then :
+demand_then :
     {B : Type 0} (Q : B → ℕ → Type 0) (f : ℕ → Got B) (test : Bool) (why : Refusal) (i : ℕ) → (test ≡ true → IfFound Q (f i))
     → IfFound Q (on_got (λ (u : Unit {0}) next. f next) (λ why. refused why) (pick test (got tt i) (refused why)))
-demand-then Q f true why i passed = passed refl
-demand-then Q f false why i passed = tt
+demand_then Q f true why i passed = passed refl
+demand_then Q f false why i passed = tt
 
 -- what is found after a choice
-pick-finds :
+pick_finds :
     {A : Type 0} (P : A → ℕ → Type 0) (test : Bool) (a b : Reader A) (s : List ℕ) (i : ℕ)
     → (test ≡ true → IfFound P (a s i)) → (test ≡ false → IfFound P (b s i)) → IfFound P (pick test a b s i)
-pick-finds P true a b s i passed failed = passed refl
-pick-finds P false a b s i passed failed = failed refl
+pick_finds P true a b s i passed failed = passed refl
+pick_finds P false a b s i passed failed = failed refl
 
 module _ (d : Declarations) (n : ℕ) (s : List ℕ) where
   -- an expression with these declarations that stands from i up to next and nests at most n deep; and so for operands and alternatives
@@ -169,21 +169,21 @@ module _ (d : Declarations) (n : ℕ) (s : List ℕ) (sub : Below) (below : Find
   unfolding operands_of encode nesting count
   operands_find [] i = (reads_none, tt, zero-le, refl)
   operands_find (t ∷ ts) i =
-      if-found-then _ _ _ (sub view t s i) (below view t i)
-      (λ e k first. if-found-then _ _ _ (operands_of sub view ts s k) (operands_find ts k)
+      if_found_then _ _ _ (sub view t s i) (below view t i)
+      (λ e k first. if_found_then _ _ _ (operands_of sub view ts s k) (operands_find ts k)
       (λ es l others. (reads_then _ _ first.0 others.0, (first.1, others.1), omega arith, ap suc others.3)))
 
   alternatives_find : (t : ℕ) (cs : List (List ℕ)) (i : ℕ) → IfFound (FoundAlternatives d n s (length cs) i) (alternatives sub view t cs s i)
   unfolding alternatives encode nesting count_alternatives
   alternatives_find t [] i = (reads_none, tt, zero-le, refl)
   alternatives_find t (us ∷ cs) i =
-      if-found-then _ _ _ (byte s i) (byte_finds s i)
-      (λ b k first. demand-then _ _ (leb b 1) _ k
-      (λ small. pick-finds _ (eqb b 0) _ _ s k
-      (λ is. if-found-then _ _ _ (alternatives sub view t cs s k) (alternatives_find t cs k)
+      if_found_then _ _ _ (byte s i) (byte_finds s i)
+      (λ b k first. demand_then _ _ (leb b 1) _ k
+      (λ small. pick_finds _ (eqb b 0) _ _ s k
+      (λ is. if_found_then _ _ _ (alternatives sub view t cs s k) (alternatives_find t cs k)
       (λ alts l others. (reads_then _ _ (reads_as first (eqb-true b 0 is)) others.0, others.1, others.2, ap suc others.3)))
-      (λ not. if-found-then _ _ _ (sub (view ++ us) t s k) (below (view ++ us) t k)
-      (λ e l second. if-found-then _ _ _ (alternatives sub view t cs s l) (alternatives_find t cs l)
+      (λ not. if_found_then _ _ _ (sub (view ++ us) t s k) (below (view ++ us) t k)
+      (λ e l second. if_found_then _ _ _ (alternatives sub view t cs s l) (alternatives_find t cs l)
       (λ alts j others. (
         reads_then _ _ (reads_as first (omega (arith, eqb-false b 0 not, leb-true b 1 small))) (reads_then _ _ second.0 others.0),
         (second.1, others.1),
@@ -201,57 +201,57 @@ module _
     (d : Declarations) (nested : Bool) (n m : ℕ) (deeper : nested ≡ true → n < m) (s : List ℕ) (sub : Below) (below : FindsExprs d n s sub) (view : List ℕ) (t i : ℕ)
   where
     -- what is found where the expression's own nesting and view are within their limits
-    limits-then :
+    limits_then :
         (f : ℕ → Got Expr) (why : Refusal) (l : ℕ) → (n < m → IfFound (Found d m s i) (f l))
         → IfFound (Found d m s i) (on_got (λ (u : Unit {0}) next. f next) (λ why. refused why) (pick (nested && leb (length view) view_limit) (got tt l) (refused why)))
-    limits-then f why l then = demand-then _ f (nested && leb (length view) view_limit) why l (λ b. then (deeper (both_true nested _ b)))
+    limits_then f why l then = demand_then _ f (nested && leb (length view) view_limit) why l (λ b. then (deeper (both_true nested _ b)))
 
     variable_finds : (k : ℕ) → Reads s i (0 ∷ []) k → IfFound (Found d m s i) (variable_expr d nested sub view t s k)
     unfolding variable_expr encode nesting
     variable_finds k code =
-        if-found-then _ _ _ (byte s k) (byte_finds s k)
-        (λ v l number. demand-then _ _ (ltb v (length view)) _ l
-        (λ known. limits-then _ _ l
-        (λ room. demand-then _ _ (eqb (get_or view v 0) t) _ l
+        if_found_then _ _ _ (byte s k) (byte_finds s k)
+        (λ v l number. demand_then _ _ (ltb v (length view)) _ l
+        (λ known. limits_then _ _ l
+        (λ room. demand_then _ _ (eqb (get_or view v 0) t) _ l
         (λ typed. (reads_then _ _ code number, tt, omega arith)))))
 
     call_finds : (k : ℕ) → Reads s i (1 ∷ []) k → IfFound (Found d m s i) (call_expr d nested sub view t s k)
     unfolding call_expr call_of encode nesting
-    call_finds k code = if-found-then _ _ _ (byte s k) (byte_finds s k) (λ f l number. go f l number (get_elem? d.heads f) refl)
+    call_finds k code = if_found_then _ _ _ (byte s k) (byte_finds s k) (λ f l number. go f l number (get_elem? d.heads f) refl)
       where
         go : (f l : ℕ) → Reads s k (f ∷ []) l → (x : Option Head) → get_elem? d.heads f ≡ x → IfFound (Found d m s i) (call_of d nested sub view t f x s l)
         go f l number none is = tt
         go f l number (some h) is =
-            limits-then _ _ l
-            (λ room. demand-then _ _ (eqb h.result t) _ l
-            (λ typed. if-found-then _ _ _ (operands_of sub view h.parameters s l) (operands_find d n s sub below view h.parameters l)
+            limits_then _ _ l
+            (λ room. demand_then _ _ (eqb h.result t) _ l
+            (λ typed. if_found_then _ _ _ (operands_of sub view h.parameters s l) (operands_find d n s sub below view h.parameters l)
             (λ es j others. (reads_then _ _ code (reads_then _ _ number others.0), (h, is, others.3, others.1), omega arith))))
 
     construct_finds : (k : ℕ) → Reads s i (2 ∷ []) k → IfFound (Found d m s i) (construct_expr d nested sub view t s k)
     unfolding construct_expr construct_of encode nesting
     construct_finds k code =
-        if-found-then _ _ _ (byte s k) (byte_finds s k)
-        (λ u l type. if-found-then _ _ _ (byte s l) (byte_finds s l)
+        if_found_then _ _ _ (byte s k) (byte_finds s k)
+        (λ u l type. if_found_then _ _ _ (byte s l) (byte_finds s l)
         (λ c j number. go u c j (reads_then _ _ type number) (field_types d.types u c) refl))
       where
         go : (u c j : ℕ) → Reads s k (u ∷ c ∷ []) j → (x : Option (List ℕ)) → field_types d.types u c ≡ x → IfFound (Found d m s i) (construct_of d nested sub view t u c x s j)
         go u c j numbers none is = tt
         go u c j numbers (some us) is =
-            limits-then _ _ j
-            (λ room. demand-then _ _ (eqb u t) _ j
-            (λ typed. if-found-then _ _ _ (operands_of sub view us s j) (operands_find d n s sub below view us j)
+            limits_then _ _ j
+            (λ room. demand_then _ _ (eqb u t) _ j
+            (λ typed. if_found_then _ _ _ (operands_of sub view us s j) (operands_find d n s sub below view us j)
             (λ es h others. (reads_then _ _ code (reads_then _ _ numbers others.0), (us, is, others.3, others.1), omega arith))))
 
     case_finds : (k : ℕ) → Reads s i (3 ∷ []) k → IfFound (Found d m s i) (case_expr d nested sub view t s k)
     unfolding case_expr case_of encode nesting
-    case_finds k code = if-found-then _ _ _ (byte s k) (byte_finds s k) (λ u l number. go u l number (get_elem? d.types u) refl)
+    case_finds k code = if_found_then _ _ _ (byte s k) (byte_finds s k) (λ u l number. go u l number (get_elem? d.types u) refl)
       where
         go : (u l : ℕ) → Reads s k (u ∷ []) l → (x : Option (List (List ℕ))) → get_elem? d.types u ≡ x → IfFound (Found d m s i) (case_of d nested sub view t u x s l)
         go u l number none is = tt
         go u l number (some cs) is =
-            limits-then _ _ l
-            (λ room. if-found-then _ _ _ (sub view u s l) (below view u l)
-            (λ e j first. if-found-then _ _ _ (alternatives sub view t cs s j) (alternatives_find d n s sub below view t cs j)
+            limits_then _ _ l
+            (λ room. if_found_then _ _ _ (sub view u s l) (below view u l)
+            (λ e j first. if_found_then _ _ _ (alternatives sub view t cs s j) (alternatives_find d n s sub below view t cs j)
             (λ alts h others. (
               reads_then _ _ code (reads_then _ _ number (reads_then _ _ first.0 others.0)),
               (cs, is, others.3, first.1, others.1),
@@ -261,11 +261,11 @@ module _
     let_finds : (k : ℕ) → Reads s i (4 ∷ []) k → IfFound (Found d m s i) (let_expr d nested sub view t s k)
     unfolding let_expr encode nesting
     let_finds k code =
-        if-found-then _ _ _ (byte s k) (byte_finds s k)
-        (λ u l number. demand-then _ _ (ltb u (length d.types)) _ l
-        (λ known. limits-then _ _ l
-        (λ room. if-found-then _ _ _ (sub view u s l) (below view u l)
-        (λ e j first. if-found-then _ _ _ (sub (view ++ (u ∷ [])) t s j) (below (view ++ (u ∷ [])) t j)
+        if_found_then _ _ _ (byte s k) (byte_finds s k)
+        (λ u l number. demand_then _ _ (ltb u (length d.types)) _ l
+        (λ known. limits_then _ _ l
+        (λ room. if_found_then _ _ _ (sub view u s l) (below view u l)
+        (λ e j first. if_found_then _ _ _ (sub (view ++ (u ∷ [])) t s j) (below (view ++ (u ∷ [])) t j)
         (λ b h second. (
           reads_then _ _ code (reads_then _ _ number (reads_then _ _ first.0 second.0)),
           (ltb-true u (length d.types) known, first.1, second.1),
@@ -275,21 +275,21 @@ module _
     target_finds : (k : ℕ) → Reads s i (5 ∷ []) k → IfFound (Found d m s i) (target_expr d nested sub view t s k)
     unfolding target_expr encode nesting
     target_finds k code =
-        if-found-then _ _ _ (byte s k) (byte_finds s k)
-        (λ l j number. limits-then _ _ j
-        (λ room. if-found-then _ _ _ (sub view t s j) (below view t j)
+        if_found_then _ _ _ (byte s k) (byte_finds s k)
+        (λ l j number. limits_then _ _ j
+        (λ room. if_found_then _ _ _ (sub view t s j) (below view t j)
         (λ e h inner. (reads_then _ _ code (reads_then _ _ number inner.0), inner.1, omega arith))))
 
     expression_by_finds : IfFound (Found d m s i) (expression_by d nested sub view t s i)
     unfolding expression_by
     expression_by_finds =
-        if-found-then _ _ _ (byte s i) (byte_finds s i)
-        (λ code k first. demand-then _ _ (leb code 5) _ k
-        (λ small. pick-finds _ (eqb code 0) _ _ s k (λ is. variable_finds k (reads_as first (eqb-true code 0 is)))
-        (λ not0. pick-finds _ (eqb code 1) _ _ s k (λ is. call_finds k (reads_as first (eqb-true code 1 is)))
-        (λ not1. pick-finds _ (eqb code 2) _ _ s k (λ is. construct_finds k (reads_as first (eqb-true code 2 is)))
-        (λ not2. pick-finds _ (eqb code 3) _ _ s k (λ is. case_finds k (reads_as first (eqb-true code 3 is)))
-        (λ not3. pick-finds _ (eqb code 4) _ _ s k (λ is. let_finds k (reads_as first (eqb-true code 4 is)))
+        if_found_then _ _ _ (byte s i) (byte_finds s i)
+        (λ code k first. demand_then _ _ (leb code 5) _ k
+        (λ small. pick_finds _ (eqb code 0) _ _ s k (λ is. variable_finds k (reads_as first (eqb-true code 0 is)))
+        (λ not0. pick_finds _ (eqb code 1) _ _ s k (λ is. call_finds k (reads_as first (eqb-true code 1 is)))
+        (λ not1. pick_finds _ (eqb code 2) _ _ s k (λ is. construct_finds k (reads_as first (eqb-true code 2 is)))
+        (λ not2. pick_finds _ (eqb code 3) _ _ s k (λ is. case_finds k (reads_as first (eqb-true code 3 is)))
+        (λ not3. pick_finds _ (eqb code 4) _ _ s k (λ is. let_finds k (reads_as first (eqb-true code 4 is)))
         (λ not4. target_finds k (reads_as first
         (omega (arith, leb-true code 5 small, eqb-false code 0 not0, eqb-false code 1 not1, eqb-false code 2 not2, eqb-false code 3 not3, eqb-false code 4 not4))))))))))
 
@@ -345,7 +345,7 @@ module _ (s : List ℕ) where
       (λ ps k. any_then _ _ (byte s k)
       (λ r l. any_then _ _ (word s l)
       (λ z p. any_then _ _ (demand (leb 1 z && leb z body_limit) OutOfRange s p)
-      (λ u q. if-found-then _ _ _ (passed z s q) (passed_inside z q) (λ b next h. h))))))
+      (λ u q. if_found_then _ _ _ (passed z s q) (passed_inside z q) (λ b next h. h))))))
 
   heads_inside : (n i : ℕ) → IfFound (λ hs next. Each BodyInside hs) (more_functions n s i)
   unfolding more_functions
@@ -353,8 +353,8 @@ module _ (s : List ℕ) where
   heads_inside (suc n) i =
       any_then _ _ (mark s i)
       (λ m k. turn_finds _ s k _ m (
-        if-found-then _ _ _ (function_record s k) (head_inside k)
-            (λ h l first. if-found-then _ _ _ (more_functions n s l) (heads_inside n l) (λ hs next others. (first, others))),
+        if_found_then _ _ _ (function_record s k) (head_inside k)
+            (λ h l first. if_found_then _ _ _ (more_functions n s l) (heads_inside n l) (λ hs next others. (first, others))),
         (tt, (tt, tt)),
       ))
 
@@ -364,8 +364,8 @@ module _ (s : List ℕ) where
       any_then _ _ (mark s i)
       (λ m j. any_then _ _ (in_turn ((TY, type_record) ∷ []) m s j)
       (λ t k. any_then _ _ (more_types (pred type_limit) s k)
-      (λ ts l. if-found-then _ _ _ (function_record s l) (head_inside l)
-      (λ h p first. if-found-then _ _ _ (more_functions (pred function_limit) s p) (heads_inside (pred function_limit) p)
+      (λ ts l. if_found_then _ _ _ (function_record s l) (head_inside l)
+      (λ h p first. if_found_then _ _ _ (more_functions (pred function_limit) s p) (heads_inside (pred function_limit) p)
       (λ hs q others. any_then _ _ (naming s q)
       (λ n p'. any_then _ _ (goal_record s p')
       (λ g r. any_then _ _ (at_end TrailingBytes s r)
@@ -414,8 +414,8 @@ module _ (d : Declarations) (s : List ℕ) where
   unfolding body_of
   body_finds h fits =
       let cut = take (h.body + h.size) s in
-      if-found-then _ _ _ (expression d nesting_limit h.parameters h.result cut h.body) (expression_finds d nesting_limit cut h.parameters h.result h.body)
-      (λ e k found. if-found-then _ _ _ (at_end TrailingBytes cut k) (end_finds cut TrailingBytes k) (λ u next over. body_at h e k fits found over))
+      if_found_then _ _ _ (expression d nesting_limit h.parameters h.result cut h.body) (expression_finds d nesting_limit cut h.parameters h.result h.body)
+      (λ e k found. if_found_then _ _ _ (at_end TrailingBytes cut k) (end_finds cut TrailingBytes k) (λ u next over. body_at h e k fits found over))
 
   -- each function of the one list has the body that the head of the same number in the other list tells of
   abbrev pub Bodies : List Head → List Function → Type 0
@@ -428,8 +428,8 @@ module _ (d : Declarations) (s : List ℕ) where
   unfolding functions_of
   bodies_find [] i fit = tt
   bodies_find (h ∷ hs) i fit =
-      if-found-then _ _ _ (body_of d h s) (body_finds h fit.0)
-      (λ e k first. if-found-then _ _ _ (functions_of d hs s k) (bodies_find hs k fit.1) (λ fs next others. (first, others)))
+      if_found_then _ _ _ (body_of d h s) (body_finds h fit.0)
+      (λ e k first. if_found_then _ _ _ (functions_of d hs s k) (bodies_find hs k fit.1) (λ fs next others. (first, others)))
 
   pub function_at_head : (hs : List Head) (gs : List Function) → Bodies hs gs → (f : ℕ) (h : Head) → get_elem? hs f ≡ some h → (g : Function) × (get_elem? gs f ≡ some g) × BodyAt d s h g
   function_at_head [] gs all f h is = absurd (clash (cc))
@@ -449,11 +449,11 @@ found_is (got a next) = refl
 found_is (refused why) = tt
 
 -- the functions that were read have the bodies that the outline's heads tell of
-pub bodies-are :
+pub bodies_are :
     (file : List ℕ) (o : Outline) (n : ℕ) → outline file 0 ≡ got o n
     → (i : ℕ) (fs : List Function) (next : ℕ) → functions_of o.declared o.declared.heads file i ≡ got fs next
     → Bodies o.declared file o.declared.heads fs
-bodies-are file o n is i fs next are =
+bodies_are file o n is i fs next are =
     let fit : Each (BodyInside file) o.declared.heads = subst (IfFound (λ o next. Each (BodyInside file) o.declared.heads)) is (outline_inside file 0) in
     subst (IfFound (λ fs next. Bodies o.declared file o.declared.heads fs)) are (bodies_find o.declared file o.declared.heads i fit)
 
@@ -463,7 +463,7 @@ pub body_bytes :
     → (i : ℕ) (fs : List Function) (next : ℕ) → functions_of o.declared o.declared.heads file i ≡ got fs next
     → (f : ℕ) (h : Head) (g : Function) → get_elem? o.declared.heads f ≡ some h → get_elem? fs f ≡ some g → BodyAt o.declared file h g
 body_bytes file o n is i fs next are f h g of-head of_function =
-    let found = function_at_head o.declared file o.declared.heads fs (bodies-are file o n is i fs next are) f h of-head in
+    let found = function_at_head o.declared file o.declared.heads fs (bodies_are file o n is i fs next are) f h of-head in
     let same : found.0 ≡ g = cc (found.1, of_function) in
     subst (BodyAt o.declared file h) same found.2
 
@@ -477,14 +477,14 @@ pub record Outlined (file : List ℕ) (p : Program) (o : Outline) : Type 0 where
 file_finds : (file : List ℕ) → IfFound (λ p next. (o : Outline) × Outlined file p o) (rule_file file 0)
 unfolding rule_file size_in_limit program_of function_at
 file_finds file =
-    demand-then _ _ (leb (length file) file_limit) _ 0
-    (λ small. if-found-then _ _ _ (outline file 0) (found_is (outline file 0))
-    (λ o n is. demand-then _ _ (numbers_exist o) _ n
-    (λ exist. if-found-then _ _ _ (functions_of o.declared o.declared.heads file n) (found_is (functions_of o.declared o.declared.heads file n))
-    (λ fs k are. demand-then _ _ (no_empty_type (least_depths o.declared.types)) _ k
-    (λ filled. demand-then _ _ (deep_enough (program_of o fs)) _ k
-    (λ deep. demand-then _ _ (well_spelled o) _ k
-    (λ spelled. let all = bodies-are file o n is n fs k are in (
+    demand_then _ _ (leb (length file) file_limit) _ 0
+    (λ small. if_found_then _ _ _ (outline file 0) (found_is (outline file 0))
+    (λ o n is. demand_then _ _ (numbers_exist o) _ n
+    (λ exist. if_found_then _ _ _ (functions_of o.declared o.declared.heads file n) (found_is (functions_of o.declared o.declared.heads file n))
+    (λ fs k are. demand_then _ _ (no_empty_type (least_depths o.declared.types)) _ k
+    (λ filled. demand_then _ _ (deep_enough (program_of o fs)) _ k
+    (λ deep. demand_then _ _ (well_spelled o) _ k
+    (λ spelled. let all = bodies_are file o n is n fs k are in (
       o,
       record {
         found = (n, is);
@@ -622,19 +622,19 @@ module _ (d : Declarations) (s : List ℕ) where
         let others = pass_all es (i + length (encode e)) a.1 parts.1 (omega arith) in
         rw (first, others) (ap (got tt) (omega (arith, length-append (encode e) (encode_all es))))
 
-    pass-alternatives :
+    pass_alternatives :
         (alts : Alternatives) (i : ℕ) → ArityAlternatives d alts → StandsAlternatives s i alts → nesting_alternatives alts ≤ n
         → skipped_alternatives sub (count_alternatives alts) s i ≡ got tt (i + length (encode_alternatives alts))
     unfolding skipped_alternatives count_alternatives encode nesting
-    pass-alternatives no_more i a there nests = ap (got tt) (omega arith)
-    pass-alternatives (absent alts) i a there nests =
+    pass_alternatives no_more i a there nests = ap (got tt) (omega arith)
+    pass_alternatives (absent alts) i a there nests =
         let parts = stands_absent s i alts there in
-        let others = pass-alternatives alts (i + 1) a parts.1 nests in
+        let others = pass_alternatives alts (i + 1) a parts.1 nests in
         rw (code_there i 0 parts.0, others) (ap (got tt) (omega arith))
-    pass-alternatives (present e alts) i a there nests =
-        let parts = stands-present s i e alts there in
+    pass_alternatives (present e alts) i a there nests =
+        let parts = stands_present s i e alts there in
         let first = below e (i + 1) a.0 parts.1 (omega arith) in
-        let others = pass-alternatives alts (i + 1 + length (encode e)) a.1 parts.2 (omega arith) in
+        let others = pass_alternatives alts (i + 1 + length (encode e)) a.1 parts.2 (omega arith) in
         rw (code_there i 1 parts.0, first, others) (ap (got tt) (omega (arith, length-append (encode e) (encode_alternatives alts))))
 
     pass_by : Passes (suc n) (skipped_by d sub)
@@ -647,18 +647,18 @@ module _ (d : Declarations) (s : List ℕ) where
         let others = pass_all es (i + 2) a.3 parts.2 (omega arith) in
         rw (code_there i 1 parts.0, number_there i f parts.1, a.1, ← a.2, others) (ap (got tt) (omega arith))
     pass_by (construct t c es) i a there nests =
-        let parts = stands-construct s i t c es there in
+        let parts = stands_construct s i t c es there in
         let second = byte_there s (i + 2) c (i + 3) (omega arith) parts.2 in
         let others = pass_all es (i + 3) a.3 parts.3 (omega arith) in
         rw (code_there i 2 parts.0, number_there i t parts.1, second, a.1, ← a.2, others) (ap (got tt) (omega arith))
     pass_by (case t e alts) i a there nests =
-        let parts = stands-case s i t e alts there in
+        let parts = stands_case s i t e alts there in
         let first = below e (i + 2) a.3 parts.2 (omega arith) in
-        let others = pass-alternatives alts (i + 2 + length (encode e)) a.4 parts.3 (omega arith) in
+        let others = pass_alternatives alts (i + 2 + length (encode e)) a.4 parts.3 (omega arith) in
         rw (code_there i 3 parts.0, number_there i t parts.1, a.1, ← a.2, first, others)
         (ap (got tt) (omega (arith, length-append (encode e) (encode_alternatives alts))))
     pass_by (let_in t e b) i a there nests =
-        let parts = stands-let s i t e b there in
+        let parts = stands_let s i t e b there in
         let first = below e (i + 2) a.1 parts.2 (omega arith) in
         let second = below b (i + 2 + length (encode e)) a.2 parts.3 (omega arith) in
         rw (code_there i 4 parts.0, number_there i t parts.1, first, second) (ap (got tt) (omega (arith, length-append (encode e) (encode b))))
@@ -678,14 +678,14 @@ nested (let_in t e b) = omega arith
 nested (target l e) = omega arith
 
 -- where an expression stands that nests at most n deep, the place behind it is found
-pub skipped-finds :
+pub skipped_finds :
     (d : Declarations) (n : ℕ) (s : List ℕ) (i : ℕ) (e : Expr) → Arity d e → Stands s i e → nesting e ≤ n
     → skipped d n s i ≡ got tt (i + length (encode e))
 unfolding skipped
-skipped-finds d zero s i e a there nests = absurd (clash (omega (arith, nested e)))
-skipped-finds d (suc n) s i e a there nests = pass_by d s n (skipped d n) (λ e i. skipped-finds d n s i e) e i a there nests
+skipped_finds d zero s i e a there nests = absurd (clash (omega (arith, nested e)))
+skipped_finds d (suc n) s i e a there nests = pass_by d s n (skipped d n) (λ e i. skipped_finds d n s i e) e i a there nests
 
 -- of a body of an accepted file it is the place where the body's length ends
 pub body_skipped : (d : Declarations) (file : List ℕ) (h : Head) (g : Function) → BodyAt d file h g → skipped d nesting_limit file h.body ≡ got tt (h.body + h.size)
 body_skipped d file h g at =
-    rw (← at.size) (skipped-finds d nesting_limit file h.body g.body at.arity (drop (h.body + h.size) file, at.stands) at.nests)
+    rw (← at.size) (skipped_finds d nesting_limit file h.body g.body at.arity (drop (h.body + h.size) file, at.stands) at.nests)

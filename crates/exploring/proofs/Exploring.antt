@@ -24,7 +24,7 @@ use Rattle.reach.specs.Moves as Model
 use Rattle.reach.specs.Moves.{Choice, move, move_from, moves}
 use Rattle.reach.proofs.Base.{clash}
 use Rattle.reach.proofs.Slots.{source_types_law, source_length}
-use Rattle.reach.proofs.Moves.{choices_owed, owed_from, owed, move_keeps, moves-keep}
+use Rattle.reach.proofs.Moves.{choices_owed, owed_from, owed, move_keeps, moves_keep}
 use Rattle.registers.specs.declared.Registers.{Registers}
 use Rattle.choices.specs.Choices.{Setting, AllOpen, ChoicesAt, no_choice, one_choice}
 use Rattle.choices.specs.Returning.{setting}
@@ -54,11 +54,11 @@ active_over x is = by_height (ltb 0 x.height) refl
     by_height false h = (is, omega (arith, ltb-false 0 x.height h))
 
 -- at the beginning everything is still to come
-nothing-listed :
+nothing_listed :
     (p : Program) (left : ℕ) → left ≡ p.steps
     → [] ++ owed_from p (least_depths p.types) (Model.on (record { state = start p; left = left; done = 0; input = open_input p })) [] ≡ entries p
 unfolding owed_from choices_owed flat_map entries
-nothing-listed p left is = append-nil (search p (least_depths p.types) left 0 (open_input p) (start p)) ∙ ap (λ l. search p (least_depths p.types) l 0 (open_input p) (start p)) is
+nothing_listed p left is = append-nil (search p (least_depths p.types) left 0 (open_input p) (start p)) ∙ ap (λ l. search p (least_depths p.types) l 0 (open_input p) (start p)) is
 
 -- at the end nothing is
 nothing_owed : (p : Program) (table : List ℕ) → owed_from p table Model.over [] ≡ []
@@ -72,7 +72,7 @@ moved_keeps :
     → (es ++ new) ++ owed_from p table position' cs' ≡ es ++ owed_from p table position cs
 unfolding owed move
 moved_keeps p table position position' cs cs' es new more is =
-    ap (λ (y : Model.Walk). y.listed ++ owed p table y) (sym is) ∙ (moves-keep p table more (move_from p table position cs es)).0
+    ap (λ (y : Model.Walk). y.listed ++ owed p table y) (sym is) ∙ (moves_keep p table more (move_from p table position cs es)).0
     ∙ move_keeps p table (record { position = position; choices = cs; listed = es })
 
 verdict_none : verdict [] ≡ Verdict.None
@@ -107,7 +107,7 @@ module _ {file types functions least : List ℕ} {label : ℕ} {w₀ : List ℕ}
         choices = [];
         listed = [];
         stands = (refl, refl, begins.under);
-        owed_is = nothing-listed p (limit - 0) (none ∙ begins.given.limit_is);
+        owed_is = nothing_listed p (limit - 0) (none ∙ begins.given.limit_is);
         length_is = refl;
         fits = omega arith;
         list_is = sym (written_none before);
@@ -129,10 +129,10 @@ module _ {file types functions least : List ℕ} {label : ℕ} {w₀ : List ℕ}
         (ap length now.list_is ∙ written_length now.listed before (omega (arith, now.length_is, now.fits)), now.fits)
 
     -- the end of the search
-    pub came-over :
+    pub came_over :
         {b : Bool} → GoesOn x b → b ≡ false
         → Explores file types functions least label w₀ w limit base stack parameters from before l (SearchResult.Complete n v)
-    came-over goes is p begins =
+    came_over goes is p begins =
         let now = came.of p begins in
         let (over, lowest) = subst (GoesOn x) is goes in
         let last = at_the_end p now.position now.choices (subst (λ going. PositionAt (setting file types functions least p limit base stack) w x.cells x.done x.height (position_of going x.registers) now.position now.choices) over now.stands) lowest in
@@ -147,17 +147,17 @@ module _ {file types functions least : List ℕ} {label : ℕ} {w₀ : List ℕ}
           all_are_open = last.2;
         }
       where
-        by-choices :
+        by_choices :
             (p : Program) {h cells records : ℕ} (cs : List Choice) → ChoicesAt (setting file types functions least p limit base stack) w h cells records cs → h ≡ 0
             → (owed_from p (least_depths p.types) Model.over cs ≡ []) × (some : ℕ) × AllOpen (setting file types functions least p limit base stack) w some
-        by-choices p {cells = cells} cs (no_choice all_are_open) lowest = (nothing_owed p (least_depths p.types), cells, all_are_open)
-        by-choices p cs (one_choice at-h few fewer rest) lowest = absurd (omega arith)
+        by_choices p {cells = cells} cs (no_choice all_are_open) lowest = (nothing_owed p (least_depths p.types), cells, all_are_open)
+        by_choices p cs (one_choice at-h few fewer rest) lowest = absurd (omega arith)
 
         at_the_end :
             (p : Program) (position : Model.Position) (cs : List Choice) → PositionAt (setting file types functions least p limit base stack) w x.cells x.done x.height Position.Over position cs → x.height ≡ 0
             → (owed_from p (least_depths p.types) position cs ≡ []) × (some : ℕ) × AllOpen (setting file types functions least p limit base stack) w some
         at_the_end p (Model.on y) cs none lowest = absurd none
-        at_the_end p Model.over cs (some, records, choices) lowest = by-choices p cs choices lowest
+        at_the_end p Model.over cs (some, records, choices) lowest = by_choices p cs choices lowest
 
     -- A move.
     module _ {w' : List ℕ} {m : Moved} (moves : Moves file types functions least label w w' limit base stack x m) (same_length : length w ≡ length w₀) where
@@ -174,10 +174,10 @@ module _ {file types functions least : List ℕ} {label : ℕ} {w₀ : List ℕ}
       lists : (p : Program) (begins : Begins (setting file types functions least p limit base stack) label w₀ parameters from) (listing : PathEnd) → m.listing ≡ listing → PathLists (setting file types functions least p limit base stack) w' m.walk listing (makes p begins).new
       lists p begins listing is = subst (λ y. PathLists (setting file types functions least p limit base stack) w' m.walk y (makes p begins).new) is (makes p begins).lists
 
-      owed-after :
+      owed_after :
           (p : Program) (begins : Begins (setting file types functions least p limit base stack) label w₀ parameters from) (new : List Entry) → (makes p begins).new ≡ new
           → ((came.of p begins).listed ++ new) ++ owed_from p (least_depths p.types) (makes p begins).position (makes p begins).choices ≡ entries p
-      owed-after p begins new is =
+      owed_after p begins new is =
           let now = came.of p begins in
           let made = makes p begins in
           ap (λ (es : List Entry). (now.listed ++ es) ++ owed_from p (least_depths p.types) made.position made.choices) (sym is)
@@ -185,21 +185,21 @@ module _ {file types functions least : List ℕ} {label : ℕ} {w₀ : List ℕ}
           ∙ now.owed_is
 
       -- the input of an entry that a path lists
-      input-in :
+      input_in :
           (p : Program) → Begins (setting file types functions least p limit base stack) label w₀ parameters from → (kind : Kind) {new : List Entry} (entry : EntryIn (setting file types functions least p limit base stack) w' m.walk kind new)
           → InputIn file types w' parameters m.walk.cells p.types (source_slots p) entry.0
-      input-in p begins kind (e, New-is, cells, typed) = record {
+      input_in p begins kind (e, New-is, cells, typed) = record {
         types_there = begins.given.file_of.types_there;
         stands = cells;
         typed = rw (source_types_law p) typed;
         counted = source_length p ∙ begins.counted;
       }
 
-      listable-one :
+      listable_one :
           (p : Program) → Begins (setting file types functions least p limit base stack) label w₀ parameters from → (kind : Kind) {new : List Entry} → EntryIn (setting file types functions least p limit base stack) w' m.walk kind new
           → Listable file types w' parameters m.walk.cells
-      listable-one p begins kind entry = (
-        (p.types, source_slots p, entry.0, input-in p begins kind entry),
+      listable_one p begins kind entry = (
+        (p.types, source_slots p, entry.0, input_in p begins kind entry),
         omega (arith, entry.2.fits, (makes p begins).same_length, same_length, begins.under.path.long, limit_few begins.given),
       )
 
@@ -208,7 +208,7 @@ module _ {file types functions least : List ℕ} {label : ℕ} {w₀ : List ℕ}
         where
           by_listing : (y : PathEnd) → m.listing ≡ y → ListableAs file types w' parameters m.walk.cells y
           by_listing Unlisted is = tt
-          by_listing (Listed kind) is = listable-one p begins kind (lists p begins (Listed kind) is)
+          by_listing (Listed kind) is = listable_one p begins kind (lists p begins (Listed kind) is)
 
       module _ (l' : List ℕ) (r : Written) (wrote : WroteAs file types w' parameters m.walk.cells m.walk.done m.listing l l' n r) where
         -- the entry of an input is as long as its header and its cells
@@ -225,7 +225,7 @@ module _ {file types functions least : List ℕ} {label : ℕ} {w₀ : List ℕ}
             let made = makes p begins in
             let e = entry.0 in
             let new = entry_for kind m.walk.done e in
-            let wrote = told p.types (source_slots p) e (input-in p begins kind entry) in
+            let wrote = told p.types (source_slots p) e (input_in p begins kind entry) in
             let (place, fits, bytes) = subst (WroteFor kind m.walk.done m.walk.cells n l l' e) is wrote in
             let size = long kind e entry.2.counted in
             let room = (same_room (p, begins)).0 in
@@ -234,7 +234,7 @@ module _ {file types functions least : List ℕ} {label : ℕ} {w₀ : List ℕ}
               choices = made.choices;
               listed = now.listed ++ (new ∷ []);
               stands = made.stands;
-              owed_is = owed-after p begins (new ∷ []) entry.1;
+              owed_is = owed_after p begins (new ∷ []) entry.1;
               length_is = omega (arith, size_more now.listed new, now.length_is);
               fits = omega arith;
               list_is = written_more now.listed new before l l' n behind now.list_is now.length_is (omega arith) (omega arith) bytes;
@@ -259,7 +259,7 @@ module _ {file types functions least : List ℕ} {label : ℕ} {w₀ : List ℕ}
                   choices = made.choices;
                   listed = now.listed;
                   stands = made.stands;
-                  owed_is = ap (λ (es : List Entry). es ++ owed_from p (least_depths p.types) made.position made.choices) (sym (append-nil now.listed)) ∙ owed-after p begins [] none;
+                  owed_is = ap (λ (es : List Entry). es ++ owed_from p (least_depths p.types) made.position made.choices) (sym (append-nil now.listed)) ∙ owed_after p begins [] none;
                   length_is = here ∙ now.length_is;
                   fits = omega (arith, now.fits);
                   list_is = List-same ∙ now.list_is;
@@ -270,21 +270,21 @@ module _ {file types functions least : List ℕ} {label : ℕ} {w₀ : List ℕ}
                 placed h = cc
             by_listing (Listed kind) same told with-entry = wrote_one p begins kind (lists p begins (Listed kind) same) told behind is with-entry
 
-        pub came-on :
+        pub came_on :
             {behind : ℕ} → r ≡ Written.Behind behind → {v' : Verdict} → VerdictAfter v m.listing v'
             → CameTo file types functions least label w₀ limit base stack parameters from before w' m.walk l' behind v'
-        came-on is after = record { of = went_on is after }
+        came_on is after = record { of = went_on is after }
 
         -- an entry does not fit
-        full-one :
+        full_one :
             (p : Program) (begins : Begins (setting file types functions least p limit base stack) label w₀ parameters from) (kind : Kind) → EntryIn (setting file types functions least p limit base stack) w' m.walk kind (makes p begins).new
             → WroteEntry file types w' parameters m.walk.cells kind m.walk.done n l l' r → r ≡ Written.Full → FirstEntries (setting file types functions least p limit base stack) before l' w' n
-        full-one p begins kind entry told is =
+        full_one p begins kind entry told is =
             let now = came.of p begins in
             let made = makes p begins in
             let e = entry.0 in
             let new = entry_for kind m.walk.done e in
-            let wrote = told p.types (source_slots p) e (input-in p begins kind entry) in
+            let wrote = told p.types (source_slots p) e (input_in p begins kind entry) in
             let (over, same) = subst (WroteFor kind m.walk.done m.walk.cells n l l' e) is wrote in
             let size = long kind e entry.2.counted in
             let room = (same_room (p, begins)).0 in
@@ -292,7 +292,7 @@ module _ {file types functions least : List ℕ} {label : ℕ} {w₀ : List ℕ}
               listed = now.listed;
               next = new;
               rest = owed_from p (least_depths p.types) made.position made.choices;
-              entries_are = sym (owed-after p begins (new ∷ []) entry.1) ∙ append_assoc now.listed (new ∷ []) _;
+              entries_are = sym (owed_after p begins (new ∷ []) entry.1) ∙ append_assoc now.listed (new ∷ []) _;
               length_is = now.length_is;
               fits = now.fits;
               too_long = omega arith;
@@ -307,7 +307,7 @@ module _ {file types functions least : List ℕ} {label : ℕ} {w₀ : List ℕ}
             by_listing :
                 (y : PathEnd) → m.listing ≡ y → WroteAs file types w' parameters m.walk.cells m.walk.done y l l' n r → FirstEntries (setting file types functions least p limit base stack) before l' w' n
             by_listing Unlisted same (place_is, List-same) = absurd (clash (cc (is, place_is)))
-            by_listing (Listed kind) same told = full-one p begins kind (lists p begins (Listed kind) same) told is
+            by_listing (Listed kind) same told = full_one p begins kind (lists p begins (Listed kind) same) told is
 
 -- The same, whatever registers the search began with: the loop knows them as those of its first walk.
 
@@ -315,8 +315,8 @@ abbrev pub CameFrom : (file types functions least : List ℕ) (label : ℕ) (w�
 CameFrom file types functions least label w₀ limit base stack parameters before x₀ w x l n v =
     (from : Registers) → x₀ ≡ first_walk parameters from → CameTo file types functions least label w₀ limit base stack parameters from before w x l n v
 
-pub came-begin :
+pub came_begin :
     {file types functions least : List ℕ} {label : ℕ} {w₀ : List ℕ} {limit base stack parameters : ℕ} {before : List ℕ} (x₀ : Walk)
     → CameFrom file types functions least label w₀ limit base stack parameters before x₀ w₀ x₀ before 0 Verdict.None
-came-begin {file} {types} {functions} {least} {label} {w₀} {limit} {base} {stack} {parameters} {before} x₀ r is =
+came_begin {file} {types} {functions} {least} {label} {w₀} {limit} {base} {stack} {parameters} {before} x₀ r is =
     subst (λ y. CameTo file types functions least label w₀ limit base stack parameters r before w₀ y before 0 Verdict.None) (sym is) came_first

@@ -23,9 +23,9 @@ sets_append (x ∷ xs) ys l i =
     rw z (sets_append xs ys _ (suc i))
 
 -- the same, the list and the place between the two being known by an equation
-pub stored-behind :
+pub stored_behind :
     {m : List ℕ} {next : ℕ} (xs ys l : List ℕ) (i : ℕ) → m ≡ sets l i xs → next ≡ i + length xs → sets m next ys ≡ sets l i (xs ++ ys)
-stored-behind xs ys l i first behind = rw (first, behind) (sym (sets_append xs ys l i))
+stored_behind xs ys l i first behind = rw (first, behind) (sym (sets_append xs ys l i))
 
 -- one byte more in front
 pub stored_one : (x : ℕ) (xs l : List ℕ) (i : ℕ) → sets (set l i x) (i + 1) xs ≡ sets l i (x ∷ xs)
@@ -58,12 +58,12 @@ header_length k steps n =
     )
 
 -- stored in three parts
-pub header-stored :
+pub header_stored :
     (k : Kind) (steps n i : ℕ) (l : List ℕ)
     → sets (sets (sets l i (kind_bytes k)) (i + 2) (word_bytes steps)) (i + 4) (word_bytes n) ≡ sets l i (header k steps n)
-header-stored k steps n i l =
-    stored-behind (word_bytes steps) (word_bytes n) _ (i + 2) refl (omega (arith, word_length steps))
-    ∙ stored-behind (kind_bytes k) (word_bytes steps ++ word_bytes n) l i refl (omega (arith, mark_length k))
+header_stored k steps n i l =
+    stored_behind (word_bytes steps) (word_bytes n) _ (i + 2) refl (omega (arith, word_length steps))
+    ∙ stored_behind (kind_bytes k) (word_bytes steps ++ word_bytes n) l i refl (omega (arith, mark_length k))
 
 -- an entry is a header and the input in prefix form
 pub entry_is : (e : Entry) → entry_bytes e ≡ header e.kind e.steps (length (prefix e.input)) ++ prefix e.input
@@ -80,13 +80,13 @@ entry_length e =
     )
 
 -- a header and the prefix form behind it, stored: the entry, where there is room for it
-pub entry-stored :
+pub entry_stored :
     (e : Entry) (i n : ℕ) (l : List ℕ) → n ≡ i + 6 + length (prefix e.input) → n ≤ length l
     → sets (sets l i (header e.kind e.steps (length (prefix e.input)))) (i + 6) (prefix e.input) ≡ take i l ++ (entry_bytes e ++ drop n l)
-entry-stored e i n l is fits =
+entry_stored e i n l is fits =
     let head = header e.kind e.steps (length (prefix e.input)) in
     let whole = sets-eq (entry_bytes e) l i (omega (arith, entry_length e)) in
     let z : i + length (entry_bytes e) ≡ n = omega (arith, entry_length e) in
-    stored-behind head (prefix e.input) l i refl (omega (arith, header_length e.kind e.steps (length (prefix e.input))))
+    stored_behind head (prefix e.input) l i refl (omega (arith, header_length e.kind e.steps (length (prefix e.input))))
     ∙ ap (sets l i) (sym (entry_is e))
     ∙ rw (z, append_assoc) at whole

@@ -20,7 +20,7 @@ use Rattle.machine.specs.Cells.{cell_word, cell_from}
 use Rattle.listing.specs.declared.Written.TheVariants as Written
 use Rattle.listing.specs.Rows.{RowAt, RowFits, WroteRow}
 use Rattle.listing.specs.Entry.{InputIn, Listable, entry_for, WroteEntry}
-use Rattle.headers.proofs.Bytes.{header, entry-stored}
+use Rattle.headers.proofs.Bytes.{header, entry_stored}
 
 module _ (file types : List ℕ) (bytes : (i : ℕ) → get_or file i 0 ≤ 255) where
   -- a constructor's number is a byte
@@ -69,11 +69,11 @@ module _ (file types : List ℕ) (bytes : (i : ℕ) → get_or file i 0 ≤ 255)
     type_is = λ q. says.type_is (after q);
   }
 
-  bound-fields :
+  bound_fields :
       {w : List ℕ} {ss : List Slot} {s : Slot} {top b c : ℕ} {fs r : Parts} → Says w top (s ∷ ss) b (bound c fs r)
       → Says w top (field_slots (map (type_at file) types) (some s) c) (cell_word w b 1) fs
   unfolding at cell_from slot_at
-  bound-fields says = record {
+  bound_fields says = record {
     in_use = λ q. says.in_use (inside q);
     head_free = λ q. says.head_free (inside q);
     head_bound = λ q. says.head_bound (inside q);
@@ -82,28 +82,28 @@ module _ (file types : List ℕ) (bytes : (i : ℕ) → get_or file i 0 ≤ 255)
 
   module _ (w : List ℕ) (top : ℕ) (few : top ≤ 1000000) where
     -- so the cells stand for the row
-    row-said :
+    row_said :
         (row : Parts) (ss : List Slot) (b : ℕ) → Typed (map (type_at file) types) (slot_types ss) row → Says w top ss b row
         → RowAt file types w row b (length (slot_types ss))
     unfolding RowAt at cell_from slot_at slot_types
-    row-said end [] b typed says = refl
-    row-said end (s ∷ ss) b typed says = absurd typed
-    row-said (opened r) [] b typed says = absurd typed
-    row-said (opened r) (s ∷ ss) b typed says =
+    row_said end [] b typed says = refl
+    row_said end (s ∷ ss) b typed says = absurd typed
+    row_said (opened r) [] b typed says = absurd typed
+    row_said (opened r) (s ∷ ss) b typed says =
         let z : suc (length (slot_types ss)) - 1 ≡ length (slot_types ss) = omega arith in
-        (omega arith, omega (arith, says.in_use here tt), says.head_free here refl, rw z (row-said r ss (b + 1) typed (open_rest says)))
-    row-said (bound c fs r) [] b typed says = absurd typed
-    row-said (bound c fs r) (s ∷ ss) b (vs, are, inner, outer) says =
+        (omega arith, omega (arith, says.in_use here tt), says.head_free here refl, rw z (row_said r ss (b + 1) typed (open_rest says)))
+    row_said (bound c fs r) [] b typed says = absurd typed
+    row_said (bound c fs r) (s ∷ ss) b (vs, are, inner, outer) says =
         let z : suc (length (slot_types ss)) - 1 ≡ length (slot_types ss) = omega arith in
         let type : cell_word w b 2 ≡ s.type = says.type_is here s tt refl in
         let fields = field_types_law (map (type_at file) types) s c vs are in
-        let below = row-said fs (field_slots (map (type_at file) types) (some s) c) (cell_word w b 1) (rw fields inner) (bound-fields says) in (
+        let below = row_said fs (field_slots (map (type_at file) types) (some s) c) (cell_word w b 1) (rw fields inner) (bound_fields says) in (
           omega arith,
           omega (arith, says.in_use here tt),
           says.head_bound here c _ refl,
           number_small s.type c vs are,
           (vs, rw type are, rw (← fields) below),
-          rw z (row-said r ss (b + 1) outer (bound_rest says)),
+          rw z (row_said r ss (b + 1) outer (bound_rest says)),
         )
 
     -- the cells from cell 0 on stand for the row of the parameters
@@ -112,7 +112,7 @@ module _ (file types : List ℕ) (bytes : (i : ℕ) → get_or file i 0 ≤ 255)
       input_row {ss = ss} {e} input =
           let typed = rw input.types_there at input.typed in
           let cells = rw input.types_there at input.stands in
-          rw (← input.counted, ← types_length ss) (row-said e ss 0 typed (record {
+          rw (← input.counted, ← types_length ss) (row_said e ss 0 typed (record {
             in_use = cells.in_use;
             head_free = cells.head_free;
             head_bound = cells.head_bound;
@@ -129,13 +129,13 @@ module _ (file types : List ℕ) (bytes : (i : ℕ) → get_or file i 0 ≤ 255)
       }
 
       -- a header and the row behind it are the entry
-      pub entry-written :
+      pub entry_written :
           {n : ℕ} {m l' : List ℕ} (kind : Kind) (steps place : ℕ) (l : List ℕ) → place + 6 + top ≤ length l → m ≡ sets l place (header kind steps top)
           → WroteRow file types w 0 parameters (place + 6) m l' n
           → WroteEntry file types w parameters top kind steps place l l' (Written.Behind n)
-      entry-written {n} {m} {l'} kind steps place l fits headed wrote ts ss e input =
+      entry_written {n} {m} {l'} kind steps place l fits headed wrote ts ss e input =
           let row = wrote.stored e (input_row input) in
           let count : length (prefix e) ≡ top = input.stands.counted in
           let behind : n ≡ place + 6 + length (prefix e) = row.0 in
           let whole : l' ≡ sets (sets l place (header kind steps (length (prefix e)))) (place + 6) (prefix e) = row.1 ∙ rw (headed, count) in
-          (omega arith, omega arith, whole ∙ entry-stored (entry_for kind steps e) place n l behind (omega arith))
+          (omega arith, omega arith, whole ∙ entry_stored (entry_for kind steps e) place n l behind (omega arith))

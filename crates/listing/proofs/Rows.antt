@@ -11,7 +11,7 @@ use Rattle.reach.specs.Parts.{Parts, end, opened, bound, prefix}
 use Rattle.machine.specs.Cells.{cell_word}
 use Rattle.lookups.specs.Fields.{FieldCount}
 use Rattle.listing.specs.Rows.{RowAt, RowFits, WroteRow}
-use Rattle.headers.proofs.Bytes.{stored-behind, stored_one}
+use Rattle.headers.proofs.Bytes.{stored_behind, stored_one}
 
 -- A row that begins with an open part, and what is behind it.
 record OpenRow (file types w : List ℕ) (b k : ℕ) (row : Parts) : Type 0 where
@@ -50,13 +50,13 @@ module _ (file types w : List ℕ) (b k : ℕ) where
     open_row none (opened r) there = record { rest = r; behind = there.3; is = refl }
     open_row none (bound c fs r) there = absurd (omega (arith, there.2))
 
-    bound-row :
+    bound_row :
         {first t n : ℕ} → head ≢ 0 → first ≡ cell_word w b 1 → t ≡ cell_word w b 2 → FieldCount file types t (head - 1) n → (row : Parts)
         → RowAt file types w row b k → BoundRow file types w b k (head - 1) first n row
     unfolding RowAt prefix
-    bound-row bind at_first of_type count end there = absurd (some there)
-    bound-row bind at_first of_type count (opened r) there = absurd (bind (read ∙ there.2))
-    bound-row bind at_first of_type count (bound c fs r) there =
+    bound_row bind at_first of_type count end there = absurd (some there)
+    bound_row bind at_first of_type count (opened r) there = absurd (bind (read ∙ there.2))
+    bound_row bind at_first of_type count (bound c fs r) there =
         let same : head - 1 ≡ c = omega (arith, there.2) in
         let number = rw (of_type, same) at count.0 in
         let us = there.4 in
@@ -89,7 +89,7 @@ module _ {file types w : List ℕ} {b k fuel place room : ℕ} (fit : RowFits fi
         (count : FieldCount file types t (head - 1) n)
       where
         parts : BoundRow file types w b k (head - 1) first n fit.row
-        parts = bound-row file types w b k some read bind at_first of_type count fit.row fit.there
+        parts = bound_row file types w b k some read bind at_first of_type count fit.row fit.there
 
         parts_length : length (prefix fit.row) ≡ 1 + length (prefix parts.fields) + length (prefix parts.rest)
         parts_length = ap length parts.is ∙ omega (arith, length-append (prefix parts.fields) (prefix parts.rest))
@@ -108,10 +108,10 @@ module _ {file types w : List ℕ} {b k fuel place room : ℕ} (fit : RowFits fi
         }
 
         -- what is behind it
-        pub rest-fits :
+        pub rest_fits :
             {next room' : ℕ} {l l' : List ℕ} → WroteRow file types w first n (place + 1) l l' next → room' ≡ room
             → RowFits file types w (b + 1) (k - 1) (fuel - 1) next room'
-        rest-fits done same = record {
+        rest_fits done same = record {
           row = parts.rest;
           there = parts.behind;
           enough = omega (arith, parts_length, fit.enough);
@@ -124,9 +124,9 @@ module _ {file types w : List ℕ} {b k place : ℕ} where
   wrote_none none = record { stored = λ row there. rw (no_row file types w b k row there none) (omega arith, refl) }
 
   module _ {head r : ℕ} {l l' : List ℕ} (some : k ≢ 0) (read : head ≡ cell_word w b 0) where
-    pub wrote-open :
+    pub wrote_open :
         head ≡ 0 → WroteRow file types w (b + 1) (k - 1) (place + 1) (set l place 0xff) l' r → WroteRow file types w b k place l l' r
-    wrote-open none done = record { stored = whole }
+    wrote_open none done = record { stored = whole }
       where
         whole : (row : Parts) → RowAt file types w row b k → (r ≡ place + length (prefix row)) × (l' ≡ sets l place (prefix row))
         whole row there =
@@ -134,18 +134,18 @@ module _ {file types w : List ℕ} {b k place : ℕ} where
             let d = done.stored o.rest o.behind in
             (omega (arith, d.0, ap length o.is), d.1 ∙ stored_one 0xff (prefix o.rest) l place ∙ ap (sets l place) (sym o.is))
 
-    pub wrote-bound :
+    pub wrote_bound :
         {first t n next : ℕ} {m : List ℕ} → head ≢ 0 → first ≡ cell_word w b 1 → t ≡ cell_word w b 2 → FieldCount file types t (head - 1) n
         → WroteRow file types w first n (place + 1) (set l place (head - 1)) m next
         → WroteRow file types w (b + 1) (k - 1) next m l' r → WroteRow file types w b k place l l' r
-    wrote-bound bind at_first of_type count fields rest = record { stored = whole }
+    wrote_bound bind at_first of_type count fields rest = record { stored = whole }
       where
         whole : (row : Parts) → RowAt file types w row b k → (r ≡ place + length (prefix row)) × (l' ≡ sets l place (prefix row))
         whole row there =
-            let o = bound-row file types w b k some read bind at_first of_type count row there in
+            let o = bound_row file types w b k some read bind at_first of_type count row there in
             let f = fields.stored o.fields o.inside in
             let d = rest.stored o.rest o.behind in
             let long = length-append (prefix o.fields) (prefix o.rest) in (
               omega (arith, d.0, f.0, ap length o.is, long),
-              d.1 ∙ stored-behind (prefix o.fields) (prefix o.rest) (set l place (head - 1)) (place + 1) f.1 f.0 ∙ stored_one (head - 1) (prefix o.fields ++ prefix o.rest) l place ∙ ap (sets l place) (sym o.is),
+              d.1 ∙ stored_behind (prefix o.fields) (prefix o.rest) (set l place (head - 1)) (place + 1) f.1 f.0 ∙ stored_one (head - 1) (prefix o.fields ++ prefix o.rest) l place ∙ ap (sets l place) (sym o.is),
             )

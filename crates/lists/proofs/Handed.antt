@@ -28,7 +28,7 @@ use Rattle.reach.specs.Reader.{Got, got, refused, on_got, Reader, or_refuse, dem
 use Rattle.reach.specs.Partial.{deepest, Keeps, slotted, OpenApart}
 use Rattle.lists.specs.Handed.{Fitting, IsList, in_entries, kind_mark, spanning, entry_by, entry, entries_by, handed}
 use Rattle.reach.proofs.Base.{clash, picked, each_member, member_each}
-use Rattle.reach.proofs.Limits.{IfFound, if-found-then, accepted_keeps, accepted_rooms}
+use Rattle.reach.proofs.Limits.{IfFound, if_found_then, accepted_keeps, accepted_rooms}
 use Rattle.reach.proofs.Slots.{source_types_law}
 use Rattle.reach.proofs.LeastDepths.{shallow_head}
 use Rattle.reach.proofs.Depths.{Fit}
@@ -93,8 +93,8 @@ module _ (p : Program) (s : List ℕ) (bytes : (i : ℕ) → get_or s i 0 < 256)
   mark_finds : (i : ℕ) → IfFound (λ k next. Reads s i (kind_bytes k) next) (kind_mark s i)
   unfolding kind_mark
   mark_finds i =
-      if-found-then _ _ _ (byte s i) (byte_finds s i)
-      (λ a k first. if-found-then _ _ _ (byte s k) (byte_finds s k)
+      if_found_then _ _ _ (byte s i) (byte_finds s i)
+      (λ a k first. if_found_then _ _ _ (byte s k) (byte_finds s k)
       (λ b l second. found_as _ _ (or_refuse BadList (kind_of a b) s l) (looked_finds BadList (kind_of a b) s l)
       (λ kind n known. subst (λ (x : List ℕ). Reads s i x n) (sym (kind_is a b kind known.0))
       (subst (Reads s i (a ∷ b ∷ [])) known.1 (reads_then (a ∷ []) (b ∷ []) first second)))))
@@ -102,8 +102,8 @@ module _ (p : Program) (s : List ℕ) (bytes : (i : ℕ) → get_or s i 0 < 256)
   word_finds : (i : ℕ) → IfFound (λ n next. Reads s i (word_bytes n) next × (n < 65536)) (word s i)
   unfolding word
   word_finds i =
-      if-found-then _ _ _ (byte s i) (byte_small i)
-      (λ low k first. if-found-then _ _ _ (byte s k) (byte_small k)
+      if_found_then _ _ _ (byte s i) (byte_small i)
+      (λ low k first. if_found_then _ _ _ (byte s k) (byte_small k)
       (λ high l second. (
         subst (λ (x : List ℕ). Reads s i x l) (sym (word_is low high first.1 second.1)) (reads_then (low ∷ []) (high ∷ []) first.0 second.0),
         omega (arith, first.1, second.1),
@@ -120,11 +120,11 @@ module _ (p : Program) (s : List ℕ) (bytes : (i : ℕ) → get_or s i 0 < 256)
   pub entry_finds : (i : ℕ) → IfFound (λ e next. Fitting p e × Reads s i (entry_bytes e) next) (entry p s i)
   unfolding entry_by entry_bytes
   entry_finds i =
-      if-found-then _ _ _ (kind_mark s i) (mark_finds i)
-      (λ kind a first. if-found-then _ _ _ (word s a) (word_finds a)
-      (λ steps b second. if-found-then _ _ _ (demand (leb steps p.steps) BadList s b) (demand_finds (leb steps p.steps) BadList s b)
-      (λ u c passed. if-found-then _ _ _ (word s c) (word_finds c)
-      (λ n d third. if-found-then _ _ _ (spanning n (slotted p.types (in_entries (least_depths p.types)) depth_limit (source_slots p)) s d) (spanning_finds _ n d _ (slotted_finds p.types (in_entries (least_depths p.types)) (λ e. Unit {0}) (entries_lawful p.types) depth_limit s (source_slots p) d))
+      if_found_then _ _ _ (kind_mark s i) (mark_finds i)
+      (λ kind a first. if_found_then _ _ _ (word s a) (word_finds a)
+      (λ steps b second. if_found_then _ _ _ (demand (leb steps p.steps) BadList s b) (demand_finds (leb steps p.steps) BadList s b)
+      (λ u c passed. if_found_then _ _ _ (word s c) (word_finds c)
+      (λ n d third. if_found_then _ _ _ (spanning n (slotted p.types (in_entries (least_depths p.types)) depth_limit (source_slots p)) s d) (spanning_finds _ n d _ (slotted_finds p.types (in_entries (least_depths p.types)) (λ e. Unit {0}) (entries_lawful p.types) depth_limit s (source_slots p) d))
       (λ row l last.
       let counts : n ≡ length (prefix row.0) = omega (arith, last.1, last.0.1.behind) in (
         record {
@@ -147,8 +147,8 @@ module _ (p : Program) (s : List ℕ) (bytes : (i : ℕ) → get_or s i 0 < 256)
   entries_find (suc more) i =
       picked (IfFound (λ es next. Each (Fitting p) es × Reads s i (list_bytes es) next × (length s ≤ next))) (leb (length s) i)
       (λ over. (tt, reads_none, leb-true (length s) i over))
-      (λ left. if-found-then _ _ _ (entry p s i) (entry_finds i)
-      (λ e k first. if-found-then _ _ _ (entries_by (entry p) more s k) (entries_find more k)
+      (λ left. if_found_then _ _ _ (entry p s i) (entry_finds i)
+      (λ e k first. if_found_then _ _ _ (entries_by (entry p) more s k) (entries_find more k)
       (λ es n rest. ((first.0, rest.0), reads_then (entry_bytes e) (list_bytes es) first.1 rest.1, rest.2))))
 
   -- what is read is a list

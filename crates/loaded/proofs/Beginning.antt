@@ -28,7 +28,7 @@ use Rattle.goal.specs.Goals.{Asks}
 use Rattle.machine.specs.Layout.{records_at}
 use Rattle.machine.specs.Cells.{Cells, cell_of}
 use Rattle.machine.specs.Records.{Code, RecordIs, Wrote, EnvAt, empty_at, parts_at, none_at, evaluating_at}
-use Rattle.machine.proofs.Cells.{walk_part, kept-cells}
+use Rattle.machine.proofs.Cells.{walk_part, kept_cells}
 use Rattle.machine.proofs.Records.{holds_kept}
 use Rattle.machine.proofs.Words.{records_same}
 use Rattle.registers.specs.Stepping.{declarations_of, CountsSmall, StandsFor}
@@ -45,16 +45,16 @@ source_is : (p : Program) (g : Function) → function_at p p.source ≡ some g �
 unfolding source_types
 source_is p g h = rw h
 
-stands-start :
+stands_start :
     {file types functions w₁ w₂ w₃ : List ℕ} (p : Program) (base i n : ℕ) (g : Function) → function_at p p.source ≡ some g
     → Code file (declarations_of file types functions) i g.body → n ≡ length (source_types p) → n ≤ 255 → 5 * n ≤ base → base + 12 ≤ length w₁ → length w₁ ≤ 1000000
     → Cells p.types (source_slots p) w₁ n (all_open n) → Wrote w₁ w₂ base 0 0 0 0 0 → Wrote w₂ w₃ base 1 0 n 0 0
     → StateIn (all_open n) (start p) → Sound p (all_open n) (start p)
     → StandsFor file types functions p w₃ base n (start_registers i) (all_open n) (start p)
 unfolding part_of size
-stands-start {file} {types} {functions} {w₁} {w₂} {w₃} p base i n g source code many few apart room narrow opened zeros group there sound =
+stands_start {file} {types} {functions} {w₁} {w₂} {w₃} p base i n g source code many few apart room narrow opened zeros group there sound =
     record {
-      input = (kept-cells w₃ opened (omega (arith, long)) kept).1;
+      input = (kept_cells w₃ opened (omega (arith, long)) kept).1;
       apart = apart;
       zeros = kept_zeros;
       state = rw (start_is p g source) (evaluating_at code environment none_at);
@@ -124,17 +124,17 @@ module _ {file types functions : List ℕ} {goal : Goal} {p : Program} (given : 
           let few = parameters_few in
           (omega arith, omega (arith, asks.steps_is), omega arith, omega arith)
 
-      pub opened-stands :
+      pub opened_stands :
           {w' : List ℕ} → Opened file w w' base head.parameters head.count goal.depths
           → StandsFor file types functions p w' base head.count (start_registers head.body) (all_open head.count) (start p)
       unfolding source_slots
-      opened-stands {w'} opened =
+      opened_stands {w'} opened =
           let few = parameters_few in
           let limited = limit_few in
           let same : length opened.w₁ ≡ length w = opened.starts.same_length in
           let open_there : Cells p.types (source_slots p) opened.w₁ head.count (all_open head.count) =
           rw (source_parameters, asks.depths_are) at (opened.starts.stands p.types) in
-          stands-start p base head.body head.count body.0 body.1 body.2 many (omega arith) (omega arith)
+          stands_start p base head.body head.count body.0 body.1 body.2 many (omega arith) (omega arith)
           (omega (arith, asks.steps_is)) (omega (arith, asks.steps_is)) open_there opened.zeros opened.group (steps_in_law p (all_open head.count) (open_width head.count ∙ many) no_step)
           (steps_sound file p given.checked (all_open head.count) typed no_step)
 

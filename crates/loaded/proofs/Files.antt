@@ -30,9 +30,9 @@ file_of {file} {r} t = record {
 }
 
 -- and it is what both runs are given
-pub given-file :
+pub given_file :
     {file : List ℕ} {r : Loaded} {p : Program} → check file ≡ accepted p → Tabled file r p → GivenFile file (type_places r) (function_places r) p
-given-file checked t = record {
+given_file checked t = record {
   checked = checked;
   file_of = file_of t;
   source_there = omega (arith, program_source_there t, t.functions_count);

@@ -48,10 +48,10 @@ module _ (file : List ℕ) (r : Loaded) (loads : Loads file r) (is : r.answer �
   steps_small = omega (arith, (program_goal here.2).steps_is, (accepted_keeps file here.0 here.1).steps_limit)
 
   -- the words behind those that were lent on are as before
-  pub behind-kept :
+  pub behind_kept :
       (v w : List ℕ) {words : ℕ} → words ≡ work_words r.goal.steps → length v ≡ words
       → (p : Program) → check file ≡ accepted p → drop (work_words p.steps) (v ++ drop words w) ≡ drop (work_words p.steps) w
-  behind-kept v w {words} enough same p checked =
+  behind_kept v w {words} enough same p checked =
       let one : here.0 ≡ p = cc here.1 in
       let z : work_words p.steps ≡ words = omega (arith, (program_goal here.2).steps_is, ap (λ (x : Program). x.steps) one) in
       rw z (drop_at v (drop words w) words same)

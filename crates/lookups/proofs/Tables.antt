@@ -128,9 +128,9 @@ pub near_at : {i n : ℕ} (r : Fields) → Near r → r ≡ Fields.At i n → (i
 near_at r near e = rw e at near
 
 -- how many fields a constructor has, by the answer to where they stand
-pub count-known :
+pub count_known :
     (s types : List ℕ) (t c : ℕ) {i n : ℕ} (r : Fields) → fields_of s r ≡ fields_in s types t c → Near r → r ≡ Fields.At i n → FieldCount s types t c n
-count-known s types t c {i} {n} r told near is = (
+count_known s types t c {i} {n} r told near is = (
   λ us are. sym (bytes_length s i n) ∙ ap length (some-injective _ _ (ap (fields_of s) (sym is) ∙ (told ∙ are))),
   (near_at r near is).1,
 )

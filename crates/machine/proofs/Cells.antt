@@ -100,26 +100,26 @@ further f (inl a) = inl a
 further f (inr h) = inr (h.0, h.1, ap f h.2)
 
 -- a place that is there after the bind was there before, or is one of the fields
-pub bind-places :
+pub bind_places :
     (q : Place) (c k : ℕ) (e : Parts) (r : Place) → at e q ≡ free → There (at (bind_at q c k e) r) → There (at e r) ⊎ OneOf k (field q) r
 unfolding at bind_at within
-bind-places q c k end r h t = absurd t
-bind-places here c k (opened s) here h t = inl tt
-bind-places here c k (opened s) (after r) h t = inl t
-bind-places here c k (opened s) (inside r) h t =
+bind_places q c k end r h t = absurd t
+bind_places here c k (opened s) here h t = inl tt
+bind_places here c k (opened s) (after r) h t = inl t
+bind_places here c k (opened s) (inside r) h t =
     let p = open_places k r t in
     inr (p.0, p.1, ap inside p.2)
-bind-places (after q) c k (opened s) here h t = inl tt
-bind-places (after q) c k (opened s) (after r) h t = further after (bind-places q c k s r h t)
-bind-places (after q) c k (opened s) (inside r) h t = absurd t
-bind-places (inside q) c k (opened s) r h t = absurd (free_there h)
-bind-places here c k (bound d fs s) r h t = not_free h
-bind-places (after q) c k (bound d fs s) here h t = inl tt
-bind-places (after q) c k (bound d fs s) (after r) h t = further after (bind-places q c k s r h t)
-bind-places (after q) c k (bound d fs s) (inside r) h t = inl t
-bind-places (inside q) c k (bound d fs s) here h t = inl tt
-bind-places (inside q) c k (bound d fs s) (after r) h t = inl t
-bind-places (inside q) c k (bound d fs s) (inside r) h t = further inside (bind-places q c k fs r h t)
+bind_places (after q) c k (opened s) here h t = inl tt
+bind_places (after q) c k (opened s) (after r) h t = further after (bind_places q c k s r h t)
+bind_places (after q) c k (opened s) (inside r) h t = absurd t
+bind_places (inside q) c k (opened s) r h t = absurd (free_there h)
+bind_places here c k (bound d fs s) r h t = not_free h
+bind_places (after q) c k (bound d fs s) here h t = inl tt
+bind_places (after q) c k (bound d fs s) (after r) h t = further after (bind_places q c k s r h t)
+bind_places (after q) c k (bound d fs s) (inside r) h t = inl t
+bind_places (inside q) c k (bound d fs s) here h t = inl tt
+bind_places (inside q) c k (bound d fs s) (after r) h t = inl t
+bind_places (inside q) c k (bound d fs s) (inside r) h t = further inside (bind_places q c k fs r h t)
 
 -- any other place that was there is as before
 pub bind_elsewhere : (q : Place) (c k : ℕ) (e : Parts) (r : Place) → There (at e r) → r ≢ q → at (bind_at q c k e) r ≡ at e r
@@ -141,38 +141,38 @@ bind_elsewhere (inside q) c k (bound d fs s) (after r) t n = refl
 bind_elsewhere (inside q) c k (bound d fs s) (inside r) t n = bind_elsewhere q c k fs r t (λ e. n (ap inside e))
 
 -- every place that was there has its slot
-pub bind-slot :
+pub bind_slot :
     (types : Types) (q : Place) (c k : ℕ) (e : Parts) (r : Place) (ss : List Slot) → There (at e r)
     → slot_at types (bind_at q c k e) r ss ≡ slot_at types e r ss
 unfolding at bind_at slot_at
-bind-slot types q c k end r ss t = refl
-bind-slot types here c k (opened s) here ss t = refl
-bind-slot types here c k (opened s) (after r) ss t = refl
-bind-slot types here c k (opened s) (inside r) ss t = absurd t
-bind-slot types (after q) c k (opened s) here ss t = refl
-bind-slot types (after q) c k (opened s) (after r) ss t = bind-slot types q c k s r (tail ss) t
-bind-slot types (after q) c k (opened s) (inside r) ss t = refl
-bind-slot types (inside q) c k (opened s) r ss t = refl
-bind-slot types here c k (bound d fs s) r ss t = refl
-bind-slot types (after q) c k (bound d fs s) here ss t = refl
-bind-slot types (after q) c k (bound d fs s) (after r) ss t = bind-slot types q c k s r (tail ss) t
-bind-slot types (after q) c k (bound d fs s) (inside r) ss t = refl
-bind-slot types (inside q) c k (bound d fs s) here ss t = refl
-bind-slot types (inside q) c k (bound d fs s) (after r) ss t = refl
-bind-slot types (inside q) c k (bound d fs s) (inside r) ss t = bind-slot types q c k fs r (field_slots types (head? ss) d) t
+bind_slot types q c k end r ss t = refl
+bind_slot types here c k (opened s) here ss t = refl
+bind_slot types here c k (opened s) (after r) ss t = refl
+bind_slot types here c k (opened s) (inside r) ss t = absurd t
+bind_slot types (after q) c k (opened s) here ss t = refl
+bind_slot types (after q) c k (opened s) (after r) ss t = bind_slot types q c k s r (tail ss) t
+bind_slot types (after q) c k (opened s) (inside r) ss t = refl
+bind_slot types (inside q) c k (opened s) r ss t = refl
+bind_slot types here c k (bound d fs s) r ss t = refl
+bind_slot types (after q) c k (bound d fs s) here ss t = refl
+bind_slot types (after q) c k (bound d fs s) (after r) ss t = bind_slot types q c k s r (tail ss) t
+bind_slot types (after q) c k (bound d fs s) (inside r) ss t = refl
+bind_slot types (inside q) c k (bound d fs s) here ss t = refl
+bind_slot types (inside q) c k (bound d fs s) (after r) ss t = refl
+bind_slot types (inside q) c k (bound d fs s) (inside r) ss t = bind_slot types q c k fs r (field_slots types (head? ss) d) t
 
 -- field j has the j-th slot of the constructor's fields
-pub bind-field-slot :
+pub bind_field_slot :
     (types : Types) (q : Place) (c k j : ℕ) (e : Parts) (ss : List Slot) → at e q ≡ free → j < k
     → slot_at types (bind_at q c k e) (field q j) ss ≡ get_elem? (field_slots types (slot_at types e q ss) c) j
 unfolding at bind_at slot_at within
-bind-field-slot types q c k j end ss h l = absurd (free_there h)
-bind-field-slot types here c k j (opened r) ss h l = open_slot types k j (field_slots types (head? ss) c) l
-bind-field-slot types (after q) c k j (opened r) ss h l = bind-field-slot types q c k j r (tail ss) h l
-bind-field-slot types (inside q) c k j (opened r) ss h l = absurd (free_there h)
-bind-field-slot types here c k j (bound d fs r) ss h l = not_free h
-bind-field-slot types (after q) c k j (bound d fs r) ss h l = bind-field-slot types q c k j r (tail ss) h l
-bind-field-slot types (inside q) c k j (bound d fs r) ss h l = bind-field-slot types q c k j fs (field_slots types (head? ss) d) h l
+bind_field_slot types q c k j end ss h l = absurd (free_there h)
+bind_field_slot types here c k j (opened r) ss h l = open_slot types k j (field_slots types (head? ss) c) l
+bind_field_slot types (after q) c k j (opened r) ss h l = bind_field_slot types q c k j r (tail ss) h l
+bind_field_slot types (inside q) c k j (opened r) ss h l = absurd (free_there h)
+bind_field_slot types here c k j (bound d fs r) ss h l = not_free h
+bind_field_slot types (after q) c k j (bound d fs r) ss h l = bind_field_slot types q c k j r (tail ss) h l
+bind_field_slot types (inside q) c k j (bound d fs r) ss h l = bind_field_slot types q c k j fs (field_slots types (head? ss) d) h l
 
 -- a row of n open parts has n parts
 open_length : (n : ℕ) → length (prefix (all_open n)) ≡ n
@@ -226,19 +226,19 @@ pub bind_keeps : {w w' us : List ℕ} {x c top k d : ℕ} → Binds w w' x c top
 bind_keeps binds = record { kept = λ i below a b. binds.elsewhere i a b (λ h. absurd (omega arith)) }
 
 -- binding refines exactly one place and moves no other: every part stays in its cell, and the fields are the cells from the old top on
-pub bind-walks :
+pub bind_walks :
     {types : Types} {ss : List Slot} {w w' us : List ℕ} {top c k d : ℕ} {e : Parts} (q : Place) → Cells types ss w top e → at e q ≡ free
     → Binds w w' (cell_of w q) c top k us d → Unmoved w w' e × ((j : ℕ) → cell_of w' (field q j) ≡ top + j)
-bind-walks {w' = w'} q cells unbound binds =
+bind_walks {w' = w'} q cells unbound binds =
     let old = unmoved q cells unbound (bind_keeps binds) in
     (old, λ j. walk_field w' q j ∙ rw (old q (free_there unbound), binds.first_field))
 
 -- the words after a bind stand for the input with the part bound
-pub bind-cells :
+pub bind_cells :
     {types : Types} {ss : List Slot} {w w' us : List ℕ} {top c k d : ℕ} {e : Parts} {s : Slot} (q : Place) → Cells types ss w top e → at e q ≡ free
     → slot_at types e q ss ≡ some s → s.room ≡ suc d → field_types types s.type c ≡ some us → 5 * (top + k) ≤ length w
     → Binds w w' (cell_of w q) c top k us d → Cells types ss w' (top + k) (bind_at q c k e)
-bind-cells {types} {ss} {w} {w'} {us} {top} {c} {k} {d} {e} {s} q cells unbound known room typed fits binds = record {
+bind_cells {types} {ss} {w} {w'} {us} {top} {c} {k} {d} {e} {s} q cells unbound known room typed fits binds = record {
   fits = rw binds.same_length fits;
   counted = bind_length_exact q c k e unbound ∙ ap (λ n. n + k) cells.counted;
   in_use = λ r t. use_of r (places r t);
@@ -252,13 +252,13 @@ bind-cells {types} {ss} {w} {w'} {us} {top} {c} {k} {d} {e} {s} q cells unbound 
     keeps = bind_keeps binds
 
     old : Unmoved w w' e
-    old = (bind-walks q cells unbound binds).0
+    old = (bind_walks q cells unbound binds).0
 
     new : (r : Place) (f : OneOf k (field q) r) → cell_of w' r ≡ top + f.0
-    new r f = ap (cell_of w') f.2 ∙ (bind-walks q cells unbound binds).1 f.0
+    new r f = ap (cell_of w') f.2 ∙ (bind_walks q cells unbound binds).1 f.0
 
     places : (r : Place) → There (at (bind_at q c k e) r) → There (at e r) ⊎ OneOf k (field q) r
-    places r t = bind-places q c k e r unbound t
+    places r t = bind_places q c k e r unbound t
 
     use_of : (r : Place) → There (at e r) ⊎ OneOf k (field q) r → cell_of w' r < top + k
     use_of r (inl t) = omega (arith, old r t, cells.in_use r t)
@@ -286,19 +286,19 @@ bind-cells {types} {ss} {w} {w'} {us} {top} {c} {k} {d} {e} {s} q cells unbound 
         rw (same, old q (free_there unbound), ← number) binds.new_head
 
     field_slot : (r : Place) (f : OneOf k (field q) r) → slot_at types (bind_at q c k e) r ss ≡ get_elem? (even_slots us d) f.0
-    field_slot r f = rw (f.2, ← field_slots_law types s c d us (omega (arith, room)) typed, ← known) (bind-field-slot types q c k f.0 e ss unbound f.1)
+    field_slot r f = rw (f.2, ← field_slots_law types s c d us (omega (arith, room)) typed, ← known) (bind_field_slot types q c k f.0 e ss unbound f.1)
 
     slot_of : (r : Place) (z : Slot) → slot_at types (bind_at q c k e) r ss ≡ some z → There (at e r) ⊎ OneOf k (field q) r → SlotIn w' (cell_of w' r) z
     slot_of r z h (inl t) =
-        let before = cells.slot r z t (sym (bind-slot types q c k e r ss t) ∙ h) in
+        let before = cells.slot r z t (sym (bind_slot types q c k e r ss t) ∙ h) in
         let kept = slot_kept q cells unbound keeps r t in
         rw (old r t) (kept 2 (omega arith) (omega arith) ∙ before.0, kept 3 (omega arith) (omega arith) ∙ before.1)
     slot_of r z h (inr f) = rw (new r f) (binds.fields.slot_of f.0 f.1 z (sym (field_slot r f) ∙ h))
 
 -- open cells from cell 0 on stand for the input with every parameter open
-pub start-cells :
+pub start_cells :
     {types : Types} {ss : List Slot} {w : List ℕ} {n : ℕ} → 5 * n ≤ length w → OpenCells w 0 n ss → Cells types ss w n (all_open n)
-start-cells {types} {ss} {w} {n} fits cells = record {
+start_cells {types} {ss} {w} {n} fits cells = record {
   fits = fits;
   counted = open_length n;
   in_use = λ r t. use_of r (open_places n r t);
@@ -330,10 +330,10 @@ start-cells {types} {ss} {w} {n} fits cells = record {
 -- Words that stand for the input as before.
 
 -- every part is in its cell, and all words of its cell but word 1 are as before
-same-cells :
+same_cells :
     {types : Types} {ss : List Slot} {w w' : List ℕ} {top : ℕ} {e : Parts} → Cells types ss w top e → 5 * top ≤ length w' → Unmoved w w' e
     → ((r : Place) → There (at e r) → (n : ℕ) → n < 5 → n ≢ 1 → cell_word w' (cell_of w r) n ≡ cell_word w (cell_of w r) n) → Cells types ss w' top e
-same-cells cells fits old same = record {
+same_cells cells fits old same = record {
   fits = fits;
   counted = cells.counted;
   in_use = λ r t. rw (old r t) (cells.in_use r t);
@@ -344,10 +344,10 @@ same-cells cells fits old same = record {
 }
 
 -- what is written above the cells in use changes nothing
-pub kept-cells :
+pub kept_cells :
     {types : Types} {ss : List Slot} {w : List ℕ} (w' : List ℕ) {top : ℕ} {e : Parts} → Cells types ss w top e → 5 * top ≤ length w'
     → ((i : ℕ) → i < 5 * top → get_or w' i 0 ≡ get_or w i 0) → Unmoved w w' e × Cells types ss w' top e
-kept-cells {w = w} w' {e = e} cells fits kept = (old, same-cells cells fits old (λ r t n l other. same r t n l))
+kept_cells {w = w} w' {e = e} cells fits kept = (old, same_cells cells fits old (λ r t n l other. same r t n l))
   where
     same : (r : Place) → There (at e r) → (n : ℕ) → n < 5 → cell_word w' (cell_of w r) n ≡ cell_word w (cell_of w r) n
     same r t n l = kept (5 * cell_of w r + n) (omega (arith, cells.in_use r t))
@@ -356,11 +356,11 @@ kept-cells {w = w} w' {e = e} cells fits kept = (old, same-cells cells fits old 
     old = walk_kept w w' 0 e (λ r c k h. same r (has_there h) 1 (omega arith))
 
 -- to open a part again its head is set to 0: the words then stand for the input before the bind, with the cells that were in use before it
-pub open-cells :
+pub open_cells :
     {types : Types} {ss : List Slot} {w w' : List ℕ} {top : ℕ} {e : Parts} (q : Place) → Cells types ss w top e → at e q ≡ free → 5 * top ≤ length w'
     → KeptBut w w' (cell_of w q) top → cell_word w' (cell_of w q) 0 ≡ 0 → Unmoved w w' e × Cells types ss w' top e
-open-cells {w = w} {w' = w'} {e = e} q cells unbound fits keeps cleared =
-    (old, same-cells cells fits old (λ r t n l. same r t (ℕ_discrete (cell_of w r) (cell_of w q)) n l))
+open_cells {w = w} {w' = w'} {e = e} q cells unbound fits keeps cleared =
+    (old, same_cells cells fits old (λ r t n l. same r t (ℕ_discrete (cell_of w r) (cell_of w q)) n l))
   where
     old : Unmoved w w' e
     old = unmoved q cells unbound keeps
@@ -382,10 +382,10 @@ head_open {e = e} cells r t head = by_seen (at e r) refl t
     by_seen free h t = h
     by_seen (has c k) h t = absurd (omega (arith, head, cells.head_bound r c k h))
 
-pub head-constructor :
+pub head_constructor :
     {types : Types} {ss : List Slot} {w : List ℕ} {top : ℕ} {e : Parts} → Cells types ss w top e → (r : Place) → There (at e r) → (c : ℕ)
     → cell_word w (cell_of w r) 0 ≡ suc c → HasAt e r c
-head-constructor {e = e} cells r t c head = by_seen (at e r) refl t
+head_constructor {e = e} cells r t c head = by_seen (at e r) refl t
   where
     by_seen : (s : Seen) → at e r ≡ s → There s → HasAt e r c
     by_seen gone h t = absurd t

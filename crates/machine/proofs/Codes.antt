@@ -13,9 +13,9 @@ use Rattle.reach.specs.RuleFile.{Head, Declarations}
 use Rattle.reach.specs.Encoding.{encode, ByteAt, count_alternatives, nesting}
 use Rattle.reach.specs.Eval.{Env, Frame, State, evaluating, uncovered, choose}
 use Rattle.reach.proofs.Base.{clash}
-use Rattle.codes.proofs.Encoding.{stands_variable, stands_call, stands-construct, stands-case, stands-let, stands_target, stands_next, stands_absent, stands-present, skipped-finds, BodyAt}
+use Rattle.codes.proofs.Encoding.{stands_variable, stands_call, stands_construct, stands_case, stands_let, stands_target, stands_next, stands_absent, stands_present, skipped_finds, BodyAt}
 use Rattle.machine.specs.Records.{Code, CodeAll, CodeAlternatives}
-use Rattle.machine.specs.Walks.{Behind, OperandAt, this_operand, later_operand, ChosenAt, none_chosen, this_chosen, past_absent, past-present}
+use Rattle.machine.specs.Walks.{Behind, OperandAt, this_operand, later_operand, ChosenAt, none_chosen, this_chosen, past_absent, past_present}
 
 -- the kinds of expression, by the code that is their first byte
 pub data Coded : ℕ → Expr → Type 0 where
@@ -37,7 +37,7 @@ coded_known k e a_target = omega arith
 module _ (file : List ℕ) (o : Declarations) where
   -- the place behind an expression is found by passing over it
   pub code_behind : (i : ℕ) (e : Expr) → Code file o i e → Behind file o i (i + length (encode e))
-  code_behind i e code = skipped-finds o nesting_limit file i e code.1 code.0 code.2
+  code_behind i e code = skipped_finds o nesting_limit file i e code.1 code.0 code.2
 
   -- so what holds of the place behind it holds of the place that was found
   found_behind : (P : ℕ → Type 0) (i : ℕ) (e : Expr) → Code file o i e → P (i + length (encode e)) → (next : ℕ) → Behind file o i next → P next
@@ -58,30 +58,30 @@ module _ (file : List ℕ) (o : Declarations) where
         let at = stands_call file i f es code.0 in
         (at.0, at.1, (at.2, code.1.3, omega (arith, code.2)))
 
-    pub code-construct :
+    pub code_construct :
         (t c : ℕ) (es : Exprs) → Code file o i (construct t c es)
         → ByteAt file i 2 × ByteAt file (i + 1) t × ByteAt file (i + 2) c × CodeAll file o (i + 3) es
     unfolding nesting
-    code-construct t c es code =
-        let at = stands-construct file i t c es code.0 in
+    code_construct t c es code =
+        let at = stands_construct file i t c es code.0 in
         (at.0, at.1, at.2, (at.3, code.1.3, omega (arith, code.2)))
 
-    pub code-case :
+    pub code_case :
         (t : ℕ) (e : Expr) (alts : Alternatives) → Code file o i (case t e alts)
         → ByteAt file i 3 × ByteAt file (i + 1) t × Code file o (i + 2) e × ((next : ℕ) → Behind file o (i + 2) next → CodeAlternatives file o next alts)
     unfolding nesting
-    code-case t e alts code =
-        let at = stands-case file i t e alts code.0 in
+    code_case t e alts code =
+        let at = stands_case file i t e alts code.0 in
         let first : Code file o (i + 2) e = (at.2, code.1.3, omega (arith, code.2)) in
         let rest : CodeAlternatives file o (i + 2 + length (encode e)) alts = (at.3, code.1.4, omega (arith, code.2)) in
         (at.0, at.1, first, found_behind (λ k. CodeAlternatives file o k alts) (i + 2) e first rest)
 
-    pub code-let :
+    pub code_let :
         (t : ℕ) (e b : Expr) → Code file o i (let_in t e b)
         → ByteAt file i 4 × ByteAt file (i + 1) t × Code file o (i + 2) e × ((next : ℕ) → Behind file o (i + 2) next → Code file o next b)
     unfolding nesting
-    code-let t e b code =
-        let at = stands-let file i t e b code.0 in
+    code_let t e b code =
+        let at = stands_let file i t e b code.0 in
         let first : Code file o (i + 2) e = (at.2, code.1.1, omega (arith, code.2)) in
         let rest : Code file o (i + 2 + length (encode e)) b = (at.3, code.1.2, omega (arith, code.2)) in
         (at.0, at.1, first, found_behind (λ k. Code file o k b) (i + 2) e first rest)
@@ -96,9 +96,9 @@ module _ (file : List ℕ) (o : Declarations) where
     pub code_kind : (e : Expr) → Code file o i e → (i < length file) × Coded (get_or file i 0) e
     code_kind (variable n) code = let at = code_variable n code in (at.0.0, rw at.0.1 a_variable)
     code_kind (call f es) code = let at = code_call f es code in (at.0.0, rw at.0.1 a_call)
-    code_kind (construct t c es) code = let at = code-construct t c es code in (at.0.0, rw at.0.1 a_construct)
-    code_kind (case t e alts) code = let at = code-case t e alts code in (at.0.0, rw at.0.1 a_case)
-    code_kind (let_in t e b) code = let at = code-let t e b code in (at.0.0, rw at.0.1 a_let)
+    code_kind (construct t c es) code = let at = code_construct t c es code in (at.0.0, rw at.0.1 a_construct)
+    code_kind (case t e alts) code = let at = code_case t e alts code in (at.0.0, rw at.0.1 a_case)
+    code_kind (let_in t e b) code = let at = code_let t e b code in (at.0.0, rw at.0.1 a_let)
     code_kind (target l e) code = let at = code_target l e code in (at.0.0, rw at.0.1 a_target)
 
     -- an expression is a row of one operand
@@ -121,12 +121,12 @@ module _ (file : List ℕ) (o : Declarations) where
         let at = stands_absent file i alts code.0 in
         (at.0, (at.1, code.1, code.2))
 
-    pub code-present :
+    pub code_present :
         (e : Expr) (alts : Alternatives) → CodeAlternatives file o i (present e alts)
         → ByteAt file i 1 × Code file o (i + 1) e × ((next : ℕ) → Behind file o (i + 1) next → CodeAlternatives file o next alts)
     unfolding nesting
-    code-present e alts code =
-        let at = stands-present file i e alts code.0 in
+    code_present e alts code =
+        let at = stands_present file i e alts code.0 in
         let first : Code file o (i + 1) e = (at.1, code.1.0, omega (arith, code.2)) in
         let rest : CodeAlternatives file o (i + 1 + length (encode e)) alts = (at.2, code.1.1, omega (arith, code.2)) in
         (at.0, first, found_behind (λ k. CodeAlternatives file o k alts) (i + 1) e first rest)
@@ -150,22 +150,22 @@ module _ (file : List ℕ) (o : Declarations) where
         let at = code_absent i alts code in
         past_absent at.0 (chosen_at (i + 1) c alts at.1 (omega arith))
     chosen_at i zero (present e alts) code known =
-        let at = code-present i e alts code in
+        let at = code_present i e alts code in
         this_chosen e at.0 at.1
     chosen_at i (suc c) (present e alts) code known =
-        let at = code-present i e alts code in
-        past-present e at.0 at.1 (λ next passed. chosen_at next c alts (at.2 next passed) (omega arith))
+        let at = code_present i e alts code in
+        past_present e at.0 at.1 (λ next passed. chosen_at next c alts (at.2 next passed) (omega arith))
 
     -- with none left to pass over: it is missing, or its expression stands behind the byte
     pub chosen_missing : (i c : ℕ) (s : State) → ChosenAt file o env fs i c s → c ≡ 0 → get_or file i 0 ≡ 0 → s ≡ uncovered
     chosen_missing i c s (none_chosen b) none_left zero-byte = refl
     chosen_missing i c s (this_chosen e b code) none_left zero-byte = absurd (clash (omega (arith, b.1)))
     chosen_missing i c s (past_absent b rest) none_left zero-byte = absurd (clash (omega arith))
-    chosen_missing i c s (past-present e b code rest) none_left zero-byte = absurd (clash (omega arith))
+    chosen_missing i c s (past_present e b code rest) none_left zero-byte = absurd (clash (omega arith))
 
-    pub chosen-present :
+    pub chosen_present :
         (i c : ℕ) (s : State) → ChosenAt file o env fs i c s → c ≡ 0 → (get_or file i 0 ≡ 0 → ⊥) → (e : Expr) × (s ≡ evaluating e env fs) × Code file o (i + 1) e
-    chosen-present i c s (none_chosen b) none_left other = absurd (other b.1)
-    chosen-present i c s (this_chosen e b code) none_left other = (e, refl, code)
-    chosen-present i c s (past_absent b rest) none_left other = absurd (other b.1)
-    chosen-present i c s (past-present e b code rest) none_left other = absurd (clash (omega arith))
+    chosen_present i c s (none_chosen b) none_left other = absurd (other b.1)
+    chosen_present i c s (this_chosen e b code) none_left other = (e, refl, code)
+    chosen_present i c s (past_absent b rest) none_left other = absurd (other b.1)
+    chosen_present i c s (past_present e b code rest) none_left other = absurd (clash (omega arith))

@@ -18,7 +18,7 @@ use Rattle.reach.specs.Eval.{Row, part_of, Env, empty, operands, input_parts, si
 use Rattle.reach.proofs.Base.{clash}
 use Rattle.reach.specs.States.{EnvIn, FramesIn, StateIn}
 use Rattle.machine.specs.Records.{record_word, RecordIs, CodeAll, CodeAlternatives, Control, environment_of, no_case, FrameBelow, EnvAt, empty_at, operands_at_law, parts_at, FramesAt, none_at, waiting_at, fields_at, StateAt, evaluating_at, inspecting_at, missing_at}
-use Rattle.machine.specs.Walks.{OperandAt, outside_of, VariableAt, outside, in_parts, in-operands}
+use Rattle.machine.specs.Walks.{OperandAt, outside_of, VariableAt, outside, in_parts, in_operands}
 use Rattle.machine.proofs.Codes.{operand_at}
 
 -- the words of the first t records are as before
@@ -54,19 +54,19 @@ module _
         fields_at (holds_kept w w' base t same (omega arith) holds) small a<r f<r many code (env_kept (omega arith) env there.0) (frames_kept (omega arith, f<r.1) rest there.1)
 
     -- the record that the control names is one of those, or it names none
-    pub state-kept :
+    pub state_kept :
         {c : Control} {f : ℕ} {s : State} → environment_of c < t → FrameBelow f t → StateAt file o w base cell c f s → StateIn e s
         → StateAt file o w' base cell' c f s
-    state-kept below f<t (evaluating_at code env frames) there = evaluating_at code (env_kept below env there.0) (frames_kept f<t frames there.1)
-    state-kept below f<t (inspecting_at {q = q} is frames) there = inspecting_at (cells q there.0 ∙ is) (frames_kept f<t frames there.1)
-    state-kept below f<t missing_at there = missing_at
+    state_kept below f<t (evaluating_at code env frames) there = evaluating_at code (env_kept below env there.0) (frames_kept f<t frames there.1)
+    state_kept below f<t (inspecting_at {q = q} is frames) there = inspecting_at (cells q there.0 ∙ is) (frames_kept f<t frames there.1)
+    state_kept below f<t missing_at there = missing_at
 
     -- Adding: record t is written behind them, as operands, as input parts, or as a waiting case.
-    pub operands-added :
+    pub operands_added :
         {a b i n : ℕ} {outer inner : Env} {es : Exprs} → RecordIs w' base t a n i (suc b) → a < t → b < t → n ≡ size outer + count es
         → EnvAt file o w base cell a outer → EnvIn e outer → EnvAt file o w base cell b inner → EnvIn e inner → CodeAll file o i es
         → EnvAt file o w' base cell' t (operands outer es inner)
-    operands-added holds a<t b<t n outer outer-in inner inner-in code =
+    operands_added holds a<t b<t n outer outer-in inner inner-in code =
         operands_at_law holds a<t b<t n (env_kept a<t outer outer-in) (env_kept b<t inner inner-in) code
 
     pub parts_added :
@@ -75,18 +75,18 @@ module _
         → EnvAt file o w' base cell' t (input_parts outer row k)
     parts_added holds a<t n outer outer-in parts = parts_at holds a<t n (env_kept a<t outer outer-in) parts
 
-    pub waiting-added :
+    pub waiting_added :
         {i a f : ℕ} {alts : Alternatives} {env : Env} {fs : List Frame} → RecordIs w' base t i 0 a f → t < no_case → a < t → FrameBelow f t
         → CodeAlternatives file o i alts → EnvAt file o w base cell a env → EnvIn e env → FramesAt file o w base cell f fs → FramesIn e fs
         → FramesAt file o w' base cell' t (waiting alts env ∷ fs)
-    waiting-added holds small a<t f<t code env env_in frames frames_in =
+    waiting_added holds small a<t f<t code env env_in frames frames_in =
         waiting_at holds small a<t f<t code (env_kept a<t env env_in) (frames_kept f<t frames frames_in)
 
-    pub fields-added :
+    pub fields_added :
         {i n a f : ℕ} {x : Expr} {xs : Exprs} {env : Env} {fs : List Frame} → RecordIs w' base t i n a f → t < no_case → a < t → FrameBelow f t → n ≡ suc (count xs)
         → CodeAll file o i (x ∷ₑ xs) → EnvAt file o w base cell a env → EnvIn e env → FramesAt file o w base cell f fs → FramesIn e fs
         → FramesAt file o w' base cell' (no_case + t) (fields x xs env ∷ fs)
-    fields-added holds small a<t f<t many code env env_in frames frames_in =
+    fields_added holds small a<t f<t many code env env_in frames frames_in =
         fields_at holds small a<t f<t many code (env_kept a<t env env_in) (frames_kept f<t frames frames_in)
 
 -- Variables.
@@ -135,27 +135,27 @@ module _ (file : List ℕ) (o : Declarations) (w : List ℕ) (base : ℕ) (cell 
   pub variable_outer : (n r : ℕ) (x : Closure) → VariableAt file o w base cell n r x → record_word w base r 0 < r
   variable_outer n r x (outside a<r below rest) = a<r
   variable_outer n r x (in_parts a<r past mark is) = a<r
-  variable_outer n r x (in-operands a<r past mark b<r inner operand) = a<r
+  variable_outer n r x (in_operands a<r past mark b<r inner operand) = a<r
 
   pub variable_outside : (n r : ℕ) (x : Closure) → VariableAt file o w base cell n r x → n < outside_of w base r → VariableAt file o w base cell n (record_word w base r 0) x
   variable_outside n r x (outside a<r below rest) out = rest
   variable_outside n r x (in_parts a<r past mark is) out = absurd (clash (omega arith))
-  variable_outside n r x (in-operands a<r past mark b<r inner operand) out = absurd (clash (omega arith))
+  variable_outside n r x (in_operands a<r past mark b<r inner operand) out = absurd (clash (omega arith))
 
-  pub variable-part :
+  pub variable_part :
       (n r : ℕ) (x : Closure) → VariableAt file o w base cell n r x → outside_of w base r ≤ n → record_word w base r 3 ≡ 0
       → (q : Place) × (x ≡ input_part q) × (cell q ≡ record_word w base r 2 + (n - outside_of w base r))
-  variable-part n r x (outside a<r below rest) here zero-mark = absurd (clash (omega arith))
-  variable-part n r x (in_parts {q = q} a<r past mark is) here zero-mark = (q, refl, is)
-  variable-part n r x (in-operands a<r past mark b<r inner operand) here zero-mark = absurd (clash (omega arith))
+  variable_part n r x (outside a<r below rest) here zero-mark = absurd (clash (omega arith))
+  variable_part n r x (in_parts {q = q} a<r past mark is) here zero-mark = (q, refl, is)
+  variable_part n r x (in_operands a<r past mark b<r inner operand) here zero-mark = absurd (clash (omega arith))
 
-  pub variable-operand :
+  pub variable_operand :
       (n r : ℕ) (x : Closure) → VariableAt file o w base cell n r x → outside_of w base r ≤ n → (record_word w base r 3 ≡ 0 → ⊥)
       → (e : Expr) × (inner : Env) × (x ≡ suspended e inner) × (record_word w base r 3 - 1 < r) × EnvAt file o w base cell (record_word w base r 3 - 1) inner
       × OperandAt file o (record_word w base r 2) (n - outside_of w base r) e
-  variable-operand n r x (outside a<r below rest) here other = absurd (clash (omega arith))
-  variable-operand n r x (in_parts a<r past mark is) here other = absurd (other mark)
-  variable-operand n r x (in-operands {b = b} {e = e} {inner = env} a<r past mark b<r inner operand) here other =
+  variable_operand n r x (outside a<r below rest) here other = absurd (clash (omega arith))
+  variable_operand n r x (in_parts a<r past mark is) here other = absurd (other mark)
+  variable_operand n r x (in_operands {b = b} {e = e} {inner = env} a<r past mark b<r inner operand) here other =
       let z : record_word w base r 3 - 1 ≡ b = omega arith in
       (e, env, refl, omega arith, rw z inner, operand)
 
@@ -178,7 +178,7 @@ module _ (file : List ℕ) (o : Declarations) (w : List ℕ) (base : ℕ) (cell 
         (λ past.
         let found = suspended_some (nth_expr es (n - size out)) in' x (rw (le-ltb n (size out) past) at is) in
         subst (VariableAt file o w base cell n r) found.2
-        (in-operands {r = r} (rw holds.word_0 a<r) (rw view past) holds.word_3 b<r inner
+        (in_operands {r = r} (rw holds.word_0 a<r) (rw view past) holds.word_3 b<r inner
         (rw (holds.word_2, view) (operand_at file o i (n - size out) es found.0 code found.1))))
     variable_at_law {r} n x (parts_at {k = k} {outer = out} {row = row} holds a<r many outer parts) is =
         let view : outside_of w base r ≡ size out = rw holds.word_0 (count_word outer) in

@@ -27,7 +27,7 @@ module _ (file : List ℕ) (o : Declarations) where
       none_chosen : {i : ℕ} → ByteAt file i 0 → ChosenAt i zero uncovered
       this_chosen : {i : ℕ} (e : Expr) → ByteAt file i 1 → Code file o (i + 1) e → ChosenAt i zero (evaluating e env fs)
       past_absent : {i c : ℕ} {s : State} → ByteAt file i 0 → ChosenAt (i + 1) c s → ChosenAt i (suc c) s
-      past-present :
+      past_present :
           {i c : ℕ} {s : State} (e : Expr) → ByteAt file i 1 → Code file o (i + 1) e → ((next : ℕ) → Behind (i + 1) next → ChosenAt next c s)
           → ChosenAt i (suc c) s
 
@@ -43,6 +43,6 @@ module _ (file : List ℕ) (o : Declarations) (w : List ℕ) (base : ℕ) (cell 
     in_parts :
         {r : ℕ} {q : Place} → record_word w base r 0 < r → outside_of w base r ≤ n → record_word w base r 3 ≡ 0
         → cell q ≡ record_word w base r 2 + (n - outside_of w base r) → VariableAt n r (input_part q)
-    in-operands :
+    in_operands :
         {r b : ℕ} {e : Expr} {inner : Env} → record_word w base r 0 < r → outside_of w base r ≤ n → record_word w base r 3 ≡ suc b → b < r
         → EnvAt file o w base cell b inner → OperandAt file o (record_word w base r 2) (n - outside_of w base r) e → VariableAt n r (suspended e inner)

@@ -28,27 +28,27 @@ use Rattle.registers.specs.declared.Next.{Next}
 use Rattle.registers.specs.declared.Next.TheVariants as Next
 use Rattle.registers.specs.Stepping.{part_kind, StepMeans, Stepped}
 use Rattle.choosing.specs.Entering.{AtBoundPart}
-use Rattle.registers.proofs.Waiting.{waits-control}
+use Rattle.registers.proofs.Waiting.{waits_control}
 use Rattle.points.specs.Points.{choice_word, reopened}
 use Rattle.choices.specs.Choices.{Setting, Given, waiting_state_at, Path, ChoicesAt}
 use Rattle.choices.specs.Weights.{power, weight}
 use Rattle.choices.specs.Returning.{setting}
-use Rattle.choices.proofs.Keeping.{reopened_other, there, cell_below, choices_kept, choices-more}
-use Rattle.choices.proofs.Taking.{path_taken, goes_taken, choices-taken, step_kept, path-goes}
-use Rattle.choices.proofs.Weights.{weight-kept, weight-taken}
+use Rattle.choices.proofs.Keeping.{reopened_other, there, cell_below, choices_kept, choices_more}
+use Rattle.choices.proofs.Taking.{path_taken, goes_taken, choices_taken, step_kept, path_goes}
+use Rattle.choices.proofs.Weights.{weight_kept, weight_taken}
 use Rattle.choices.proofs.Returning.{height_small, long, cells_small}
 use Rattle.arriving.specs.Moving.{UnderWay, OnPath, Forking, Takes}
-use Rattle.arriving.proofs.Arriving.{step-standing}
+use Rattle.arriving.proofs.Arriving.{step_standing}
 
 -- the model's fork, where the choice point's numbers are known
-take-is :
+take_is :
     (p : Program) (table : List ℕ) (c : Choice) (n k left done : ℕ) (rest : List Rattle.reach.specs.Types.Fork) (before : List Choice) (es : List Entry)
     → c.left ≡ left → c.done ≡ done
     → take_fork p table c (record { constructor = n; fields = k }) rest before es
     ≡ Model.arrive p table left done (bind_at c.question.place n k c.input) (answered c.question n k)
     (record { question = c.question; left = c.left; done = c.done; input = c.input; untried = rest } ∷ before) es
 unfolding take_fork
-take-is p table c n k left done rest before es is-left is-done =
+take_is p table c n k left done rest before es is-left is-done =
     ap (λ (l : ℕ). Model.arrive p table l c.done (bind_at c.question.place n k c.input) (answered c.question n k) (record { question = c.question; left = c.left; done = c.done; input = c.input; untried = rest } ∷ before) es) is-left
     ∙ ap (λ (d : ℕ). Model.arrive p table left d (bind_at c.question.place n k c.input) (answered c.question n k) (record { question = c.question; left = c.left; done = c.done; input = c.input; untried = rest } ∷ before) es) is-done
 
@@ -114,11 +114,11 @@ module _ {g : Setting} (given : Given g) {w : List ℕ} {h n i k : ℕ} (f : For
 
     choices₁ : ChoicesAt g w₁ (suc h) (choice_word g.stack w h 4 + k) (choice_word g.stack w h 3) (afterwards ∷ f.before)
     choices₁ =
-        choices-taken given f.next_at.choice_at f.next_at.known many few f.next_at.deep binds afterwards refl refl refl refl f.next_at.rest-is f.before_at
+        choices_taken given f.next_at.choice_at f.next_at.known many few f.next_at.deep binds afterwards refl refl refl refl f.next_at.rest_is f.before_at
 
     lighter₁ : weight g.stack g.limit w₁ (suc h) + power (g.limit - suc d) ≤ weight g.stack g.limit w (suc h)
     lighter₁ =
-        weight-taken given f.next_at.choice_at f.next_at.known many few f.next_at.deep binds f.before_at f.next_at.from f.next_at.small
+        weight_taken given f.next_at.choice_at f.next_at.known many few f.next_at.deep binds f.before_at f.next_at.from f.next_at.small
 
     in_time₁ : d ≤ g.limit
     in_time₁ = omega (arith, f.next_at.choice_at.in_time)
@@ -135,9 +135,9 @@ module _ {g : Setting} (given : Given g) {w : List ℕ} {h n i k : ℕ} (f : For
     -- its case goes on with it
     pub take_bound : AtBoundPart g.file g.types g.functions w₁ g.base x (waiting_state_at g.stack w h) n k (choice_word g.stack w h 4)
     take_bound = record {
-      standing = step-standing given path₁;
+      standing = step_standing given path₁;
       is_part = refl;
-      case_waits = (waits-control f.next_at.choice_at.path.stands f.next_at.choice_at.asks).1;
+      case_waits = (waits_control f.next_at.choice_at.path.stands f.next_at.choice_at.asks).1;
       head_is = binds.new_head;
       first_is = binds.first_field;
       fields = counted;
@@ -152,7 +152,7 @@ module _ {g : Setting} (given : Given g) {w : List ℕ} {h n i k : ℕ} (f : For
 
       module _ {to : Registers} (is : next ≡ Next.Goes to) where
         kept₂ : weight g.stack g.limit w₂ (suc h) ≡ weight g.stack g.limit w₁ (suc h)
-        kept₂ = weight-kept w₂ choices₁ (step_kept given path₁ in_time₁ stepped.only_top (suc h))
+        kept₂ = weight_kept w₂ choices₁ (step_kept given path₁ in_time₁ stepped.only_top (suc h))
 
         pub under : UnderWay g w₂ (choice_word g.stack w h 4 + k) (d + 1) (h + 1) to bound (answered c.question n k) (afterwards ∷ f.before)
         under =
@@ -160,12 +160,12 @@ module _ {g : Setting} (given : Given g) {w : List ℕ} {h n i k : ℕ} (f : For
             let same : s' ≡ answered c.question n k = cc (next-is, on) in
             let one : d + 1 ≡ suc d = omega arith in
             let high : h + 1 ≡ suc h = omega arith in
-            let path = path-goes given path₁ in_time₁ stepped.only_top follows next-is in
+            let path = path_goes given path₁ in_time₁ stepped.only_top follows next-is in
             rw (one, high, ← same) (record {
               path = path;
               in_time = omega (arith, f.next_at.choice_at.in_time);
               no_higher = omega (arith, f.next_at.choice_at.no_higher);
-              choices = choices-more (omega arith) follows.no_fewer (choices_kept w₂ choices₁ (step_kept given path₁ in_time₁ stepped.only_top (suc h)));
+              choices = choices_more (omega arith) follows.no_fewer (choices_kept w₂ choices₁ (step_kept given path₁ in_time₁ stepped.only_top (suc h)));
             })
 
         -- where the walk is, the model's fork arrives
@@ -185,7 +185,7 @@ module _ {g : Setting} (given : Given g) {w : List ℕ} {h n i k : ℕ} (f : For
               state = answered c.question n k;
               choices = afterwards ∷ f.before;
               under = under;
-              model_is = λ es. take-is g.program _ c n k (g.limit - (d + 1)) (d + 1) f.next_at.rest f.before es left done;
+              model_is = λ es. take_is g.program _ c n k (g.limit - (d + 1)) (d + 1) f.next_at.rest f.before es left done;
               no_heavier = omega arith;
               same_length = stepped.only_top.same_length ∙ binds.same_length;
             }
@@ -202,28 +202,28 @@ module _
     bound_there : Binds w w₁ (choice_word stack w h 0) n (choice_word stack w h 4) k (bytes_at file i k) (cell_word w (choice_word stack w h 0) 3 - 1)
     bound_there = rw (x-is, cells_is) at binds
 
-    pub fork-bound :
+    pub fork_bound :
         (least : List ℕ) (p : Program) (limit : ℕ) → Given (setting file types functions least p limit base stack)
         → Forking (setting file types functions least p limit base stack) w h n i k → AtBoundPart file types functions w₁ base x from n k cells
-    fork-bound least p limit given f = rw (x-is, frame_is, records_is, cells_is) (take_bound given f bound_there)
+    fork_bound least p limit given f = rw (x-is, frame_is, records_is, cells_is) (take_bound given f bound_there)
 
     module _
         {w₂ : List ℕ} {to : Registers}
         (stepped : (label : ℕ) → AtBoundPart file types functions w₁ base x from n k cells → Stepped file types functions w₁ w₂ base label from (Next.Goes to))
       where
-        stepped-there :
+        stepped_there :
             (label : ℕ) → AtBoundPart file types functions w₁ base x from n k cells → Stepped file types functions w₁ w₂ base label (waiting_state_at stack w h) (Next.Goes to)
-        stepped-there label bound = rw (x-is, frame_is, records_is) at (stepped label bound)
+        stepped_there label bound = rw (x-is, frame_is, records_is) at (stepped label bound)
 
-        pub fork-takes :
+        pub fork_takes :
             Takes file types functions w w₂ base stack h n i k (record { going = true; registers = to; cells = cells + k; done = done + 1; height = h + 1 })
-        fork-takes = (refl, taken-there)
+        fork_takes = (refl, taken_there)
           where
-            taken-there :
+            taken_there :
                 (least : List ℕ) (p : Program) (limit : ℕ) → (given : Given (setting file types functions least p limit base stack))
                 → (f : Forking (setting file types functions least p limit base stack) w h n i k)
                 → OnPath (setting file types functions least p limit base stack) w w₂ (weight stack limit w (suc h))
                 (record { going = true; registers = to; cells = cells + k; done = done + 1; height = h + 1 })
                 (take_fork p (least_depths p.types) f.choice (record { constructor = n; fields = k }) f.next_at.rest f.before) to
-            taken-there least p limit given f =
-                rw (cells_is, done_is) (taken given f bound_there refl (stepped-there p.label (fork-bound least p limit given f)) refl)
+            taken_there least p limit given f =
+                rw (cells_is, done_is) (taken given f bound_there refl (stepped_there p.label (fork_bound least p limit given f)) refl)

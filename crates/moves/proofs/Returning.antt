@@ -31,11 +31,11 @@ move_over : (p : Program) (table : List ℕ) (cs : List Choice) (es : List Entry
 unfolding move_from
 move_over p table cs es = refl
 
-move-on :
+move_on :
     (p : Program) (table : List ℕ) (x : Model.Going) (left done : ℕ) (cs : List Choice) (es : List Entry) → x.left ≡ left → x.done ≡ done
     → move_from p table (Model.on x) cs es ≡ Model.arrive p table left done x.input x.state cs es
 unfolding move_from
-move-on p table x left done cs es is-left is-done =
+move_on p table x left done cs es is-left is-done =
     ap (λ (l : ℕ). Model.arrive p table l x.done x.input x.state cs es) is-left ∙ ap (λ (d : ℕ). Model.arrive p table left d x.input x.state cs es) is-done
 
 -- The path that the search goes on with.
@@ -53,13 +53,13 @@ module _ (file types functions least : List ℕ) (w : List ℕ) (base stack : �
         (p : Program) (limit : ℕ) (at : Model.Position) (cs : List Choice) → StandsAs (setting file types functions least p limit base stack) w x at cs
         → (at ≡ Model.over) × ((some : ℕ) × (records : ℕ) × ChoicesAt (setting file types functions least p limit base stack) w x.height some records cs)
     behind p limit at cs stands =
-        by-position at (subst (λ y. PositionAt (setting file types functions least p limit base stack) w x.cells x.done x.height y at cs) stands_over stands)
+        by_position at (subst (λ y. PositionAt (setting file types functions least p limit base stack) w x.cells x.done x.height y at cs) stands_over stands)
       where
-        by-position :
+        by_position :
             (y : Model.Position) → PositionAt (setting file types functions least p limit base stack) w x.cells x.done x.height Position.Over y cs
             → (y ≡ Model.over) × ((some : ℕ) × (records : ℕ) × ChoicesAt (setting file types functions least p limit base stack) w x.height some records cs)
-        by-position (Model.on z) none = absurd none
-        by-position Model.over there = (refl, there)
+        by_position (Model.on z) none = absurd none
+        by_position Model.over there = (refl, there)
 
     pub back_some : Resumable file types functions least w base stack x → SomeChoices file types least w stack x.height
     back_some (p, limit, at, cs, given, stands) =
@@ -68,11 +68,11 @@ module _ (file types functions least : List ℕ) (w : List ℕ) (base stack : �
 
     module _ (w₁ : List ℕ) (found : Return) (returned : Returns file types least w w₁ stack x.height found) where
       -- what the return means
-      back-means :
+      back_means :
           (found' : Return) → found ≡ found' → (p : Program) (limit : ℕ) (at : Model.Position) (cs : List Choice)
           → Given (setting file types functions least p limit base stack) → StandsAs (setting file types functions least p limit base stack) w x at cs
           → (length w₁ ≡ length w) × ReturnMeans (setting file types functions least p limit base stack) w w₁ x.height cs found'
-      back-means found' is p limit at cs given stands =
+      back_means found' is p limit at cs given stands =
           let (over, (some, records, choices)) = behind p limit at cs stands in
           let (same_length, means) = returned functions p limit base some records cs given choices in
           (same_length, subst (ReturnMeans (setting file types functions least p limit base stack) w w₁ x.height cs) is means)
@@ -81,7 +81,7 @@ module _ (file types functions least : List ℕ) (w : List ℕ) (base stack : �
       pub back_nowhere : found ≡ Return.Nowhere → Active x → Resumes file types functions least w w₁ base stack x (ended_walk x.cells x.done 0)
       back_nowhere is active p limit at cs given stands =
           let (over, there) = behind p limit at cs stands in
-          let (same_length, (returns, (some, records, none))) = back-means Return.Nowhere is p limit at cs given stands in
+          let (same_length, (returns, (some, records, none))) = back_means Return.Nowhere is p limit at cs given stands in
           let higher : 0 < x.height = subst (λ y. ActiveAt y x.height) stands_over active in
           let light : weight stack limit w₁ 0 ≡ 0 = unfold weight in refl in
           record {
@@ -102,13 +102,13 @@ module _ (file types functions least : List ℕ) (w : List ℕ) (base stack : �
       module _ {h n i k : ℕ} (is : found ≡ Return.To h n i k) where
         pub back_forking : Resumable file types functions least w base stack x → SomeForking file types functions w₁ base stack h n i k
         back_forking (p, limit, at, cs, given, stands) =
-            let (same_length, to) = back-means (Return.To h n i k) is p limit at cs given stands in
+            let (same_length, to) = back_means (Return.To h n i k) is p limit at cs given stands in
             (least, p, limit, given, record { choice = to.choice; before = to.before; next_at = to.next_at; before_at = to.before_at })
 
         pub back_taken : {w₂ : List ℕ} {x' : Walk} → Takes file types functions w₁ w₂ base stack h n i k x' → Resumes file types functions least w w₂ base stack x x'
         back_taken {w₂} {x'} (one, takes) p limit at cs given stands =
             let (over, there) = behind p limit at cs stands in
-            let (same_length, to) = back-means (Return.To h n i k) is p limit at cs given stands in
+            let (same_length, to) = back_means (Return.To h n i k) is p limit at cs given stands in
             let comes = takes least p limit given (record { choice = to.choice; before = to.before; next_at = to.next_at; before_at = to.before_at }) in
             subst
             (ResumesAt (setting file types functions least p limit base stack) w w₂ (walk_weight stack limit w x) x' (move_from p (least_depths p.types) at cs))
@@ -128,26 +128,26 @@ module _ (file types functions least : List ℕ) (w : List ℕ) (base stack : �
   pub on_resumes : x.going ≡ true → Resumes file types functions least w w base stack x x
   on_resumes going p limit at cs given stands =
       subst (ResumesAt (setting file types functions least p limit base stack) w w (walk_weight stack limit w x) x (move_from p (least_depths p.types) at cs)) (sym is_on)
-      (by-position at (subst (λ y. PositionAt (setting file types functions least p limit base stack) w x.cells x.done x.height y at cs) is_on stands))
+      (by_position at (subst (λ y. PositionAt (setting file types functions least p limit base stack) w x.cells x.done x.height y at cs) is_on stands))
     where
       is_on : position ≡ Position.On x.registers
       is_on = ap (λ y. position_of y x.registers) going
 
-      by-position :
+      by_position :
           (y : Model.Position) → PositionAt (setting file types functions least p limit base stack) w x.cells x.done x.height (Position.On x.registers) y cs
           → OnPath (setting file types functions least p limit base stack) w w (walk_weight stack limit w x) x (move_from p (least_depths p.types) y cs) x.registers
-      by-position (Model.on z) (done_is, left_is, under) =
+      by_position (Model.on z) (done_is, left_is, under) =
           let heavy : position_weight limit x.done position ≡ power (limit - x.done) = ap (position_weight limit x.done) is_on in
           record {
             input = z.input;
             state = z.state;
             choices = cs;
             under = under;
-            model_is = λ es. move-on p (least_depths p.types) z (limit - x.done) x.done cs es left_is done_is;
+            model_is = λ es. move_on p (least_depths p.types) z (limit - x.done) x.done cs es left_is done_is;
             no_heavier = omega arith;
             same_length = refl;
           }
-      by-position Model.over none = absurd none
+      by_position Model.over none = absurd none
 
 -- The move: that path arrives.
 module _
@@ -173,10 +173,10 @@ module _
           let comes = resumed (Position.On r) is p at cs given stands in
           (least, p, comes.input, comes.state, comes.choices, given, sought, comes.under)
 
-      pub on-moves :
+      pub on_moves :
           {w₂ : List ℕ} {m : Moved} → Arrives file types functions label w₁ w₂ limit base stack x₁.cells x₁.done x₁.height r m
           → Moves file types functions least label w w₂ limit base stack x m
-      on-moves arrives p at cs given sought stands =
+      on_moves arrives p at cs given sought stands =
           let comes = resumed (Position.On r) is p at cs given stands in
           let makes = arrives least p comes.input comes.state comes.choices given sought comes.under in
           record {

@@ -62,8 +62,8 @@ pushed w stack h x frame records cells done {first} {a₀} {a₁} {a₂} {a₃} 
     same_0 = let z : stack + 6 * h + 0 ≡ stack + 6 * h = omega arith in rw z (get_or-set_same w (stack + 6 * h) a₀ 0 (omega arith))
 
 -- the cell of choice point h is opened again, and its word 1 is as it was
-pub reopened-written :
+pub reopened_written :
     (w : List ℕ) (stack h : ℕ) {w₁ : List ℕ} {x first a : ℕ} → x ≡ choice_word stack w h 0 → first ≡ choice_word stack w h 1 → w₁ ≡ set w (5 * x) 0 → a ≡ first
     → set w₁ (5 * x + 1) a ≡ reopened stack w h
 unfolding reopened
-reopened-written w stack h is_x is-first opened is-a = rw (opened, is-a, is-first, is_x)
+reopened_written w stack h is_x is-first opened is-a = rw (opened, is-a, is-first, is_x)

@@ -35,7 +35,7 @@ use Rattle.reach.proofs.Limits.{IfFound, HeadKept, OutlineKept, outline_kept}
 use Rattle.reach.proofs.Spelling.{spells_tells}
 use Rattle.reach.proofs.WellTyped.{at_below, at_get_d}
 use Rattle.reach.proofs.LeastDepths.{rounds_length, least_depth_values, no_value}
-use Rattle.reach.proofs.Heads.{Heads, function_at_head, head_of, heads-are}
+use Rattle.reach.proofs.Heads.{Heads, function_at_head, head_of, heads_are}
 use Rattle.reach.proofs.Stages.{size_refused, outline_refused, numbers_refused, bodies_refused, empty_refused, depth_refused, spelling_refused, file_accepted}
 use Rattle.reach.proofs.Refusals.{first_pass_gives, body_gives}
 
@@ -285,7 +285,7 @@ module _ (file : List ℕ) where
 
         by_types : Tells (no_empty_type (least_depths o.declared.types)) (AllTypesInhabited o.declared) (SomeTypeEmpty o.declared) → Answered
         by_types (passes filled inhabited) =
-            by_parameters filled inhabited (parameters_tell o file fs (heads-are o.declared file o.declared.heads n fs m bodies) numbers inhabited)
+            by_parameters filled inhabited (parameters_tell o file fs (heads_are o.declared file o.declared.heads n fs m bodies) numbers inhabited)
         by_types (fails filled empty) = (turned_back EmptyType, empty_refused file size read exist bodies filled, by_empty_type refl (o, passed, empty))
 
     after_numbers : AllNumbersExist o → (g : Got (List Function)) → functions_of o.declared o.declared.heads file n ≡ g
@@ -317,7 +317,7 @@ module _ (file : List ℕ) where
       let exist = (numbers_exist_exactly o).1 passed.numbers in
       let (fs, m, bodies) = bodies_read_law o.declared file n passed.bodies in
       let filled = (passes_exactly (types_apart o.declared) (types_inhabited_tell o.declared)).1 inhabited in
-      let told = parameters_tell o file fs (heads-are o.declared file o.declared.heads n fs m bodies) passed.numbers inhabited in
+      let told = parameters_tell o file fs (heads_are o.declared file o.declared.heads n fs m bodies) passed.numbers inhabited in
       let deep = (passes_exactly (parameters_apart o) told).1 fit in
       (program_of o fs, file_accepted file size read exist bodies filled deep ((passes_exactly (names_apart o) (names_tell o)).1 spelled))
 
@@ -337,7 +337,7 @@ module _ (file : List ℕ) where
   turns_back why (by_depth is (o, passed, inhabited, over)) =
       let (size, (n, read)) = passed.outlined in
       let (fs, m, bodies) = bodies_read_law o.declared file n passed.bodies in
-      let told = parameters_tell o file fs (heads-are o.declared file o.declared.heads n fs m bodies) passed.numbers inhabited in
+      let told = parameters_tell o file fs (heads_are o.declared file o.declared.heads n fs m bodies) passed.numbers inhabited in
       depth_refused file size read ((numbers_exist_exactly o).1 passed.numbers) bodies
       ((passes_exactly (types_apart o.declared) (types_inhabited_tell o.declared)).1 inhabited)
       ((fails_exactly (parameters_apart o) told).1 over)
@@ -345,7 +345,7 @@ module _ (file : List ℕ) where
   turns_back why (by_spelling is (o, passed, inhabited, fit, otherwise)) =
       let (size, (n, read)) = passed.outlined in
       let (fs, m, bodies) = bodies_read_law o.declared file n passed.bodies in
-      let told = parameters_tell o file fs (heads-are o.declared file o.declared.heads n fs m bodies) passed.numbers inhabited in
+      let told = parameters_tell o file fs (heads_are o.declared file o.declared.heads n fs m bodies) passed.numbers inhabited in
       spelling_refused file size read ((numbers_exist_exactly o).1 passed.numbers) bodies
       ((passes_exactly (types_apart o.declared) (types_inhabited_tell o.declared)).1 inhabited)
       ((passes_exactly (parameters_apart o) told).1 fit)

@@ -9,7 +9,7 @@ use Rattle.reach.specs.Syntax.{Function}
 use Rattle.reach.specs.Reader.{Got, got, refused, on_got}
 use Rattle.reach.specs.RuleFile.{Head, Declarations, body_of, functions_of}
 use Rattle.reach.proofs.Base.{clash}
-use Rattle.reach.proofs.Limits.{IfFound, if-found-then}
+use Rattle.reach.proofs.Limits.{IfFound, if_found_then}
 
 -- a function with this head
 pub record Headed (h : Head) (g : Function) : Type 0 where
@@ -34,7 +34,7 @@ unfolding functions_of
 heads_find d s [] i = tt
 heads_find d s (h ∷ hs) i =
     any_then _ _ (body_of d h s)
-    (λ e k. if-found-then _ _ _ (functions_of d hs s k) (heads_find d s hs k) (λ fs next others. (record { parameters = refl; result = refl }, others)))
+    (λ e k. if_found_then _ _ _ (functions_of d hs s k) (heads_find d s hs k) (λ fs next others. (record { parameters = refl; result = refl }, others)))
 
 pub function_at_head : (hs : List Head) (gs : List Function) → Heads hs gs → (f : ℕ) (h : Head) → get_elem? hs f ≡ some h → (g : Function) × (get_elem? gs f ≡ some g) × Headed h g
 function_at_head [] gs all f h is = absurd (clash (cc))
@@ -48,6 +48,6 @@ head_of [] (k ∷ gs) all f g is = absurd all
 head_of (h ∷ hs) (k ∷ gs) all zero g is = let z : k ≡ g = cc in (h, refl, subst (λ x. Headed h x) z all.0)
 head_of (h ∷ hs) (k ∷ gs) all (suc f) g is = head_of hs gs all.1 f g is
 
-pub heads-are :
+pub heads_are :
     (d : Declarations) (s : List ℕ) (hs : List Head) (i : ℕ) (fs : List Function) (next : ℕ) → functions_of d hs s i ≡ got fs next → Heads hs fs
-heads-are d s hs i fs next are = subst (IfFound (λ fs next. Heads hs fs)) are (heads_find d s hs i)
+heads_are d s hs i fs next are = subst (IfFound (λ fs next. Heads hs fs)) are (heads_find d s hs i)

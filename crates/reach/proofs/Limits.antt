@@ -34,11 +34,11 @@ IfFound P (got a next) = P a next
 IfFound P (refused why) = Unit {0}
 
 -- what holds of whatever is found after each thing that the first reader may find
-pub if-found-then :
+pub if_found_then :
     {A B : Type 0} (P : A → ℕ → Type 0) (Q : B → ℕ → Type 0) (f : A → ℕ → Got B) (g : Got A)
     → IfFound P g → ((a : A) (next : ℕ) → P a next → IfFound Q (f a next)) → IfFound Q (on_got f (λ why. refused why) g)
-if-found-then P Q f (got a next) h after = after a next h
-if-found-then P Q f (refused why) h after = tt
+if_found_then P Q f (got a next) h after = after a next h
+if_found_then P Q f (refused why) h after = tt
 
 -- whatever the reader finds, the fact holds of it
 pub record Promises {A : Type 0} (P : A → Type 0) (m : Reader A) : Type 0 where
@@ -76,7 +76,7 @@ module _ {A B : Type 0} {P : A → Type 0} {Q : B → Type 0} {m : Reader A} whe
   then {f} first second =
       record {
         found = λ s i.
-            if-found-then (λ a next. P a) (λ b next. Q b) (λ a. f a s) (m s i) (first.found s i) (λ a next h. (second a h).found s next);
+            if_found_then (λ a next. P a) (λ b next. Q b) (λ a. f a s) (m s i) (first.found s i) (λ a next h. (second a h).found s next);
       }
 
   then_on : {f : Reader B} → Promises P m → ((a : A) → P a → Promises Q f) → Promises Q (m >> f)
@@ -234,12 +234,12 @@ parameters_of_law : (f : Option Function) (fs : List Function) (i : ℕ) → get
 parameters_of_law none fs i e all = zero-le
 parameters_of_law (some f) fs i e all = each_member FunctionKept all (nth_member fs i f e)
 
-program-kept :
+program_kept :
     (o : Outline) (fs : List Function) → OutlineKept o → length fs ≤ length o.declared.heads → Each FunctionKept fs
     → no_empty_type (least_depths o.declared.types) ≡ true → deep_enough (program_of o fs) ≡ true → well_spelled o ≡ true
     → KeepsLimits (program_of o fs)
 unfolding program_of well_spelled field_types source_types function_at
-program-kept o fs kept few all filled deep spelled =
+program_kept o fs kept few all filled deep spelled =
     record {
       types_limit = kept.types_count;
       constructors_limit = λ t. (type_there t).0;
@@ -267,7 +267,7 @@ file_kept =
     (λ fs ks. then_on (demanding (no_empty_type (least_depths o.declared.types)) EmptyType)
     (λ x filled. then_on (demanding (deep_enough (program_of o fs)) _)
     (λ y deep. then_on (demanding (well_spelled o) BadSpelling)
-    (λ z spelled. giving (program-kept o fs kept ks.0 ks.1 filled deep spelled))))))))
+    (λ z spelled. giving (program_kept o fs kept ks.0 ks.1 filled deep spelled))))))))
 
 accepting : (g : Got Program) (p : Program) → IfFound (λ q next. KeepsLimits q) g → on_got (λ p next. accepted p) turned_back g ≡ accepted p → KeepsLimits p
 accepting (got q next) p kept e = let z : q ≡ p = cc in subst KeepsLimits z kept

@@ -13,7 +13,7 @@ use Rattle.reach.specs.Base.{pick}
 use Rattle.reach.specs.Syntax.{variable, call, construct, case, let_in, target, Exprs, []ₑ, ◌∷ₑ◌, Alternatives, no_more, absent, present, Function, Program, function_at}
 use Rattle.reach.specs.Parts.{Parts, Seen, gone, free, has, at}
 use Rattle.reach.specs.Eval.{Env, Closure, suspended, input_part, lookup, Frame, waiting, fields, State, evaluating, inspecting, uncovered, stuck, resume, choose, enter, Question, answered, Next, demands, lacks, stops, goes, waits, view, look, answer, next, Run, reached, ended, unfinished, missing, halted, eval, start_of, start, run, Spent}
-use Rattle.reach.specs.States.{Steps, no_step, one_more, Without, FindsNone, for-construction, for-part, MissingAfter}
+use Rattle.reach.specs.States.{Steps, no_step, one_more, Without, FindsNone, for_construction, for_part, MissingAfter}
 use Rattle.reach.proofs.Base.{clash}
 use Rattle.reach.proofs.Evaluation.{eval_step, eval_wait, eval_demands, eval_lacks, eval_stops, eval_spent, eval_spent_wait, run_spent}
 
@@ -66,7 +66,7 @@ module _ (p : Program) (i : Parts) where
   finds_none (evaluating (construct t c (x ∷ₑ es)) env []) e = absurd (clash (cc))
   finds_none (evaluating (construct t c []ₑ) env (fields y ys outer ∷ fs)) e = absurd (clash (cc))
   finds_none (evaluating (construct t c (x ∷ₑ es)) env (fields y ys outer ∷ fs)) e = absurd (clash (cc))
-  finds_none (evaluating (construct t c es) env (waiting alts outer ∷ fs)) e = for-construction ((choose_uncovered alts c _ fs).0 (to e))
+  finds_none (evaluating (construct t c es) env (waiting alts outer ∷ fs)) e = for_construction ((choose_uncovered alts c _ fs).0 (to e))
   finds_none (evaluating (case t x alts) env fs) e = absurd (clash (cc))
   finds_none (evaluating (let_in t x body) env fs) e = absurd (clash (cc))
   finds_none (evaluating (target l x) env fs) e = absurd (passed (eqb l p.label) e)
@@ -82,14 +82,14 @@ module _ (p : Program) (i : Parts) where
           → FindsNone i (inspecting q (waiting alts outer ∷ fs))
       seen gone w e = absurd (clash (cc))
       seen free w e = absurd (clash (cc))
-      seen (has c k) w e = for-part w ((choose_uncovered alts c _ fs).0 (to e))
+      seen (has c k) w e = for_part w ((choose_uncovered alts c _ fs).0 (to e))
   finds_none uncovered e = absurd (clash (cc))
   finds_none stuck e = absurd (clash (cc))
 
   none_found : {s : State} → FindsNone i s → next p i s ≡ goes uncovered
   unfolding next answer view look answered
-  none_found (for-construction {c = c} {alts = alts} {fs = fs} without) = ap goes ((choose_uncovered alts c _ fs).1 without)
-  none_found (for-part {q = q} {c = c} {k = k} {outer = outer} {alts = alts} {fs = fs} w without) =
+  none_found (for_construction {c = c} {alts = alts} {fs = fs} without) = ap goes ((choose_uncovered alts c _ fs).1 without)
+  none_found (for_part {q = q} {c = c} {k = k} {outer = outer} {alts = alts} {fs = fs} w without) =
       ap (look (record { place = q; alternatives = alts; environment = outer; frames = fs })) w ∙ ap goes ((choose_uncovered alts c _ fs).1 without)
 
   -- and nothing else lacks an alternative

@@ -55,7 +55,7 @@ module _ (p : Program) (table : List ℕ) where
   Adds cs es w ys m = Yields w (es ++ (ys ++ choices_owed cs)) (m + choices_moves p table cs)
 
   -- `settle` adds what `gather` gathers, if what the path goes on to does
-  settle-adds :
+  settle_adds :
       (go : State → Walk) (fork : Question → Walk) (goEntries : State → List Entry) (forkEntries : Question → List Entry) (goMoves : State → ℕ)
       (forkMoves : Question → ℕ) (n : ℕ) (input : Parts) (cs : List Choice) (es : List Entry)
       → ((s : State) → Adds cs es (go s) (goEntries s) (goMoves s))
@@ -63,21 +63,21 @@ module _ (p : Program) (table : List ℕ) where
       → (x : Next)
       → Adds cs es (settle go fork n input cs es x) (gather goEntries forkEntries n input x) (count_next goMoves forkMoves x)
   unfolding settle gather count_next owed owed_from owed_moves owed_moves_from
-  settle-adds go fork goEntries forkEntries goMoves forkMoves n input cs es hg hf demands = (append_assoc es _ _, omega arith)
-  settle-adds go fork goEntries forkEntries goMoves forkMoves n input cs es hg hf lacks = (append_assoc es _ _, omega arith)
-  settle-adds go fork goEntries forkEntries goMoves forkMoves n input cs es hg hf (stops why) = (append_assoc es _ _, omega arith)
-  settle-adds go fork goEntries forkEntries goMoves forkMoves n input cs es hg hf (goes s) = hg s
-  settle-adds go fork goEntries forkEntries goMoves forkMoves n input cs es hg hf (waits q) = hf q
+  settle_adds go fork goEntries forkEntries goMoves forkMoves n input cs es hg hf demands = (append_assoc es _ _, omega arith)
+  settle_adds go fork goEntries forkEntries goMoves forkMoves n input cs es hg hf lacks = (append_assoc es _ _, omega arith)
+  settle_adds go fork goEntries forkEntries goMoves forkMoves n input cs es hg hf (stops why) = (append_assoc es _ _, omega arith)
+  settle_adds go fork goEntries forkEntries goMoves forkMoves n input cs es hg hf (goes s) = hg s
+  settle_adds go fork goEntries forkEntries goMoves forkMoves n input cs es hg hf (waits q) = hf q
 
   -- a path that arrives at a state adds the entries of the search from there
-  arrive-adds :
+  arrive_adds :
       (left n : ℕ) (input : Parts) (s : State) (cs : List Choice) (es : List Entry)
       → Adds cs es (arrive p table left n input s cs es) (search p table left n input s) (path_moves p table left input s)
   unfolding arrive search path_moves choices_owed choices_moves owed owed_from owed_moves owed_moves_from flat_map total
-  arrive-adds zero n input s cs es =
+  arrive_adds zero n input s cs es =
       rw (← count_none (next p input s))
-      (settle-adds _ _ _ _ _ _ n input cs es (λ s'. (append_assoc es _ _, omega arith)) (λ q. (append_assoc es _ _, omega arith)) (next p input s))
-  arrive-adds (suc left) n input s cs es = settle-adds _ _ _ _ _ _ n input cs es (λ s'. (refl, refl)) (λ q. (refl, refl)) (next p input s)
+      (settle_adds _ _ _ _ _ _ n input cs es (λ s'. (append_assoc es _ _, omega arith)) (λ q. (append_assoc es _ _, omega arith)) (next p input s))
+  arrive_adds (suc left) n input s cs es = settle_adds _ _ _ _ _ _ n input cs es (λ s'. (refl, refl)) (λ q. (refl, refl)) (next p input s)
 
   -- behind the end of a path: the entries are kept, and one of the moves that the choice points owe is made, if there is one
   abbrev Returns : List Choice → List Entry → Type 0
@@ -88,7 +88,7 @@ module _ (p : Program) (table : List ℕ) where
   unfolding return take_fork choices_owed choices_moves flat_map total
   return_choice c [] cs es h = (h.0, h.1 ∙ omega arith)
   return_choice c (f ∷ rest) cs es h =
-      let a = arrive-adds c.left c.done (input_behind c.question f c.input) (state_behind c.question f) (with_untried c rest ∷ cs) es in
+      let a = arrive_adds c.left c.done (input_behind c.question f c.input) (state_behind c.question f) (with_untried c rest ∷ cs) es in
       (rw append_assoc a.0, a.1 ∙ omega arith)
 
   returns : (cs : List Choice) (es : List Entry) → Returns cs es
@@ -104,7 +104,7 @@ module _ (p : Program) (table : List ℕ) where
       from : (x : Position)
           → Yields (move_from p table x w.choices w.listed) (w.listed ++ owed_from x w.choices) (pred (owed_moves_from p table x w.choices))
       from (on g) =
-          let a = arrive-adds g.left g.done g.input g.state w.choices w.listed in
+          let a = arrive_adds g.left g.done g.input g.state w.choices w.listed in
           (a.0, a.1 ∙ omega arith)
       from over = returns w.choices w.listed
 
@@ -136,13 +136,13 @@ module _ (p : Program) (table : List ℕ) where
       (z, sym (listed_all (move p table w) z) ∙ move_keeps w ∙ listed_all w e)
 
   -- after m moves: the entries are kept, and m moves less are to come
-  pub moves-keep :
+  pub moves_keep :
       (m : ℕ) (w : Walk)
       → ((moves p table m w).listed ++ owed (moves p table m w) ≡ w.listed ++ owed w) × (owed_moves p table (moves p table m w) ≡ owed_moves p table w - m)
   unfolding moves
-  moves-keep zero w = (refl, omega arith)
-  moves-keep (suc m) w =
-      let h = moves-keep m (move p table w) in
+  moves_keep zero w = (refl, omega arith)
+  moves_keep (suc m) w =
+      let h = moves_keep m (move p table w) in
       (h.0 ∙ move_keeps w, h.1 ∙ omega (arith, (move_holds w).1))
 
 -- the moves list the entries of the program, and come to an end
@@ -150,6 +150,6 @@ pub moves_list : (p : Program) → ((finished p).listed ≡ entries p) × (owed_
 unfolding opening entries choices_owed flat_map
 moves_list p =
     let table = least_depths p.types in
-    let h = moves-keep p table (owed_moves p table (opening p table)) (opening p table) in
+    let h = moves_keep p table (owed_moves p table (opening p table)) (opening p table) in
     let z : owed_moves p table (finished p) ≡ 0 = h.1 ∙ omega arith in
-    (sym (listed_all p table (finished p) z) ∙ h.0 ∙ (arrive-adds p table p.steps 0 (open_input p) (start p) [] []).0 ∙ append-nil (entries p), z)
+    (sym (listed_all p table (finished p) z) ∙ h.0 ∙ (arrive_adds p table p.steps 0 (open_input p) (start p) [] []).0 ∙ append-nil (entries p), z)

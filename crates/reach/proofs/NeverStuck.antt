@@ -73,10 +73,10 @@ module _ (types : Types) where
   slot_there (bound c fs r) (inside q) ss s g = slot_there fs q (field_slots types (head? ss) c) s g
 
   -- part n of a row stands in a slot of its type
-  slot-part :
+  slot_part :
       (ss : List Slot) (e : Parts) → Typed types (slot_types ss) e → (n t : ℕ) → get_elem? (slot_types ss) n ≡ some t
       → (d : ℕ) × (slot_at types e (part n) ss ≡ some (record { type = t; room = d }))
-  slot-part ss e h n t g =
+  slot_part ss e h n t g =
       let (d, there) = types_nth ss n t g in
       (d, part_slot types e n ss (omega (arith, typed_width types (slot_types ss) e h, (at_get_d (slot_types ss) n 0 t g).0)) ∙ there)
 
@@ -86,24 +86,24 @@ module _ (types : Types) where
       (us : List ℕ) × (field_types types s.type c ≡ some us) × (k ≡ length us)
       × ((n t : ℕ) → get_elem? us n ≡ some t → (d : ℕ) × (slot_at types e (within q (part n)) ss ≡ some (record { type = t; room = d })))
 
-  slot-field :
+  slot_field :
       (ss : List Slot) (e : Parts) → Typed types (slot_types ss) e → (q : Place) (s : Slot) (c k : ℕ) → slot_at types e q ss ≡ some s
       → at e q ≡ has c k → FieldSlots ss e q s c k
   unfolding slot_at slot_types at within
-  slot-field [] end h q s c k g w = absurd (none-ne-some s g)
-  slot-field [] (opened r) h q s c k g w = absurd h
-  slot-field [] (bound b fs r) h q s c k g w = absurd h
-  slot-field (u ∷ ss) end h q s c k g w = absurd h
-  slot-field (u ∷ ss) (opened r) h here s c k g w = absurd (free_unbound w)
-  slot-field (u ∷ ss) (opened r) h (after q) s c k g w = slot-field ss r h q s c k g w
-  slot-field (u ∷ ss) (opened r) h (inside q) s c k g w = absurd (none-ne-some s g)
-  slot-field (u ∷ ss) (bound b fs r) h here s c k g w =
+  slot_field [] end h q s c k g w = absurd (none-ne-some s g)
+  slot_field [] (opened r) h q s c k g w = absurd h
+  slot_field [] (bound b fs r) h q s c k g w = absurd h
+  slot_field (u ∷ ss) end h q s c k g w = absurd h
+  slot_field (u ∷ ss) (opened r) h here s c k g w = absurd (free_unbound w)
+  slot_field (u ∷ ss) (opened r) h (after q) s c k g w = slot_field ss r h q s c k g w
+  slot_field (u ∷ ss) (opened r) h (inside q) s c k g w = absurd (none-ne-some s g)
+  slot_field (u ∷ ss) (bound b fs r) h here s c k g w =
       let fields = field_types_law types u b h.0 h.1 in
       rw (← some-injective _ _ g, ← ap constructor_of w, ← ap arity_of w)
-      (h.0, h.1, typed_width types h.0 fs h.2, λ n t e. slot-part (field_slots types (some u) b) fs (rw fields h.2) n t (rw fields e))
-  slot-field (u ∷ ss) (bound b fs r) h (after q) s c k g w = slot-field ss r h.3 q s c k g w
-  slot-field (u ∷ ss) (bound b fs r) h (inside q) s c k g w =
-      slot-field (field_slots types (some u) b) fs (rw (field_types_law types u b h.0 h.1) h.2) q s c k g w
+      (h.0, h.1, typed_width types h.0 fs h.2, λ n t e. slot_part (field_slots types (some u) b) fs (rw fields h.2) n t (rw fields e))
+  slot_field (u ∷ ss) (bound b fs r) h (after q) s c k g w = slot_field ss r h.3 q s c k g w
+  slot_field (u ∷ ss) (bound b fs r) h (inside q) s c k g w =
+      slot_field (field_slots types (some u) b) fs (rw (field_types_law types u b h.0 h.1) h.2) q s c k g w
 
 -- The typing of states, in a program and on an input.
 module _ (p : Program) (i : Parts) where
@@ -167,15 +167,15 @@ module _ (p : Program) (i : Parts) where
       by_test true g = old g
       by_test false g = new g
 
-  operand-has :
+  operand_has :
       (es : Exprs) (inner : Env) (ws us : List ℕ) (n t : ℕ) → EnvHas inner ws → HaveTypes p.types (signatures p) es ws us
       → get_elem? us n ≡ some t → ClosureHas t (suspend (nth_expr es n) inner)
   unfolding suspend nth_expr
-  operand-has []ₑ inner ws [] n t g h e = absurd (none-ne-some t e)
-  operand-has []ₑ inner ws (u ∷ us) n t g h e = absurd h
-  operand-has (x ∷ₑ es) inner ws [] n t g h e = absurd h
-  operand-has (x ∷ₑ es) inner ws (u ∷ us) zero t g h e = (ws, g, subst (HasType p.types (signatures p) x ws) (some-injective u t e) h.0)
-  operand-has (x ∷ₑ es) inner ws (u ∷ us) (suc n) t g h e = operand-has es inner ws us n t g h.1 e
+  operand_has []ₑ inner ws [] n t g h e = absurd (none-ne-some t e)
+  operand_has []ₑ inner ws (u ∷ us) n t g h e = absurd h
+  operand_has (x ∷ₑ es) inner ws [] n t g h e = absurd h
+  operand_has (x ∷ₑ es) inner ws (u ∷ us) zero t g h e = (ws, g, subst (HasType p.types (signatures p) x ws) (some-injective u t e) h.0)
+  operand_has (x ∷ₑ es) inner ws (u ∷ us) (suc n) t g h e = operand_has es inner ws us n t g h.1 e
 
   -- a variable in view stands for something of its type
   lookup_has : (env : Env) (view : List ℕ) (n t : ℕ) → EnvHas env view → get_elem? view n ≡ some t → ClosureHas t (lookup env n)
@@ -183,7 +183,7 @@ module _ (p : Program) (i : Parts) where
   lookup_has empty view n t h e = absurd (none-ne-some t (rw h at e))
   lookup_has (operands outer es inner) view n t h e =
       grown outer h.0 h.1 n t _ h.4 (λ g. lookup_has outer h.0 n t h.4 g)
-      (λ g. operand-has es inner h.2 h.1 (n - size outer) t h.5 h.6 g) (rw h.3 at e)
+      (λ g. operand_has es inner h.2 h.1 (n - size outer) t h.5 h.6 g) (rw h.3 at e)
   lookup_has (input_parts outer row k) view n t h e =
       grown outer h.0 h.1 n t _ h.3 (λ g. lookup_has outer h.0 n t h.3 g) in_row (rw h.2 at e)
     where
@@ -199,42 +199,42 @@ module _ (p : Program) (i : Parts) where
   resume_has (some (input_part q)) fs t h g = (t, h, g)
 
   -- there is an alternative for each constructor of the case's type, or its absence, and the fields come in the number and types it sees
-  choose-has :
+  choose_has :
       (alts : Alternatives) (c : ℕ) (env : Env) (fs : List Frame) (view us : List ℕ) (cs : List (List ℕ)) (r : ℕ)
       → Covers p.types (signatures p) alts view cs r → get_elem? cs c ≡ some us → EnvHas env (view ++ us) → FramesHave fs r
       → StateHas (choose alts c env fs)
   unfolding choose
-  choose-has no_more c env fs view us [] r h e g k = absurd (none-ne-some us e)
-  choose-has no_more c env fs view us (vs ∷ cs) r h e g k = absurd h
-  choose-has (absent alts) c env fs view us [] r h e g k = absurd h
-  choose-has (absent alts) zero env fs view us (vs ∷ cs) r h e g k = tt
-  choose-has (absent alts) (suc c) env fs view us (vs ∷ cs) r h e g k = choose-has alts c env fs view us cs r h e g k
-  choose-has (present x alts) c env fs view us [] r h e g k = absurd h
-  choose-has (present x alts) zero env fs view us (vs ∷ cs) r h e g k =
+  choose_has no_more c env fs view us [] r h e g k = absurd (none-ne-some us e)
+  choose_has no_more c env fs view us (vs ∷ cs) r h e g k = absurd h
+  choose_has (absent alts) c env fs view us [] r h e g k = absurd h
+  choose_has (absent alts) zero env fs view us (vs ∷ cs) r h e g k = tt
+  choose_has (absent alts) (suc c) env fs view us (vs ∷ cs) r h e g k = choose_has alts c env fs view us cs r h e g k
+  choose_has (present x alts) c env fs view us [] r h e g k = absurd h
+  choose_has (present x alts) zero env fs view us (vs ∷ cs) r h e g k =
       let same : view ++ vs ≡ view ++ us = ap (◌++◌ view) (some-injective vs us e) in
       (view ++ us, r, g, rw same at h.0, k)
-  choose-has (present x alts) (suc c) env fs view us (vs ∷ cs) r h e g k = choose-has alts c env fs view us cs r h.1 e g k
+  choose_has (present x alts) (suc c) env fs view us (vs ∷ cs) r h e g k = choose_has alts c env fs view us cs r h.1 e g k
 
   -- fields that wait are typed in their environment, and what waits behind them waits for a result of any type
-  behind-have :
+  behind_have :
       (es : Exprs) (env : Env) (fs : List Frame) (view us : List ℕ) → EnvHas env view → HaveTypes p.types (signatures p) es view us
       → ((r : ℕ) → FramesHave fs r) → (t : ℕ) → FramesHave (with_fields es env fs) t
   unfolding with_fields
-  behind-have []ₑ env fs view us h k l t = l t
-  behind-have (x ∷ₑ es) env fs view us h k l t = (view, us, h, k, l)
+  behind_have []ₑ env fs view us h k l t = l t
+  behind_have (x ∷ₑ es) env fs view us h k l t = (view, us, h, k, l)
 
-  turn-has :
+  turn_has :
       (x : Expr) (xs : Exprs) (env : Env) (fs : List Frame) (view us : List ℕ) → EnvHas env view → HaveTypes p.types (signatures p) (x ∷ₑ xs) view us
       → ((r : ℕ) → FramesHave fs r) → StateHas (evaluating x env (with_fields xs env fs))
-  turn-has x xs env fs view [] h k l = absurd k
-  turn-has x xs env fs view (u ∷ us) h k l = (view, u, h, k.0, behind-have xs env fs view us h k.1 l u)
+  turn_has x xs env fs view [] h k l = absurd k
+  turn_has x xs env fs view (u ∷ us) h k l = (view, u, h, k.0, behind_have xs env fs view us h k.1 l u)
 
   module _ (typed : WellTyped p) where
-    enter-has :
+    enter_has :
         (f : ℕ) (es : Exprs) (env : Env) (fs : List Frame) (g : Signature) (view : List ℕ) → EnvHas env view → get_elem? (signatures p) f ≡ some g
         → HaveTypes p.types (signatures p) es view g.parameters → FramesHave fs g.result → StateHas (enter (function_at p f) es env fs)
     unfolding enter function_at
-    enter-has f es env fs g view h e k l =
+    enter_has f es env fs g view h e k l =
         let (x, there, same) = map_from signature_of p.functions f g e in
         let arguments = subst (λ (s : Signature). HaveTypes p.types (signatures p) es view s.parameters) (sym same) k in
         let frames = subst (λ (s : Signature). FramesHave fs s.result) (sym same) l in
@@ -244,14 +244,14 @@ module _ (p : Program) (i : Parts) where
     view_has : (s : State) → StateHas s → NextHas (view p s)
     unfolding view field_types
     view_has (evaluating (variable n) env fs) (vs, t, h, e, g) = resume_has (lookup env n) fs t (lookup_has env vs n t h e) g
-    view_has (evaluating (call f es) env fs) h = enter-has f es env fs h.3.0 h.0 h.2 h.3.1 h.3.3 (subst (FramesHave fs) (sym h.3.2) h.4)
+    view_has (evaluating (call f es) env fs) h = enter_has f es env fs h.3.0 h.0 h.2 h.3.1 h.3.3 (subst (FramesHave fs) (sym h.3.2) h.4)
     view_has (evaluating (construct u c []ₑ) env []) h = tt
-    view_has (evaluating (construct u c (x ∷ₑ es)) env []) (ws, t, h, (us, e, same, k), l) = turn-has x es env [] ws us h k (λ r. tt)
-    view_has (evaluating (construct u c []ₑ) env (fields y ys outer ∷ fs)) (ws, t, h, k, (vs, us, g, m, l)) = turn-has y ys outer fs vs us g m l
+    view_has (evaluating (construct u c (x ∷ₑ es)) env []) (ws, t, h, (us, e, same, k), l) = turn_has x es env [] ws us h k (λ r. tt)
+    view_has (evaluating (construct u c []ₑ) env (fields y ys outer ∷ fs)) (ws, t, h, k, (vs, us, g, m, l)) = turn_has y ys outer fs vs us g m l
     view_has (evaluating (construct u c (x ∷ₑ es)) env (fields y ys outer ∷ fs)) (ws, t, h, (us, e, same, k), l) =
-        turn-has x es env (fields y ys outer ∷ fs) ws us h k (λ r. l)
+        turn_has x es env (fields y ys outer ∷ fs) ws us h k (λ r. l)
     view_has (evaluating (construct u c es) env (waiting alts outer ∷ fs)) (ws, t, h, (us, e, same, k), (vs, r, g, covers, l)) =
-        choose-has alts c (operands outer es env) fs vs us (get_or p.types t []) r covers (rw same at e) (vs, us, ws, refl, g, h, k) l
+        choose_has alts c (operands outer es env) fs vs us (get_or p.types t []) r covers (rw same at e) (vs, us, ws, refl, g, h, k) l
     view_has (evaluating (case u e alts) env fs) h = (h.0, u, h.2, h.3.1, (h.0, h.1, h.2, h.3.2, h.4))
     view_has (evaluating (let_in u e body) env fs) h = (h.0 ++ (u ∷ []), h.1, (h.0, u ∷ [], h.0, refl, h.2, h.2, (h.3.1, tt)), h.3.2, h.4)
     view_has (evaluating (target l e) env fs) h = picked (eqb l p.label) h
@@ -260,18 +260,18 @@ module _ (p : Program) (i : Parts) where
         picked true k = tt
         picked false k = k
     view_has (inspecting q []) h = tt
-    view_has (inspecting q (fields y ys outer ∷ fs)) (t, place, (vs, us, g, m, l)) = turn-has y ys outer fs vs us g m l
+    view_has (inspecting q (fields y ys outer ∷ fs)) (t, place, (vs, us, g, m, l)) = turn_has y ys outer fs vs us g m l
     view_has (inspecting q (waiting alts env ∷ fs)) h = h
     view_has uncovered h = tt
     view_has stuck h = absurd h
 
   module _ (input : Typed p.types (source_types p) i) where
     -- the fields of a bound part are as many as its constructor has, and of their types
-    part-fields :
+    part_fields :
         (q : Place) (t c k : ℕ) → PartHas p i q t → at i q ≡ has c k
         → (us : List ℕ) × (field_types p.types t c ≡ some us) × (k ≡ length us) × RowHas (fields_of q) us
     unfolding part_of
-    part-fields q t c k h w = slot-field p.types (source_slots p) i (rw (source_types_law p) input) q _ c k h.1 w
+    part_fields q t c k h w = slot_field p.types (source_slots p) i (rw (source_types_law p) input) q _ c k h.1 w
 
     answer_has : (N : Next) → NextHas N → NextHas (answer i N)
     unfolding answer look answered field_types
@@ -286,8 +286,8 @@ module _ (p : Program) (i : Parts) where
         seen free w = h
         seen (has c k) w =
             let (t, place, (vs, r, g, covers, l)) = h in
-            let (us, e, many, row) = part-fields q.place t c k place w in
-            choose-has q.alternatives c _ q.frames vs us (get_or p.types t []) r covers e (vs, us, refl, g, many, row) l
+            let (us, e, many, row) = part_fields q.place t c k place w in
+            choose_has q.alternatives c _ q.frames vs us (get_or p.types t []) r covers e (vs, us, refl, g, many, row) l
 
     -- each step keeps a state typed
     next_has : WellTyped p → (s : State) → StateHas s → NextHas (next p i s)
@@ -297,7 +297,7 @@ module _ (p : Program) (i : Parts) where
     -- the parameters are there, and of the source's types
     source_has : RowHas parameters (source_types p)
     unfolding part_of
-    source_has n t e = slot-part p.types (source_slots p) i (rw (source_types_law p) input) n t (rw (source_types_law p) e)
+    source_has n t e = slot_part p.types (source_slots p) i (rw (source_types_law p) input) n t (rw (source_types_law p) e)
 
     start_has : WellTyped p → StateHas (start p)
     unfolding start start_of source_types function_at
@@ -310,10 +310,10 @@ module _ (p : Program) (i : Parts) where
 
 -- From the typing of a state to what is met there.
 module _ (p : Program) (i : Parts) where
-  case-on :
+  case_on :
       (t : ℕ) (alts : Alternatives) (env : Env) (vs : List ℕ) (r : ℕ) → EnvHas p i env vs
       → Covers p.types (signatures p) alts vs (get_or p.types t []) r → CaseOn p t alts env
-  case-on t alts env vs r h covers =
+  case_on t alts env vs r h covers =
       record { variables = vs; result = r; in_view = size_is p i env vs h; covers = covers; as_many = many_is p alts vs (get_or p.types t []) r covers }
 
   chooses :
@@ -341,9 +341,9 @@ module _ (p : Program) (i : Parts) where
   has_sound input (evaluating (construct u c es) env []) h = tt
   has_sound input (evaluating (construct u c es) env (fields y ys outer ∷ fs)) h = tt
   has_sound input (evaluating (construct u c es) env (waiting alts outer ∷ fs)) (ws, t, h, (us, e, same, k), (vs, r, g, covers, l)) =
-      let on = case-on u alts outer vs r g (rw same covers) in
+      let on = case_on u alts outer vs r g (rw same covers) in
       (on, chooses u c us alts outer (operands outer es env) on e (ap (◌+◌ (size outer)) (count_is p es ws us k)))
-  has_sound input (evaluating (case u e alts) env fs) (vs, t, h, (exists, k, covers), l) = case-on u alts env vs t h covers
+  has_sound input (evaluating (case u e alts) env fs) (vs, t, h, (exists, k, covers), l) = case_on u alts env vs t h covers
   has_sound input (evaluating (let_in u e body) env fs) h = tt
   has_sound input (evaluating (target l e) env fs) h = tt
   has_sound input (inspecting q []) h = (h.0, h.1)
@@ -351,11 +351,11 @@ module _ (p : Program) (i : Parts) where
   has_sound input (inspecting q (waiting alts outer ∷ fs)) (t, place, (vs, r, g, covers, l)) = (t, place, on, met)
     where
       on : CaseOn p t alts outer
-      on = case-on t alts outer vs r g covers
+      on = case_on t alts outer vs r g covers
 
       met : (c k : ℕ) → at i q ≡ has c k → Chooses p t c alts outer (input_parts outer (fields_of q) k)
       met c k w =
-          let (us, e, many, row) = part-fields p i input q t c k place w in
+          let (us, e, many, row) = part_fields p i input q t c k place w in
           chooses t c us alts outer (input_parts outer (fields_of q) k) on e (ap (◌+◌ (size outer)) many)
   has_sound input uncovered h = tt
   has_sound input stuck h = absurd h
@@ -391,7 +391,7 @@ module _ (file : List ℕ) (p : Program) (h : check file ≡ accepted p) (i : Pa
   never_stuck before = (
     λ e. subst (Sound p i) e (steps_sound before),
     λ q e. let (t, place, (vs, r, g, covers, l)) = subst (NextHas p i) e (comes_typed before) in
-        (t, place, case-on p i t q.alternatives q.environment vs r g covers),
+        (t, place, case_on p i t q.alternatives q.environment vs r g covers),
   )
 
   -- where an evaluation stops it has met a value

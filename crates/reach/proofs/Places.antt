@@ -18,7 +18,7 @@ use Rattle.reach.specs.Reader.{Got, got, refused, demand, byte, word, times, pas
 use Rattle.reach.specs.RuleFile.{counted, constructor_record, type_record, Head, function_record, Goal, goal_record}
 use Rattle.reach.specs.Places.{bytes_at, constructors_at, word_at, type_at, head_at, goal_at}
 use Rattle.reach.proofs.Base.{clash}
-use Rattle.reach.proofs.Limits.{IfFound, if-found-then}
+use Rattle.reach.proofs.Limits.{IfFound, if_found_then}
 
 -- What is known of a record that was read at place i: its value is the one that stands there, and it lies within the bytes.
 pub record Read {A : Type 0} (x : A) (s : List ℕ) (i : ℕ) (a : A) (next : ℕ) : Type 0 where
@@ -64,29 +64,29 @@ module _ (s : List ℕ) where
   word_stands : (i : ℕ) → IfFound (StandsFor 2 (word_at s i) s i) (word s i)
   unfolding word word_at
   word_stands i =
-      if-found-then _ _ _ (byte s i) (byte_stands i)
-      (λ low k first. if-found-then _ _ _ (byte s k) (byte_stands k)
+      if_found_then _ _ _ (byte s i) (byte_stands i)
+      (λ low k first. if_found_then _ _ _ (byte s k) (byte_stands k)
       (λ high n second. (record { value = rw (second.0.value, first.0.value, first.1); within = omega arith }, omega arith)))
 
   counted_stands : (least most i : ℕ) → IfFound (StandsFor 1 (get_or s i 0) s i) (counted least most s i)
   unfolding counted
   counted_stands least most i =
-      if-found-then _ _ _ (byte s i) (byte_stands i)
-      (λ n k first. if-found-then _ _ _ (demand (leb least n && leb n most) OutOfRange s k) (demand_stands (leb least n && leb n most) OutOfRange k)
+      if_found_then _ _ _ (byte s i) (byte_stands i)
+      (λ n k first. if_found_then _ _ _ (demand (leb least n && leb n most) OutOfRange s k) (demand_stands (leb least n && leb n most) OutOfRange k)
       (λ u l same. (record { value = first.0.value; within = omega arith }, omega arith)))
 
   bytes_stand : (n i : ℕ) → IfFound (StandsFor n (bytes_at s i n) s i) (times n byte s i)
   unfolding times bytes_at
   bytes_stand zero i = (record { value = refl; within = omega arith }, omega arith)
   bytes_stand (suc n) i =
-      if-found-then _ _ _ (byte s i) (byte_stands i)
-      (λ b k first. if-found-then _ _ _ (times n byte s k) (bytes_stand n k)
+      if_found_then _ _ _ (byte s i) (byte_stands i)
+      (λ b k first. if_found_then _ _ _ (times n byte s k) (bytes_stand n k)
       (λ bs l rest. (record { value = rw (first.0.value, rest.0.value, first.1); within = omega arith }, omega arith)))
 
   constructor_stands : (i : ℕ) → IfFound (StandsFor (1 + get_or s i 0) (bytes_at s (i + 1) (get_or s i 0)) s i) (constructor_record s i)
   unfolding constructor_record
   constructor_stands i =
-      if-found-then _ _ _ (counted 0 field_limit s i) (counted_stands 0 field_limit i)
+      if_found_then _ _ _ (counted 0 field_limit s i) (counted_stands 0 field_limit i)
       (λ n k first. finds_so _ _ (times n byte s k) (bytes_stand n k)
       (λ us l rest. (record { value = rw (rest.0.value, first.1, first.0.value); within = omega arith }, omega arith)))
 
@@ -94,26 +94,26 @@ module _ (s : List ℕ) where
   unfolding times constructors_at
   constructors_stand zero i = record { value = refl; within = omega arith }
   constructors_stand (suc n) i =
-      if-found-then _ _ _ (constructor_record s i) (constructor_stands i)
-      (λ us k first. if-found-then _ _ _ (times n constructor_record s k) (constructors_stand n k)
+      if_found_then _ _ _ (constructor_record s i) (constructor_stands i)
+      (λ us k first. if_found_then _ _ _ (times n constructor_record s k) (constructors_stand n k)
       (λ cs l rest. let place : k ≡ i + 1 + get_or s i 0 = omega arith in record { value = rw (first.0.value, rest.value, place); within = omega arith }))
 
   type_stands : (i : ℕ) → IfFound (Read (type_at s i) s i) (type_record s i)
   unfolding type_record type_at
   type_stands i =
-      if-found-then _ _ _ (counted 1 constructor_limit s i) (counted_stands 1 constructor_limit i)
+      if_found_then _ _ _ (counted 1 constructor_limit s i) (counted_stands 1 constructor_limit i)
       (λ n k first. finds_so _ _ (times n constructor_record s k) (constructors_stand n k)
       (λ cs l rest. record { value = rw (rest.value, first.1, first.0.value); begins = omega arith; ends = omega arith }))
 
   head_stands : (i : ℕ) → IfFound (Read (head_at s i) s i) (function_record s i)
   unfolding function_record head_at
   head_stands i =
-      if-found-then _ _ _ (counted 0 parameter_limit s i) (counted_stands 0 parameter_limit i)
-      (λ n j count. if-found-then _ _ _ (times n byte s j) (bytes_stand n j)
-      (λ ps k parameters. if-found-then _ _ _ (byte s k) (byte_stands k)
-      (λ r l result. if-found-then _ _ _ (word s l) (word_stands l)
-      (λ w m size. if-found-then _ _ _ (demand (leb 1 w && leb w body_limit) OutOfRange s m) (demand_stands (leb 1 w && leb w body_limit) OutOfRange m)
-      (λ u m' same. if-found-then _ _ _ (passed w s m') (passed_stands w m')
+      if_found_then _ _ _ (counted 0 parameter_limit s i) (counted_stands 0 parameter_limit i)
+      (λ n j count. if_found_then _ _ _ (times n byte s j) (bytes_stand n j)
+      (λ ps k parameters. if_found_then _ _ _ (byte s k) (byte_stands k)
+      (λ r l result. if_found_then _ _ _ (word s l) (word_stands l)
+      (λ w m size. if_found_then _ _ _ (demand (leb 1 w && leb w body_limit) OutOfRange s m) (demand_stands (leb 1 w && leb w body_limit) OutOfRange m)
+      (λ u m' same. if_found_then _ _ _ (passed w s m') (passed_stands w m')
       (λ b next body.
       let at_result : k ≡ i + 1 + get_or s i 0 = omega arith in
       let at_size : l ≡ i + 2 + get_or s i 0 = omega arith in
@@ -127,11 +127,11 @@ module _ (s : List ℕ) where
   goal_stands : (i : ℕ) → IfFound (Read (goal_at s i) s i) (goal_record s i)
   unfolding goal_record goal_at
   goal_stands i =
-      if-found-then _ _ _ (byte s i) (byte_stands i)
-      (λ f j source. if-found-then _ _ _ (byte s j) (byte_stands j)
-      (λ l k label. if-found-then _ _ _ (counted 1 depth_limit s k) (counted_stands 1 depth_limit k)
-      (λ d m depth. if-found-then _ _ _ (word s m) (word_stands m)
-      (λ w n steps. if-found-then _ _ _ (demand (leb w step_limit) OutOfRange s n) (demand_stands (leb w step_limit) OutOfRange n)
+      if_found_then _ _ _ (byte s i) (byte_stands i)
+      (λ f j source. if_found_then _ _ _ (byte s j) (byte_stands j)
+      (λ l k label. if_found_then _ _ _ (counted 1 depth_limit s k) (counted_stands 1 depth_limit k)
+      (λ d m depth. if_found_then _ _ _ (word s m) (word_stands m)
+      (λ w n steps. if_found_then _ _ _ (demand (leb w step_limit) OutOfRange s n) (demand_stands (leb w step_limit) OutOfRange n)
       (λ u next same.
       let at-depth : k ≡ i + 2 = omega arith in
       let at-steps : m ≡ i + 3 = omega arith in

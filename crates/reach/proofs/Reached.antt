@@ -21,11 +21,11 @@ steps_in_law p e wide no_step = start_in p e wide
 steps_in_law p e wide (one_more {s = s} {s' = s'} before on) = next_in p e s (steps_in_law p e wide before) (goes s') on
 
 -- what is reached on an input is reached on every input that binds at least as much
-pub steps-more :
+pub steps_more :
     (p : Program) {e j : Parts} → e ⊑ j → width e ≡ length (source_types p) → {n : ℕ} {s : State} → Steps p e n s → Steps p j n s
-steps-more p below wide no_step = no_step
-steps-more p {e} below wide (one_more {s = s} {s' = s'} before on) =
-    one_more (steps-more p below wide before) (next_more p below s (steps_in_law p e wide before) (goes s') tt on)
+steps_more p below wide no_step = no_step
+steps_more p {e} below wide (one_more {s = s} {s' = s'} before on) =
+    one_more (steps_more p below wide before) (next_more p below s (steps_in_law p e wide before) (goes s') tt on)
 
 -- open parts are of every type
 pub open_typed : (types : Types) (ts : List ℕ) → Typed types ts (all_open (length ts))
@@ -34,18 +34,18 @@ open_typed types [] = tt
 open_typed types (t ∷ ts) = open_typed types ts
 
 -- binding an open part to a constructor of its type keeps the types
-pub bind-typed :
+pub bind_typed :
     (types : Types) (ss : List Slot) (e : Parts) (q : Place) (s : Slot) (c : ℕ) (us : List ℕ) → Typed types (slot_types ss) e → at e q ≡ free
     → slot_at types e q ss ≡ some s → field_types types s.type c ≡ some us → Typed types (slot_types ss) (bind_at q c (length us) e)
 unfolding at bind_at slot_at slot_types
-bind-typed types ss end q s c us h g k f = h
-bind-typed types [] (opened r) q s c us h g k f = absurd h
-bind-typed types (t ∷ ss) (opened r) here s c us h g k f = (us, rw (← some-injective t s k) at f, open_typed types us, h)
-bind-typed types (t ∷ ss) (opened r) (after q) s c us h g k f = bind-typed types ss r q s c us h g k f
-bind-typed types (t ∷ ss) (opened r) (inside q) s c us h g k f = absurd (subst There (sym g) tt)
-bind-typed types [] (bound b fs r) q s c us h g k f = absurd h
-bind-typed types (t ∷ ss) (bound b fs r) here s c us h g k f = absurd (free_unbound (sym g))
-bind-typed types (t ∷ ss) (bound b fs r) (after q) s c us h g k f = (h.0, h.1, h.2, bind-typed types ss r q s c us h.3 g k f)
-bind-typed types (t ∷ ss) (bound b fs r) (inside q) s c us h g k f =
+bind_typed types ss end q s c us h g k f = h
+bind_typed types [] (opened r) q s c us h g k f = absurd h
+bind_typed types (t ∷ ss) (opened r) here s c us h g k f = (us, rw (← some-injective t s k) at f, open_typed types us, h)
+bind_typed types (t ∷ ss) (opened r) (after q) s c us h g k f = bind_typed types ss r q s c us h g k f
+bind_typed types (t ∷ ss) (opened r) (inside q) s c us h g k f = absurd (subst There (sym g) tt)
+bind_typed types [] (bound b fs r) q s c us h g k f = absurd h
+bind_typed types (t ∷ ss) (bound b fs r) here s c us h g k f = absurd (free_unbound (sym g))
+bind_typed types (t ∷ ss) (bound b fs r) (after q) s c us h g k f = (h.0, h.1, h.2, bind_typed types ss r q s c us h.3 g k f)
+bind_typed types (t ∷ ss) (bound b fs r) (inside q) s c us h g k f =
     let fields = field_types_law types t b h.0 h.1 in
-    (h.0, h.1, rw (← fields) (bind-typed types (field_slots types (some t) b) fs q s c us (rw fields h.2) g k f), h.3)
+    (h.0, h.1, rw (← fields) (bind_typed types (field_slots types (some t) b) fs q s c us (rw fields h.2) g k f), h.3)

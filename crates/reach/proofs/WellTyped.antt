@@ -24,7 +24,7 @@ use Rattle.reach.specs.RuleFile.{Head, Declarations, Outline, outline, numbers_e
 use Rattle.reach.specs.Answers.{accepted, turned_back, check}
 use Rattle.reach.specs.Conditions.{of_field, of_parameter, of_result}
 use Rattle.reach.proofs.Base.{clash, member_each}
-use Rattle.reach.proofs.Limits.{IfFound, if-found-then, accepted_keeps}
+use Rattle.reach.proofs.Limits.{IfFound, if_found_then, accepted_keeps}
 use Rattle.reach.proofs.Numbers.{numbers_exist_exactly}
 
 -- What stands at a number of a list.
@@ -49,11 +49,11 @@ at_map f [] n x h = absurd (clash (cc))
 at_map f (y ∷ xs) zero x h = let z : y ≡ x = cc in rw z
 at_map f (y ∷ xs) (suc n) x h = at_map f xs n x h
 
-at-cons :
+at_cons :
     {A : Type 0} (P : A → Type 0) (x : A) (xs : List A) → P x → ((n : ℕ) (y : A) → get_elem? xs n ≡ some y → P y)
     → (n : ℕ) (y : A) → get_elem? (x ∷ xs) n ≡ some y → P y
-at-cons P x xs h hs zero y e = let z : x ≡ y = cc in subst P z h
-at-cons P x xs h hs (suc n) y e = hs n y e
+at_cons P x xs h hs zero y e = let z : x ≡ y = cc in subst P z h
+at_cons P x xs h hs (suc n) y e = hs n y e
 
 -- What holds of whatever is found: behind a reader of which nothing is asked, behind a test that was demanded, and by one of two readers.
 
@@ -93,22 +93,22 @@ module _ (d : Declarations) where
     unfolding operands_of
     operands_typed view [] s i = tt
     operands_typed view (t ∷ ts) s i =
-        if-found-then _ _ _ (sub view t s i) (below view t s i)
-        (λ e k h. if-found-then _ _ _ (operands_of sub view ts s k) (operands_typed view ts s k)
+        if_found_then _ _ _ (sub view t s i) (below view t s i)
+        (λ e k h. if_found_then _ _ _ (operands_of sub view ts s k) (operands_typed view ts s k)
         (λ es l hs. (h, hs)))
 
-    alternatives-typed :
+    alternatives_typed :
         (view : List ℕ) (t : ℕ) (cs : List (List ℕ)) (s : List ℕ) (i : ℕ)
         → IfFound (λ alts next. Covers d.types head_signatures alts view cs t) (alternatives sub view t cs s i)
     unfolding alternatives
-    alternatives-typed view t [] s i = tt
-    alternatives-typed view t (us ∷ cs) s i =
+    alternatives_typed view t [] s i = tt
+    alternatives_typed view t (us ∷ cs) s i =
         after_any _ _ (byte s i)
         (λ b k. after_test _ _ (leb b 1) UnknownCode s k
         (λ u. either _ (eqb b 0) _ _ s k
-        (if-found-then _ _ _ (alternatives sub view t cs s k) (alternatives-typed view t cs s k) (λ alts l hs. hs))
-        (if-found-then _ _ _ (sub (view ++ us) t s k) (below (view ++ us) t s k)
-        (λ e l h. if-found-then _ _ _ (alternatives sub view t cs s l) (alternatives-typed view t cs s l) (λ alts m hs. (h, hs))))))
+        (if_found_then _ _ _ (alternatives sub view t cs s k) (alternatives_typed view t cs s k) (λ alts l hs. hs))
+        (if_found_then _ _ _ (sub (view ++ us) t s k) (below (view ++ us) t s k)
+        (λ e l h. if_found_then _ _ _ (alternatives sub view t cs s l) (alternatives_typed view t cs s l) (λ alts m hs. (h, hs))))))
 
     -- each kind of expression, whatever the nesting
     module _ (nested : Bool) (view : List ℕ) (t : ℕ) where
@@ -136,7 +136,7 @@ module _ (d : Declarations) where
           by_head f (some h) g k =
               after_any _ _ (in_limits nested view s k)
               (λ u l. after_test _ _ (eqb h.result t) TypeMismatch s l
-              (λ same. if-found-then _ _ _ (operands_of sub view h.parameters s l) (operands_typed view h.parameters s l)
+              (λ same. if_found_then _ _ _ (operands_of sub view h.parameters s l) (operands_typed view h.parameters s l)
               (λ es m hs. (head_signature h, at_map head_signature d.heads f h g, eqb-true h.result t same, hs))))
 
       construct_typed : (s : List ℕ) (i : ℕ) → IfFound Expected (construct_expr d nested sub view t s i)
@@ -148,7 +148,7 @@ module _ (d : Declarations) where
           by_fields u c (some us) g k =
               after_any _ _ (in_limits nested view s k)
               (λ v l. after_test _ _ (eqb u t) TypeMismatch s l
-              (λ same. if-found-then _ _ _ (operands_of sub view us s l) (operands_typed view us s l)
+              (λ same. if_found_then _ _ _ (operands_of sub view us s l) (operands_typed view us s l)
               (λ es m hs. (us, g, eqb-true u t same, hs))))
 
       case_typed : (s : List ℕ) (i : ℕ) → IfFound Expected (case_expr d nested sub view t s i)
@@ -160,8 +160,8 @@ module _ (d : Declarations) where
           by_type u (some cs) g k =
               let there = at_get_d d.types u [] cs g in
               after_any _ _ (in_limits nested view s k)
-              (λ v l. if-found-then _ _ _ (sub view u s l) (below view u s l)
-              (λ e m h. if-found-then _ _ _ (alternatives sub view t cs s m) (alternatives-typed view t cs s m)
+              (λ v l. if_found_then _ _ _ (sub view u s l) (below view u s l)
+              (λ e m h. if_found_then _ _ _ (alternatives sub view t cs s m) (alternatives_typed view t cs s m)
               (λ alts n hs. (there.0, h, rw there.1 hs))))
 
       let_typed : (s : List ℕ) (i : ℕ) → IfFound Expected (let_expr d nested sub view t s i)
@@ -170,8 +170,8 @@ module _ (d : Declarations) where
           after_any _ _ (byte s i)
           (λ u k. after_test _ _ (ltb u (length d.types)) UnknownNumber s k
           (λ there. after_any _ _ (in_limits nested view s k)
-          (λ v l. if-found-then _ _ _ (sub view u s l) (below view u s l)
-          (λ e m h. if-found-then _ _ _ (sub (view ++ (u ∷ [])) t s m) (below (view ++ (u ∷ [])) t s m)
+          (λ v l. if_found_then _ _ _ (sub view u s l) (below view u s l)
+          (λ e m h. if_found_then _ _ _ (sub (view ++ (u ∷ [])) t s m) (below (view ++ (u ∷ [])) t s m)
           (λ b n g. (ltb-true u (length d.types) there, h, g))))))
 
       target_typed : (s : List ℕ) (i : ℕ) → IfFound Expected (target_expr d nested sub view t s i)
@@ -179,7 +179,7 @@ module _ (d : Declarations) where
       target_typed s i =
           after_any _ _ (byte s i)
           (λ l k. after_any _ _ (in_limits nested view s k)
-          (λ u m. if-found-then _ _ _ (sub view t s m) (below view t s m) (λ e n h. h)))
+          (λ u m. if_found_then _ _ _ (sub view t s m) (below view t s m) (λ e n h. h)))
 
       by_typed : (s : List ℕ) (i : ℕ) → IfFound Expected (expression_by d nested sub view t s i)
       unfolding expression_by
@@ -204,11 +204,11 @@ abbrev HeadExists : Types → Head → Type 0
 HeadExists types h = Each (Exists types) h.parameters × Exists types h.result
 
 -- the types that TY and the heads name exist, and the source exists
-numbers-exist :
+numbers_exist :
     (o : Outline) → numbers_exist o ≡ true
     → Each (Each (Each (Exists o.declared.types))) o.declared.types × Each (HeadExists o.declared.types) o.declared.heads
     × (o.goal.source < length o.declared.heads)
-numbers-exist o h =
+numbers_exist o h =
     let (exist, source) = (numbers_exist_exactly o).0 h in (
       member_each _ o.declared.types (λ cs m. member_each _ cs (λ us k. member_each _ us (λ t l. exist t (of_field cs us m k l)))),
       member_each _ o.declared.heads (λ f m. (member_each _ f.parameters (λ t l. exist t (of_parameter f m l)), exist f.result (of_result f m refl))),
@@ -225,26 +225,26 @@ module _ (d : Declarations) where
   unfolding body_of
   body_typed h s =
       let inside = take (h.body + h.size) s in
-      if-found-then _ _ _ (expression d nesting_limit h.parameters h.result inside h.body) (expression_typed d nesting_limit h.parameters h.result inside h.body)
+      if_found_then _ _ _ (expression d nesting_limit h.parameters h.result inside h.body) (expression_typed d nesting_limit h.parameters h.result inside h.body)
       (λ e k typed. after_any _ _ (at_end TrailingBytes inside k) (λ u l. typed))
 
   -- the functions have the heads' signatures, and bodies of their types
-  functions-read :
+  functions_read :
       (hs : List Head) → Each (HeadExists d.types) hs → (s : List ℕ) (i : ℕ)
       → IfFound (λ fs next. (map signature_of fs ≡ map head_signature hs) × AllTyped fs) (functions_of d hs s i)
   unfolding functions_of
-  functions-read [] all s i = (refl, λ f g e. absurd (clash (cc)))
-  functions-read (h ∷ hs) all s i =
-      if-found-then _ _ _ (body_of d h s) (body_typed h s)
-      (λ e k typed. if-found-then _ _ _ (functions_of d hs s k) (functions-read hs all.1 s k)
-      (λ fs l rest. (ap (◌∷◌ (head_signature h)) rest.0, at-cons (FunctionTyped d.types (head_signatures d)) _ fs (all.0.0, all.0.1, typed) rest.1)))
+  functions_read [] all s i = (refl, λ f g e. absurd (clash (cc)))
+  functions_read (h ∷ hs) all s i =
+      if_found_then _ _ _ (body_of d h s) (body_typed h s)
+      (λ e k typed. if_found_then _ _ _ (functions_of d hs s k) (functions_read hs all.1 s k)
+      (λ fs l rest. (ap (◌∷◌ (head_signature h)) rest.0, at_cons (FunctionTyped d.types (head_signatures d)) _ fs (all.0.0, all.0.1, typed) rest.1)))
 
-program-typed :
+program_typed :
     (o : Outline) (fs : List Function) → numbers_exist o ≡ true → map signature_of fs ≡ head_signatures o.declared → AllTyped o.declared fs
     → WellTyped (program_of o fs)
 unfolding program_of function_at
-program-typed o fs exist same all =
-    let exists = numbers-exist o exist in
+program_typed o fs exist same all =
+    let exists = numbers_exist o exist in
     record {
       fields_exist = exists.0;
       functions_typed = λ f g e. rw same (all f g e);
@@ -257,12 +257,12 @@ file_typed s i =
     after_any _ _ (size_in_limit s i)
     (λ u k. after_any _ _ (outline s k)
     (λ o l. after_test _ _ (numbers_exist o) UnknownNumber s l
-    (λ exist. if-found-then _ _ _ (functions_of o.declared o.declared.heads s l)
-    (functions-read o.declared o.declared.heads (numbers-exist o exist).1 s l)
+    (λ exist. if_found_then _ _ _ (functions_of o.declared o.declared.heads s l)
+    (functions_read o.declared o.declared.heads (numbers_exist o exist).1 s l)
     (λ fs m read. after_any _ _ (demand (no_empty_type (least_depths o.declared.types)) EmptyType s m)
     (λ v h. after_any _ _ (demand (deep_enough (program_of o fs)) _ s h)
     (λ w j. after_any _ _ (demand (well_spelled o) BadSpelling s j)
-    (λ x k. program-typed o fs exist read.0 read.1)))))))
+    (λ x k. program_typed o fs exist read.0 read.1)))))))
 
 accepting : (g : Got Program) (p : Program) → IfFound (λ q next. WellTyped q) g → on_got (λ p next. accepted p) turned_back g ≡ accepted p → WellTyped p
 accepting (got q next) p typed e = let z : q ≡ p = cc in subst WellTyped z typed

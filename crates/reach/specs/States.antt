@@ -96,10 +96,10 @@ Without (present e alts) (suc c) = Without alts c
 
 -- 01: a case has its constructor, one that the rule built or one of the input, and the next step finds that there is no alternative for it
 pub data FindsNone (i : Parts) : State → Type 0 where
-  for-construction :
+  for_construction :
       {t c : ℕ} {es : Exprs} {env outer : Env} {alts : Alternatives} {fs : List Frame}
       → Without alts c → FindsNone i (evaluating (construct t c es) env (waiting alts outer ∷ fs))
-  for-part :
+  for_part :
       {q : Place} {c k : ℕ} {outer : Env} {alts : Alternatives} {fs : List Frame}
       → at i q ≡ has c k → Without alts c → FindsNone i (inspecting q (waiting alts outer ∷ fs))
 

@@ -21,7 +21,7 @@ use Rattle.reach.specs.Partial.{deepest, Keeps, built, in_inputs, value, slotted
 use Rattle.reach.specs.Input.{input_by, read_input, input_of}
 use Rattle.reach.specs.Answers.{accepted, check}
 use Rattle.reach.proofs.Base.{picked}
-use Rattle.reach.proofs.Limits.{IfFound, if-found-then, accepted_rooms, within_depth}
+use Rattle.reach.proofs.Limits.{IfFound, if_found_then, accepted_rooms, within_depth}
 use Rattle.reach.proofs.Slots.{source_types_law}
 use Rattle.reach.proofs.WellTyped.{open_apart}
 use Rattle.readings.proofs.Partial.{AllBelow, inputs_lawful, closed_deepest, row_one, value_read, slotted_finds, slotted_meets}
@@ -77,9 +77,9 @@ module _ (file : List ℕ) (p : Program) (h : check file ≡ accepted p) where
 
     whole_finds : (s : List ℕ) → IfFound (λ row next. IsRead s row) (whole s 0)
     whole_finds s =
-        if-found-then _ _ _ (slotted p.types in_inputs levels (source_slots p) s 0)
+        if_found_then _ _ _ (slotted p.types in_inputs levels (source_slots p) s 0)
         (slotted_finds p.types in_inputs Closed (inputs_lawful p.types) levels s (source_slots p) 0)
-        (λ row n found. if-found-then _ _ _ (at_end BadInput s n) (end_finds s n)
+        (λ row n found. if_found_then _ _ _ (at_end BadInput s n) (end_finds s n)
         (λ u k over.
         let is = found.0.0 in (
           ((is.allowed, rw (source_types_law p) at is.typed), (keeps_fits p.types (source_slots p) row.0 is.allowed).0 found.0.1),

@@ -17,7 +17,7 @@ use Rattle.reach.specs.Types.{Typed, Slot, slot_types, least_depths}
 use Rattle.reach.specs.Reader.{Got, got, refused, Reader, ◌>>=◌, ◌>>◌, refuse, or_refuse, demand, byte}
 use Rattle.reach.specs.Partial.{fields_in, deepest, Keeps, Value, unbound, built, ◌before◌, deep_of, values_by, Manner, in_inputs, OpenApart, value_from, value, slotted}
 use Rattle.reach.proofs.Base.{clash, picked}
-use Rattle.reach.proofs.Limits.{IfFound, if-found-then}
+use Rattle.reach.proofs.Limits.{IfFound, if_found_then}
 use Rattle.reach.proofs.Reading.{found_at, Reads, reads_none, reads_then, byte_finds, looked_finds, demand_finds, Found, byte_there}
 
 -- One value before the rest of its row.
@@ -118,8 +118,8 @@ module _ (types : Types) (m : Manner) (Allowed : Parts → Type 0) (lawful : Law
   unfolding values_by prefix
   values_find one s below [] i = (no_row, reads_none)
   values_find one s below (t ∷ ts) i =
-      if-found-then _ _ _ (one t s i) (below t i)
-      (λ v k first. if-found-then _ _ _ (values_by one ts s k) (values_find one s below ts k)
+      if_found_then _ _ _ (one t s i) (below t i)
+      (λ v k first. if_found_then _ _ _ (values_by one ts s k) (values_find one s below ts k)
       (λ rest n outer. (
         row_more t ts v rest first.0 outer.0,
         subst (λ (x : List ℕ). Reads s i x n) (sym (prefix_before v rest.0)) (reads_then _ _ first.1 outer.1),
@@ -130,14 +130,14 @@ module _ (types : Types) (m : Manner) (Allowed : Parts → Type 0) (lawful : Law
   unfolding value_from prefix deepest
   from_finds fields s below t i b k first =
       picked (IfFound (λ v next. IsValue t v × Reads s i (prefix (v before end)) next)) (eqb b 0xff)
-      (λ opens. if-found-then _ _ _ (or_refuse m.misfit (m.open_part t) s k) (looked_finds m.misfit (m.open_part t) s k)
+      (λ opens. if_found_then _ _ _ (or_refuse m.misfit (m.open_part t) s k) (looked_finds m.misfit (m.open_part t) s k)
       (λ d n told.
       let is = lawful.found t d told.0 in (
         record { typed = tt; deep = omega (arith, is.0); allowed = is.1 },
         subst (Reads s i (0xff ∷ [])) told.1 (subst (λ (x : ℕ). Reads s i (x ∷ []) k) (eqb-true b 0xff opens) first),
       )))
-      (λ other. if-found-then _ _ _ (or_refuse m.misfit (field_types types t b) s k) (looked_finds m.misfit (field_types types t b) s k)
-      (λ us l has. if-found-then _ _ _ (fields us s l) (below us l)
+      (λ other. if_found_then _ _ _ (or_refuse m.misfit (field_types types t b) s k) (looked_finds m.misfit (field_types types t b) s k)
+      (λ us l has. if_found_then _ _ _ (fields us s l) (below us l)
       (λ row n inner. (
         record {
           typed = (us, has.0, inner.0.typed, tt);
@@ -150,9 +150,9 @@ module _ (types : Types) (m : Manner) (Allowed : Parts → Type 0) (lawful : Law
 
   value_finds : (levels : ℕ) (s : List ℕ) → FindsValues (value types m levels) s
   unfolding value
-  value_finds zero s t i = if-found-then _ _ _ (byte s i) (byte_finds s i) (λ b k first. from_finds _ s (λ us j. tt) t i b k first)
+  value_finds zero s t i = if_found_then _ _ _ (byte s i) (byte_finds s i) (λ b k first. from_finds _ s (λ us j. tt) t i b k first)
   value_finds (suc levels) s t i =
-      if-found-then _ _ _ (byte s i) (byte_finds s i)
+      if_found_then _ _ _ (byte s i) (byte_finds s i)
       (λ b k first. from_finds _ s (values_find (value types m levels) s (value_finds levels s)) t i b k first)
 
   -- From the bytes to the reader: no constructor has the number that stands for an open part.
@@ -265,9 +265,9 @@ module _ (types : Types) (m : Manner) (Allowed : Parts → Type 0) (lawful : Law
   unfolding slotted slot_types prefix
   slotted_finds levels s [] i = ((no_row, tt), reads_none)
   slotted_finds levels s (x ∷ ss) i =
-      if-found-then _ _ _ (value types m levels x.type s i) (value_finds levels s x.type i)
-      (λ v k first. if-found-then _ _ _ (demand (leb (deep_of v) x.room) m.misfit s k) (demand_finds (leb (deep_of v) x.room) m.misfit s k)
-      (λ u l passed. if-found-then _ _ _ (slotted types m levels ss s l) (slotted_finds levels s ss l)
+      if_found_then _ _ _ (value types m levels x.type s i) (value_finds levels s x.type i)
+      (λ v k first. if_found_then _ _ _ (demand (leb (deep_of v) x.room) m.misfit s k) (demand_finds (leb (deep_of v) x.room) m.misfit s k)
+      (λ u l passed. if_found_then _ _ _ (slotted types m levels ss s l) (slotted_finds levels s ss l)
       (λ rest n outer. (
         (
           row_more x.type (slot_types ss) v rest first.0 outer.0.0,

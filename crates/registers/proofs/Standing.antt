@@ -13,7 +13,7 @@ use Rattle.reach.specs.States.{StateIn, Sound}
 use Rattle.reach.proofs.Evaluation.{next_in}
 use Rattle.machine.specs.Cells.{Cells, cell_of, Unmoved}
 use Rattle.machine.specs.Records.{OnlyTop}
-use Rattle.machine.proofs.Records.{Same, holds_kept, state-kept}
+use Rattle.machine.proofs.Records.{Same, holds_kept, state_kept}
 use Rattle.registers.specs.declared.Registers.{Registers}
 use Rattle.registers.specs.Stepping.{declarations_of, StandsFor, Follows}
 use Rattle.machine.proofs.Words.{records_same}
@@ -42,17 +42,17 @@ stands_after {w = w} {w'} {p} {base} {r = r} {r'} {e} {s} {s'} stands only follo
 }
 
 -- After the words of the cells changed so that they stand for an input that binds at least as much, every part in its cell, and the records in use as before.
-pub stands-below :
+pub stands_below :
     {file types functions w w' : List ℕ} {p : Program} {base cells cells' : ℕ} {r : Registers} {e e' : Parts} {s : State}
     → StandsFor file types functions p w base cells r e s → Cells p.types (source_slots p) w' cells' e' → Unmoved w w' e → 5 * cells' ≤ base
     → length w' ≡ length w → Same w w' base r.records → StateIn e' s → Sound p e' s
     → StandsFor file types functions p w' base cells' r e' s
-stands-below {file} {types} {functions} {w} {w'} {base = base} {r = r} {e = e} stands cells unmoved apart same_length same there sound = record {
+stands_below {file} {types} {functions} {w} {w'} {base = base} {r = r} {e = e} stands cells unmoved apart same_length same there sound = record {
   input = cells;
   apart = apart;
   zeros = holds_kept w w' base r.records same stands.space.some_record stands.zeros;
   state =
-      state-kept file (declarations_of file types functions) w w' base r.records (cell_of w) (cell_of w') e same unmoved
+      state_kept file (declarations_of file types functions) w w' base r.records (cell_of w) (cell_of w') e same unmoved
       stands.space.environment_below stands.space.frame_below stands.state stands.there;
   there = there;
   sound = sound;

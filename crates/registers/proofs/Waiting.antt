@@ -58,19 +58,19 @@ unfolding next
 inspects p e s q h = view_waits p s q (answer_waits e (view p s) q h).0
 
 -- the control is the part, and the frame is a waiting case
-looks-at :
+looks_at :
     {file : List ℕ} {o : Declarations} {w : List ℕ} {base : ℕ} {cell : Place → ℕ} {c : Control} {f : ℕ} {q : Place} {alts : Alternatives} {env : Env} {fs : List Frame}
     → StateAt file o w base cell c f (inspecting q (waiting alts env ∷ fs)) → (c ≡ part_in (cell q)) × (f < no_case)
-looks-at (inspecting_at is frames) = (ap part_in (sym is), a_case frames)
+looks_at (inspecting_at is frames) = (ap part_in (sym is), a_case frames)
   where
     a_case :
         {file : List ℕ} {o : Declarations} {w : List ℕ} {base : ℕ} {cell : Place → ℕ} {f : ℕ} {alts : Alternatives} {env : Env} {fs : List Frame}
         → FramesAt file o w base cell f (waiting alts env ∷ fs) → f < no_case
     a_case (waiting_at holds small a<f next<f code env rest) = small
 
-pub waits-control :
+pub waits_control :
     {file types functions : List ℕ} {p : Program} {w : List ℕ} {base cells : ℕ} {r : Registers} {e : Parts} {s : State} {q : Question}
     → StandsFor file types functions p w base cells r e s → next p e s ≡ waits q → (control_in r ≡ part_in (cell_of w q.place)) × (r.frame < no_case)
-waits-control {file} {types} {functions} {p} {w} {base} {r = r} {e} {s} {q} stands asks =
+waits_control {file} {types} {functions} {p} {w} {base} {r = r} {e} {s} {q} stands asks =
     let (alts, env, fs, is) = inspects p e s q asks in
-    looks-at (subst (λ (y : State). StateAt file (declarations_of file types functions) w base (cell_of w) (control_in r) r.frame y) is stands.state)
+    looks_at (subst (λ (y : State). StateAt file (declarations_of file types functions) w base (cell_of w) (control_in r) r.frame y) is stands.state)

@@ -8,7 +8,7 @@ use lib.ListN.{get_or}
 use Rattle.skipping.specs.Ends.{Ends, passed_operands, passed_alternatives}
 use Rattle.skipping.proofs.Finding.{operand_found, alternative_found}
 use Rattle.machine.specs.Records.{record_word}
-use Rattle.machine.proofs.Codes.{chosen_missing, chosen-present}
+use Rattle.machine.proofs.Codes.{chosen_missing, chosen_present}
 use Rattle.machine.specs.Walks.{outside_of}
 use Rattle.machine.proofs.Records.{variable_outer, variable_outside}
 use Rattle.registers.specs.Stepping.{declarations_of, Outward, VariableThere, PassedOver, OperandIn, Found}
@@ -29,7 +29,7 @@ module _ (file types functions ends : List ℕ) (filled : Ends file types functi
 
     pub found_present : (get_or file place 0 ≡ 0 → ⊥) → Found file types functions i c (Alternative.Present (place + 1))
     found_present other new fs s there =
-        chosen-present file (declarations_of file types functions) new fs place 0 s (rw is (alternative_found file types functions ends filled new fs i c s there)) refl other
+        chosen_present file (declarations_of file types functions) new fs place 0 s (rw is (alternative_found file types functions ends filled new fs i c s there)) refl other
 
 -- The walk outward.
 module _ (w : List ℕ) (base n env : ℕ) where
@@ -43,8 +43,8 @@ module _ (w : List ℕ) (base n env : ℕ) where
         omega (arith, is, variable_outer file o w base cell n group x (outward file o cell x there))
 
     -- one turn
-    pub walk-outward :
+    pub walk_outward :
         {outer outside : ℕ} → Outward w base n env group → outside ≡ outside_of w base group → n < outside → outer ≡ record_word w base group 0
         → Outward w base n env outer
-    walk-outward outward told out is file o cell x there =
+    walk_outward outward told out is file o cell x there =
         rw is (variable_outside file o w base cell n group x (outward file o cell x there) (rw told at out))

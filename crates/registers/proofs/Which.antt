@@ -41,16 +41,16 @@ part_control (suc (suc zero)) place env x is two = clash (cc)
 part_control (suc (suc (suc n))) place env x is two = clash (cc)
 
 module _ {file : List ℕ} {o : Declarations} {w : List ℕ} {base : ℕ} {cell : Place → ℕ} (G : State → Type 0) where
-  pub when-expression :
+  pub when_expression :
       {i r f : ℕ} {s : State} → StateAt file o w base cell (expression_at i r) f s
       → ((x : Expr) (env : Env) (fs : List Frame) → Code file o i x → EnvAt file o w base cell r env → FramesAt file o w base cell f fs → G (evaluating x env fs))
       → G s
-  when-expression (evaluating_at code env frames) show = show _ _ _ code env frames
+  when_expression (evaluating_at code env frames) show = show _ _ _ code env frames
 
-  pub when-part :
+  pub when_part :
       {x f : ℕ} {s : State} → StateAt file o w base cell (part_in x) f s
       → ((q : Place) (fs : List Frame) → cell q ≡ x → FramesAt file o w base cell f fs → G (inspecting q fs)) → G s
-  when-part (inspecting_at {q = q} {fs = fs} is frames) show = show q fs is frames
+  when_part (inspecting_at {q = q} {fs = fs} is frames) show = show q fs is frames
 
   pub when_missing : {f : ℕ} {s : State} → StateAt file o w base cell nothing_left f s → G uncovered → G s
   when_missing missing_at show = show
@@ -81,34 +81,34 @@ module _ {file : List ℕ} {o : Declarations} {w : List ℕ} {base : ℕ} {cell 
   when_no_frame is (waiting_at holds small a<f next<f code env rest) show = absurd (clash (omega arith))
   when_no_frame is (fields_at holds small a<f next<f many code env rest) show = absurd (clash (omega arith))
 
-  pub when-waiting :
+  pub when_waiting :
       {f : ℕ} {fs : List Frame} → f < no_case → FramesAt file o w base cell f fs
       → ((alts : Alternatives) (outer : Env) (rest : List Frame) → record_word w base f 2 < f → FrameBelow (record_word w base f 3) f
       → CodeAlternatives file o (record_word w base f 0) alts → EnvAt file o w base cell (record_word w base f 2) outer
       → FramesAt file o w base cell (record_word w base f 3) rest → G (waiting alts outer ∷ rest))
       → G fs
-  when-waiting some none_at show = absurd (clash (omega arith))
-  when-waiting some (waiting_at holds small a<f next<f code env rest) show =
+  when_waiting some none_at show = absurd (clash (omega arith))
+  when_waiting some (waiting_at holds small a<f next<f code env rest) show =
       show _ _ _ (rw holds.word_2 a<f) (rw holds.word_3 next<f) (rw holds.word_0 code) (rw holds.word_2 env) (rw holds.word_3 rest)
-  when-waiting some (fields_at holds small a<f next<f many code env rest) show = absurd (clash (omega arith))
+  when_waiting some (fields_at holds small a<f next<f many code env rest) show = absurd (clash (omega arith))
 
-  pub when-fields :
+  pub when_fields :
       {f x : ℕ} {fs : List Frame} → f ≡ no_case + x → 0 < x → FramesAt file o w base cell f fs
       → ((e : Expr) (es : Exprs) (outer : Env) (rest : List Frame) → record_word w base x 2 < x → FrameBelow (record_word w base x 3) x
       → record_word w base x 1 ≡ suc (count es) → CodeAll file o (record_word w base x 0) (e ∷ₑ es) → EnvAt file o w base cell (record_word w base x 2) outer
       → FramesAt file o w base cell (record_word w base x 3) rest → G (fields e es outer ∷ rest))
       → G fs
-  when-fields is some none_at show = absurd (clash (omega arith))
-  when-fields is some (waiting_at holds small a<f next<f code env rest) show = absurd (clash (omega arith))
-  when-fields {x = x} is some (fields_at {r = r} holds small a<f next<f many code env rest) show =
+  when_fields is some none_at show = absurd (clash (omega arith))
+  when_fields is some (waiting_at holds small a<f next<f code env rest) show = absurd (clash (omega arith))
+  when_fields {x = x} is some (fields_at {r = r} holds small a<f next<f many code env rest) show =
       let same : x ≡ r = omega arith in
       show _ _ _ _ (rw (same, holds.word_2) a<f) (rw (same, holds.word_3) next<f) (rw same (holds.word_1 ∙ many)) (rw (same, holds.word_0) code) (rw (same, holds.word_2) env)
       (rw (same, holds.word_3) rest)
 
   -- no frame, or fields that wait
-  pub when-no-case :
+  pub when_no_case :
       {f : ℕ} {fs : List Frame} → no_case ≤ f → FramesAt file o w base cell f fs → G []
       → ((e : Expr) (es : Exprs) (outer : Env) (rest : List Frame) → G (fields e es outer ∷ rest)) → G fs
-  when-no-case no-case none_at none some = none
-  when-no-case no-case (waiting_at holds small a<f next<f code env rest) none some = absurd (clash (omega arith))
-  when-no-case no-case (fields_at holds small a<f next<f many code env rest) none some = some _ _ _ _
+  when_no_case no-case none_at none some = none
+  when_no_case no-case (waiting_at holds small a<f next<f code env rest) none some = absurd (clash (omega arith))
+  when_no_case no-case (fields_at holds small a<f next<f many code env rest) none some = some _ _ _ _

@@ -11,7 +11,7 @@ use Rattle.reach.specs.Syntax.{Program}
 use Rattle.reach.specs.Eval.{State}
 use Rattle.machine.specs.Cells.{Cells, Unmoved}
 use Rattle.machine.specs.Records.{record_word, OnlyTop}
-use Rattle.machine.proofs.Cells.{kept-cells}
+use Rattle.machine.proofs.Cells.{kept_cells}
 use Rattle.machine.proofs.Words.{records_same}
 use Rattle.registers.specs.declared.Registers.{Registers}
 use Rattle.registers.specs.Stepping.{CountsSmall, StandsFor}
@@ -22,7 +22,7 @@ module _ {w w' : List ℕ} {base top : ℕ} (only : OnlyTop w w' base top) where
       {file types functions : List ℕ} {p : Program} {cells : ℕ} {r : Registers} {e : Parts} {s : State} → StandsFor file types functions p w base cells r e s
       → Unmoved w w' e × Cells p.types (source_slots p) w' cells e
   cells_same stands =
-      kept-cells w' stands.input (rw only.same_length stands.input.fits) (λ i below. only.elsewhere i (λ h. absurd (omega (arith, stands.apart))))
+      kept_cells w' stands.input (rw only.same_length stands.input.fits) (λ i below. only.elsewhere i (λ h. absurd (omega (arith, stands.apart))))
 
   -- the counts stay small, with the new record's
   pub few_kept : CountsSmall w base top → CountsSmall w' base top

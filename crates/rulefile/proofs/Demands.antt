@@ -103,9 +103,9 @@ module _ (file : List ℕ) (r : CheckResult) (call : CheckPromise file r) where
   mark_exactly = Iff.trans (refused_exactly UnexpectedMark) (Conditions.mark_by file)
 
   -- 3: "a count, length, D, S, file size, nesting or view is beyond its limit".
-  pub range-exactly :
+  pub range_exactly :
       (r ≡ CheckResult.Refused OutOfRange) ↔ ((file_limit < length file) ⊎ (FirstPassRefuses file OutOfRange ⊎ ThirdPassRefuses file OutOfRange))
-  range-exactly = Iff.trans (refused_exactly OutOfRange) (Conditions.range_by file)
+  range_exactly = Iff.trans (refused_exactly OutOfRange) (Conditions.range_by file)
 
   -- 4: "a type, constructor, function or variable number does not exist".
   pub stranger_exactly : (r ≡ CheckResult.Refused UnknownNumber) ↔ (SecondPassRefuses file ⊎ ThirdPassRefuses file UnknownNumber)
@@ -124,26 +124,26 @@ module _ (file : List ℕ) (r : CheckResult) (call : CheckPromise file r) where
   tail_exactly = Iff.trans (refused_exactly TrailingBytes) (Conditions.tail_by file)
 
   -- 8: "a type has no closed value". The passes found nothing.
-  pub hollow-exactly :
+  pub hollow_exactly :
       (r ≡ CheckResult.Refused EmptyType)
       ↔ ((o : Outline) × Passes file o × ((t : ℕ) × (t < length o.declared.types) × ((v : Parts) → ¬ ValueOf o.declared.types t v)))
-  hollow-exactly = Iff.trans (refused_exactly EmptyType) (Conditions.hollow_by file)
+  hollow_exactly = Iff.trans (refused_exactly EmptyType) (Conditions.hollow_by file)
 
   -- 9: "a source parameter's least depth exceeds D". The passes found nothing, and every type has a closed value.
-  pub shallow-exactly :
+  pub shallow_exactly :
       (r ≡ CheckResult.Refused DepthTooSmall)
       ↔ ((o : Outline) × Passes file o × ((t : ℕ) → t < length o.declared.types → (v : Parts) × ValueOf o.declared.types t v)
       × ((t : ℕ) × SourceParameter o t × ((d : ℕ) × LeastDepth o.declared.types t d × (depth_of o.goal.depths < d))))
-  shallow-exactly = Iff.trans (refused_exactly DepthTooSmall) (Iff.trans (Conditions.shallow_by file) (shallow_beyond file))
+  shallow_exactly = Iff.trans (refused_exactly DepthTooSmall) (Iff.trans (Conditions.shallow_by file) (shallow_beyond file))
 
   -- 15: "the type named by NA has another form, tested straight after 9" (02, Slip 4). The passes found nothing, every type has a closed value, and each source
   -- parameter has one within D.
-  pub spelling-exactly :
+  pub spelling_exactly :
       (r ≡ CheckResult.Refused BadSpelling)
       ↔ ((o : Outline) × Passes file o × ((t : ℕ) → t < length o.declared.types → (v : Parts) × ValueOf o.declared.types t v)
       × ((t : ℕ) → SourceParameter o t → (d : ℕ) × LeastDepth o.declared.types t d × (d ≤ depth_of o.goal.depths))
       × ((t : ℕ) × (o.named ≡ some t) × ¬ Spells o.declared.types t))
-  spelling-exactly = Iff.trans (refused_exactly BadSpelling) (Iff.trans (Conditions.spelling_by file) (misspelled_within file))
+  spelling_exactly = Iff.trans (refused_exactly BadSpelling) (Iff.trans (Conditions.spelling_by file) (misspelled_within file))
 
   -- 10 to 14 are never given.
   pub others_never : (why : Refusal) → 9 < number_of why → number_of why < 15 → ¬ (r ≡ CheckResult.Refused why)

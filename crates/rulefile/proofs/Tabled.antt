@@ -13,7 +13,7 @@ use Rattle.reach.specs.RuleFile.{Head, Goal, Declarations, Outline, program_of, 
 use Rattle.reach.specs.Places.{type_at, head_at, declarations_at, outline_at}
 use Rattle.reach.proofs.Base.{clash}
 use Rattle.reach.proofs.Numbers.{numbers_exist_exactly}
-use Rattle.codes.proofs.Encoding.{BodyAt, Bodies, function_at_head, bodies-are}
+use Rattle.codes.proofs.Encoding.{BodyAt, Bodies, function_at_head, bodies_are}
 use Rattle.lookups.proofs.Tables.{found, missing}
 use Rattle.goal.specs.Goals.{Asks, named_of}
 use Rattle.depths.specs.Table.{padded}
@@ -45,7 +45,7 @@ module _ {s types functions : List ℕ} {named : Option ℕ} {goal : Goal} {fs :
 
   all_bodies : Bodies declared s declared.heads fs
   unfolding outline_at
-  all_bodies = bodies-are s whole passed.behind passed.read passed.behind fs passed.end passed.bodies
+  all_bodies = bodies_are s whole passed.behind passed.read passed.behind fs passed.end passed.bodies
 
   -- each place has its function, with the head's parameters and result and the body that stands behind the head; there are no others
   pub function_found : (f : ℕ) → f < length functions → (g : Function) × (get_elem? fs f ≡ some g) × BodyAt declared s (head_at s (get_or functions f 0)) g

@@ -51,10 +51,10 @@ same_end {file} {p = p} {j} {limit = limit} (Next.Goes r) over given in_time bel
 same_end (Next.Waits x) over given in_time below steps on = absurd on
 
 -- the words stand for a state of the program where the run is under way
-stands-there :
+stands_there :
     {file types functions input : List ℕ} {label limit : ℕ} {w : List ℕ} {base cells done : ℕ} {r : Registers} {p : Program} {j : Parts} {s : State}
     → Underway file types functions input label limit w base cells done r p j s → Standing file types functions w base r
-stands-there {cells = cells} {p = p} {s = s} h =
+stands_there {cells = cells} {p = p} {s = s} h =
     record { program = p; cells = cells; input = h.running.input; state = s; file_of = h.given.of_file.file_of; stands = h.running.stands }
 
 module _ (file types functions input : List ℕ) (label limit : ℕ) (w₀ : List ℕ) (base first : ℕ) (from : Registers) where
@@ -83,10 +83,10 @@ module _ (file types functions input : List ℕ) (label limit : ℕ) (w₀ : Lis
 
     module _ {w' : List ℕ} (cells' : ℕ) where
       -- one step further
-      pub came-on :
+      pub came_on :
           {r' : Registers} → AdvancesAll file types functions input label w w' base cells r cells' (Next.Goes r') → done < limit
           → LedTo file types functions input label limit w₀ base first from w' cells' (done + 1) r'
-      came-on {r'} advances before p j s h =
+      came_on {r'} advances before p j s h =
           let here = came p j s h in
           let (s', spent, on, under) = step w' cells' (Next.Goes r') advances p j s h in
           let one : done + 1 ≡ suc done = omega arith in
@@ -94,38 +94,38 @@ module _ (file types functions input : List ℕ) (label limit : ℕ) (w₀ : Lis
           rw one (s', under before, here.2 ∙ ap (λ l. eval p j l done here.0) left ∙ on (limit - suc done))
 
       -- the end, where the target is demanded, where an alternative is missing, or where the evaluation stops
-      came-demands :
+      came_demands :
           AdvancesAll file types functions input label w w' base cells r cells' Next.Demands
           → EndsAs file types functions input label limit w₀ w' base first from (Outcome.Reached done)
       unfolding outcome_of
-      came-demands advances p j s h = (
+      came_demands advances p j s h = (
         sym (ap outcome_of ((came p j s h).2 ∙ step w' cells' Next.Demands advances p j s h (limit - done))),
         looked_at w' cells' Next.Demands advances tt p j s h,
       )
 
-      came-lacks :
+      came_lacks :
           AdvancesAll file types functions input label w w' base cells r cells' Next.Lacks
           → EndsAs file types functions input label limit w₀ w' base first from (Outcome.Missing done)
       unfolding outcome_of
-      came-lacks advances p j s h = (
+      came_lacks advances p j s h = (
         sym (ap outcome_of ((came p j s h).2 ∙ step w' cells' Next.Lacks advances p j s h (limit - done))),
         looked_at w' cells' Next.Lacks advances tt p j s h,
       )
 
-      came-stops :
+      came_stops :
           AdvancesAll file types functions input label w w' base cells r cells' Next.Stops
           → EndsAs file types functions input label limit w₀ w' base first from (Outcome.Ended done)
       unfolding outcome_of
-      came-stops advances p j s h =
+      came_stops advances p j s h =
           let (why, over) = step w' cells' Next.Stops advances p j s h in
           (sym (ap outcome_of ((came p j s h).2 ∙ over (limit - done))), looked_at w' cells' Next.Stops advances tt p j s h)
 
       -- or where no step is left
-      pub came-last :
+      pub came_last :
           {r' : Registers} → AdvancesAll file types functions input label w w' base cells r cells' (Next.Goes r') → limit ≤ done
           → EndsAs file types functions input label limit w₀ w' base first from (Outcome.Unfinished done)
       unfolding outcome_of
-      came-last {r'} advances over p j s h =
+      came_last {r'} advances over p j s h =
           let none : limit - done ≡ zero = omega arith in
           let here = came p j s h in (
             sym (ap outcome_of (here.2 ∙ ap (λ l. eval p j l done here.0) none ∙ (step w' cells' (Next.Goes r') advances p j s h).1)),
@@ -138,25 +138,25 @@ module _ (file types functions input : List ℕ) (label limit : ℕ) (w₀ : Lis
       → LedTo file types functions input label limit w₀ base first from w cells (done + 0) r
   far_none {done = done} came = let z : done + 0 ≡ done = omega arith in rw z came
 
-  far-on :
+  far_on :
       {w w' : List ℕ} {cells : ℕ} (done n : ℕ) {r r' : Registers} → LedTo file types functions input label limit w₀ base first from w cells (done + n) r
       → Stepped file types functions w w' base label r (Next.Goes r') → done + suc n ≤ limit
       → LedTo file types functions input label limit w₀ base first from w' cells (done + suc n) r'
-  far-on {w} {cells = cells} done n {r} {r'} came stepped few =
+  far_on {w} {cells = cells} done n {r} {r'} came stepped few =
       let z : done + suc n ≡ done + n + 1 = omega arith in
-      rw z (came-on w cells (done + n) r came cells (went (Next.Goes r') stepped (λ x is. absurd (clash (cc)))) (omega arith))
+      rw z (came_on w cells (done + n) r came cells (went (Next.Goes r') stepped (λ x is. absurd (clash (cc)))) (omega arith))
 
-  came-far :
+  came_far :
       {w w₁ : List ℕ} {cells done n : ℕ} {r r₁ : Registers} → LedTo file types functions input label limit w₀ base first from w cells done r
       → StepsTo file types functions label base n w r w₁ r₁ → done + n ≤ limit
       → LedTo file types functions input label limit w₀ base first from w₁ cells (done + n) r₁
-  came-far came no_step few = far_none came
-  came-far {done = done} came (one_more {n} led stepped) few = far-on done n (came-far came led (omega arith)) stepped few
+  came_far came no_step few = far_none came
+  came_far {done = done} came (one_more {n} led stepped) few = far_on done n (came_far came led (omega arith)) stepped few
 
   module _ (w : List ℕ) (cells done : ℕ) (r : Registers) (came : LedTo file types functions input label limit w₀ base first from w cells done r) (in_time : done ≤ limit) where
     -- wherever the steps that are left lead, the words stand for a state
     pub came_onward : RunBegins file types functions input label limit w₀ base first from → Onward file types functions label w base r (limit - done)
-    came_onward (p, j, s, h) n w₁ r₁ few led = stands-there (came-far came led (omega arith) p j s h).1
+    came_onward (p, j, s, h) n w₁ r₁ few led = stands_there (came_far came led (omega arith) p j s h).1
 
     -- the steps of `run_on` led to where it halted
     module _ (w' : List ℕ) (x : Ran) (ran : RunsOn file types functions label w w' base r (limit - done) x) where
@@ -164,24 +164,24 @@ module _ (file types functions input : List ℕ) (label limit : ℕ) (w₀ : Lis
       halts halt is = subst (ComesToHalt file types functions label ran.between w' base x.registers x.steps (limit - done)) is ran.comes
 
       came_there : LedTo file types functions input label limit w₀ base first from ran.between cells (done + x.steps) x.registers
-      came_there = came-far came ran.led (omega (arith, ran.no_more))
+      came_there = came_far came ran.led (omega (arith, ran.no_more))
 
       pub halt_demands : x.halt ≡ Halt.Demands → EndsAs file types functions input label limit w₀ w' base first from (Outcome.Reached (done + x.steps))
       halt_demands is =
-          came-demands ran.between cells (done + x.steps) x.registers came_there cells (went Next.Demands (halts Halt.Demands is) (λ y no. absurd (clash (cc))))
+          came_demands ran.between cells (done + x.steps) x.registers came_there cells (went Next.Demands (halts Halt.Demands is) (λ y no. absurd (clash (cc))))
 
       pub halt_lacks : x.halt ≡ Halt.Lacks → EndsAs file types functions input label limit w₀ w' base first from (Outcome.Missing (done + x.steps))
       halt_lacks is =
-          came-lacks ran.between cells (done + x.steps) x.registers came_there cells (went Next.Lacks (halts Halt.Lacks is) (λ y no. absurd (clash (cc))))
+          came_lacks ran.between cells (done + x.steps) x.registers came_there cells (went Next.Lacks (halts Halt.Lacks is) (λ y no. absurd (clash (cc))))
 
       pub halt_stops : x.halt ≡ Halt.Stops → EndsAs file types functions input label limit w₀ w' base first from (Outcome.Ended (done + x.steps))
       halt_stops is =
-          came-stops ran.between cells (done + x.steps) x.registers came_there cells (went Next.Stops (halts Halt.Stops is) (λ y no. absurd (clash (cc))))
+          came_stops ran.between cells (done + x.steps) x.registers came_there cells (went Next.Stops (halts Halt.Stops is) (λ y no. absurd (clash (cc))))
 
       pub halt_spent : x.halt ≡ Halt.Spent → EndsAs file types functions input label limit w₀ w' base first from (Outcome.Unfinished (done + x.steps))
       halt_spent is =
           let (to, stepped, none) = halts Halt.Spent is in
-          came-last ran.between cells (done + x.steps) x.registers came_there cells (went (Next.Goes to) stepped (λ y no. absurd (clash (cc)))) (omega arith)
+          came_last ran.between cells (done + x.steps) x.registers came_there cells (went (Next.Goes to) stepped (λ y no. absurd (clash (cc)))) (omega arith)
 
       -- where a case waits on the part in a cell
       module _ {y : ℕ} (is : x.halt ≡ Halt.Waits y) where
@@ -196,8 +196,8 @@ module _ (file types functions input : List ℕ) (label limit : ℕ) (w₀ : Lis
           where
             pub halt_enters : done + x.steps < limit → LedTo file types functions input label limit w₀ base first from w'' cells' (done + x.steps + 1) r'
             halt_enters =
-                came-on ran.between cells (done + x.steps) x.registers came_there cells' (enters functions ran.between label filled (halts (Halt.Waits y) is))
+                came_on ran.between cells (done + x.steps) x.registers came_there cells' (enters functions ran.between label filled (halts (Halt.Waits y) is))
 
             pub halt_last : limit ≤ done + x.steps → EndsAs file types functions input label limit w₀ w'' base first from (Outcome.Unfinished (done + x.steps))
             halt_last =
-                came-last ran.between cells (done + x.steps) x.registers came_there cells' (enters functions ran.between label filled (halts (Halt.Waits y) is))
+                came_last ran.between cells (done + x.steps) x.registers came_there cells' (enters functions ran.between label filled (halts (Halt.Waits y) is))

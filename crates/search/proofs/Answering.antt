@@ -15,13 +15,13 @@ use Rattle.reach.specs.Search.{Entry, open_input, entries}
 use Rattle.reach.specs.Lists.{list_bytes, room_of, written}
 use Rattle.reach.specs.Answers.{check, accepted, no_search, complete, cut_short, search_answer, listed}
 use Rattle.machine.specs.Cells.{Cells}
-use Rattle.machine.proofs.Cells.{kept-cells}
+use Rattle.machine.proofs.Cells.{kept_cells}
 use Rattle.results.specs.declared.CheckResult.TheVariants as CheckResult
 use Rattle.rulefile.specs.declared.Loaded.{Loaded}
 use Rattle.rulefile.specs.Loading.{type_places, function_places, Tabled, Loads}
 use Rattle.rulefile.proofs.Tabled.{program_goal}
-use Rattle.loaded.proofs.Files.{given-file}
-use Rattle.loaded.proofs.Loaded.{loaded_accepted, loaded_refused, behind-kept}
+use Rattle.loaded.proofs.Files.{given_file}
+use Rattle.loaded.proofs.Loaded.{loaded_accepted, loaded_refused, behind_kept}
 use Rattle.results.specs.declared.SearchResult.{SearchResult}
 use Rattle.results.specs.declared.SearchResult.TheVariants as SearchResult
 use Rattle.search.specs.Answering.{SearchPromise}
@@ -48,7 +48,7 @@ listed_short es = refl
 -- the cells are the first words
 cells_longer : {types : Rattle.reach.specs.Syntax.Types} {ss : List Rattle.reach.specs.Types.Slot} {v : List ℕ} {top : ℕ} {e : Parts} (rest : List ℕ) → Cells types ss v top e → Cells types ss (v ++ rest) top e
 cells_longer {v = v} rest stands =
-    (kept-cells (v ++ rest) stands (omega (arith, stands.fits, length-append v rest)) (λ i l. get_or-append v rest 0 i (omega (arith, stands.fits)))).1
+    (kept_cells (v ++ rest) stands (omega (arith, stands.fits, length-append v rest)) (λ i l. get_or-append v rest 0 i (omega (arith, stands.fits)))).1
 
 pub room_taken : (list : List ℕ) {room : ℕ} → room ≡ room_of (length list) → length (take room list) ≡ room
 unfolding room_of
@@ -75,13 +75,13 @@ module _ (file : List ℕ) (r : Loaded) (loads : Loads file r) where
     search_short work list short = keeps_refused file work list WorkTooShort (answer_short file (length work) (length list) here.0 here.1 (omega (arith, limit_is)))
 
     -- enough of them
-    pub search-able :
+    pub search_able :
         (work : List ℕ) → words ≤ length work
         → (p : Program) × Searchable file (type_places r) (function_places r) r.least r.goal (take words work) p
-    search-able work enough = (
+    search_able work enough = (
       here.0,
       record {
-        of_file = given-file here.1 here.2;
+        of_file = given_file here.1 here.2;
         asks = program_goal here.2;
         least_are = here.2.depths;
         long = omega (arith, length-take words work, limit_is);
@@ -102,10 +102,10 @@ module _ (file : List ℕ) (r : Loaded) (loads : Loads file r) where
         words_enough = omega (arith, limit_is)
 
         -- what the cells stand for, of the program by whatever name
-        stands-then :
+        stands_then :
             {p : Program} → check file ≡ accepted p → {top : ℕ} (e : Program → Parts) → Cells here.0.types (source_slots here.0) v top (e here.0)
             → Cells p.types (source_slots p) work_then top (e p)
-        stands-then {p} checked {top} e stands =
+        stands_then {p} checked {top} e stands =
             let one : here.0 ≡ p = cc (here.1, checked) in
             subst (λ (x : Program). Cells x.types (source_slots x) work_then top (e x)) one (cells_longer (drop words work) stands)
 
@@ -118,7 +118,7 @@ module _ (file : List ℕ) (r : Loaded) (loads : Loads file r) where
             record {
               answer_is = rw (answered, whole.length_is, whole.verdict_is) refl;
               list_is = rw (answered, listed_complete es, whole.list_is) (written_front es list room (room_inside list room_is) fits);
-              words_are = λ p checked. (behind-kept file r loads is v work words_are long p checked, whole_open p checked whole.all_are_open.1);
+              words_are = λ p checked. (behind_kept file r loads is v work words_are long p checked, whole_open p checked whole.all_are_open.1);
             }
           where
             whole_open :
@@ -141,7 +141,7 @@ module _ (file : List ℕ) (r : Loaded) (loads : Loads file r) where
               list_is = rw (answered, listed_short es, first.list_is) (written_front es list room (room_inside list room_is) fits);
               words_are = λ p checked.
                   let one : here.0 ≡ p = cc (here.1, checked) in (
-                    behind-kept file r loads is v work words_are long p checked,
+                    behind_kept file r loads is v work words_are long p checked,
                     (
                       es,
                       first.next,
@@ -149,18 +149,18 @@ module _ (file : List ℕ) (r : Loaded) (loads : Loads file r) where
                       first.cells,
                       ap entries (sym one) ∙ first.entries_are,
                       first.length_is,
-                      stands-then checked (λ x. first.next.input) first.stands,
+                      stands_then checked (λ x. first.next.input) first.stands,
                     ),
                   );
             }
 
-        pub search-done :
+        pub search_done :
             (a : SearchResult)
             → ((p : Program) → Searchable file (type_places r) (function_places r) r.least r.goal (take words work) p
             → Explored (setting_of file (type_places r) (function_places r) r.least p) (take room list) after v a)
             → SearchPromise file work work_then list list_then a
-        unfolding search-able
-        search-done a explored = let able = search-able work enough in by_answer a (explored able.0 able.1)
+        unfolding search_able
+        search_done a explored = let able = search_able work enough in by_answer a (explored able.0 able.1)
           where
             by_answer : (b : SearchResult) → Explored (setting_of file (type_places r) (function_places r) r.least here.0) (take room list) after v b → SearchPromise file work work_then list list_then b
             by_answer (SearchResult.Refused why) none = absurd none

@@ -45,15 +45,15 @@ module _ {file types functions least : List ℕ} {goal : Goal} {w : List ℕ} {p
         stack_is = stack_is;
       }
 
-      begins-there :
+      begins_there :
           {w' : List ℕ} → Opened file w w' base head.parameters head.count goal.depths
           → Begins here goal.label w' head.count (start_registers head.body)
-      begins-there {w'} opened =
+      begins_there {w'} opened =
           let of_file = given.of_file in
           let asks = given.asks in
           let few = Begin.parameters_few of_file asks head head_read in
           let many = Begin.many of_file asks head head_read in
-          let stands = Begin.opened-stands of_file asks head head_read w base_is given.long opened in
+          let stands = Begin.opened_stands of_file asks head head_read w base_is given.long opened in
           let whole : length w' ≡ length w = Begin.opened_length of_file asks head head_read w base_is given.long opened in
           let long = given.long in
           record {
@@ -78,7 +78,7 @@ module _ {file types functions least : List ℕ} {goal : Goal} {w : List ℕ} {p
       pub begins :
           {w' : List ℕ} {from : Registers} → from ≡ start_registers head.body → Opened file w w' base head.parameters head.count goal.depths
           → Begins here goal.label w' head.count from
-      begins {w'} from_is opened = subst (Begins here goal.label w' head.count) (sym from_is) (begins-there opened)
+      begins {w'} from_is opened = subst (Begins here goal.label w' head.count) (sym from_is) (begins_there opened)
 
       -- so what is explored from there is the search of the program
       pub explored :

@@ -23,7 +23,7 @@ use Rattle.lookups.specs.declared.Fields.{Fields}
 use Rattle.lookups.specs.declared.Head.{Head}
 use Rattle.lookups.proofs.Tables.{parameters_many, constructors_many}
 use Rattle.machine.specs.Records.{Code, CodeAll, CodeAlternatives}
-use Rattle.machine.proofs.Codes.{code_behind, code_kind, code_call, code-construct, code-case, code-let, code_target, code_next, code_absent, code-present, Coded, a_variable, a_call, a_construct, a_case, a_let, a_target}
+use Rattle.machine.proofs.Codes.{code_behind, code_kind, code_call, code_construct, code_case, code_let, code_target, code_next, code_absent, code_present, Coded, a_variable, a_call, a_construct, a_case, a_let, a_target}
 use Rattle.skipping.specs.Ends.{passed_operands, passed_alternatives, Ends, EndAt, EndsFrom}
 use Rattle.skipping.proofs.Finding.{alternative_absent, alternative_one}
 
@@ -56,7 +56,7 @@ module _ (file types functions ends : List ℕ) (k : ℕ) (filled : EndsFrom fil
       let rest = passed_alternatives_law (i + 1) alts (omega arith) at.1 in
       ap (λ (j : ℕ). passed_alternatives file ends (count_alternatives alts) j) (alternative_absent file ends i at.0.1) ∙ omega (arith, rest)
   passed_alternatives_law i (present e alts) h code =
-      let at = code-present file d i e alts code in
+      let at = code_present file d i e alts code in
       let next = i + 1 + length (encode e) in
       let rest = passed_alternatives_law next alts (omega arith) (at.2 next (code_behind file d (i + 1) e at.1)) in
       ap (λ (j : ℕ). passed_alternatives file ends (count_alternatives alts) j) (alternative_one file ends i at.0 ∙ filled (i + 1) (omega arith) e at.1)
@@ -95,7 +95,7 @@ module _ (file types functions ends : List ℕ) (k : ℕ) (filled : EndsFrom fil
         → (x : Expr) → Coded 2 x → Code file d i x → passed_operands ends n (i + 3) ≡ i + length (encode x)
     unfolding encode declarations_at
     construct_end {first} {n} r told found x (a_construct {t} {c} {es}) there =
-        let at = code-construct file d i t c es there in
+        let at = code_construct file d i t c es there in
         let (us, known, many, _) = there.1 in
         let same : some (bytes_at file first n) ≡ some us =
         ap (fields_of file) (sym found) ∙ (told ∙ (ap₂ (fields_in file types) at.1.1 at.2.1 ∙ known)) in
@@ -111,7 +111,7 @@ module _ (file types functions ends : List ℕ) (k : ℕ) (filled : EndsFrom fil
         → (x : Expr) → Coded 2 x → Code file d i x → ⊥
     unfolding declarations_at
     construct_no_end r told unknown x (a_construct {t} {c} {es}) there =
-        let at = code-construct file d i t c es there in
+        let at = code_construct file d i t c es there in
         let (us, known, many, _) = there.1 in
         none-ne-some us (ap (fields_of file) (sym unknown) ∙ (told ∙ (ap₂ (fields_in file types) at.1.1 at.2.1 ∙ known)))
 
@@ -124,7 +124,7 @@ module _ (file types functions ends : List ℕ) (k : ℕ) (filled : EndsFrom fil
         → (x : Expr) → Coded 3 x → Code file d i x → passed_alternatives file ends all.count (get_or ends (i + 2) 0) ≡ i + length (encode x)
     unfolding encode declarations_at
     case_end all told x (a_case {t} {e} {alts}) there =
-        let at = code-case file d i t e alts there in
+        let at = code_case file d i t e alts there in
         let (cs, known, many, _, _) = there.1 in
         let next = i + 2 + length (encode e) in
         let same : constructors_at file all.at all.count ≡ cs = told ∙ (ap (λ (n : ℕ). type_at file (get_or types n 0)) at.1.1 ∙ mapped (type_at file) types t cs known) in
@@ -140,7 +140,7 @@ module _ (file types functions ends : List ℕ) (k : ℕ) (filled : EndsFrom fil
     let_end : (x : Expr) → Coded 4 x → Code file d i x → passed_operands ends 2 (i + 2) ≡ i + length (encode x)
     unfolding encode passed_operands
     let_end x (a_let {t} {e} {b}) there =
-        let at = code-let file d i t e b there in
+        let at = code_let file d i t e b there in
         let next = i + 2 + length (encode e) in
         let body = at.3 next (code_behind file d (i + 2) e at.2) in
         ap (λ (j : ℕ). get_or ends j 0) (filled (i + 2) (omega arith) e at.2)

@@ -12,7 +12,7 @@ use Rattle.reach.specs.Encoding.{ByteAt}
 use Rattle.reach.specs.Eval.{Env, Frame, State}
 use Rattle.reach.specs.Places.{declarations_at}
 use Rattle.machine.specs.Records.{Code}
-use Rattle.machine.specs.Walks.{OperandAt, this_operand, later_operand, ChosenAt, none_chosen, this_chosen, past_absent, past-present}
+use Rattle.machine.specs.Walks.{OperandAt, this_operand, later_operand, ChosenAt, none_chosen, this_chosen, past_absent, past_present}
 use Rattle.skipping.specs.Ends.{passed_operands, passed_alternative, passed_alternatives, Ends}
 
 -- One entry more, and none.
@@ -67,6 +67,6 @@ module _ (file types functions ends : List ℕ) (filled : Ends file types functi
   alternative_found new fs i c s (this_chosen e b code) = this_chosen e b code
   alternative_found new fs i c s (past_absent {c = k} b rest) =
       rw (alternative_absent file ends i b.1) (alternative_found new fs (i + 1) k s rest)
-  alternative_found new fs i c s (past-present {c = k} e b code rest) =
+  alternative_found new fs i c s (past_present {c = k} e b code rest) =
       let next = get_or ends (i + 1) 0 in
       rw (alternative_one file ends i b) (alternative_found new fs next k s (rest next (filled (i + 1) e code)))

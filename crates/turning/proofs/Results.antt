@@ -16,7 +16,7 @@ use Rattle.registers.specs.Stepping.{expression_kind, control_in, Standing, Read
 use Rattle.registers.proofs.Which.{expression_control, part_control}
 use Rattle.registers.proofs.Kept.{inspected}
 use Rattle.turning.specs.Turning.{OwnFields, FieldsFit, FitWords, GoesOn}
-use Rattle.turning.proofs.Turning.{after-result, goes_only, fields_fit, part_end, part-after, construct_fits, construct_goes_on, construct-turns-to}
+use Rattle.turning.proofs.Turning.{after_result, goes_only, fields_fit, part_end, part_after, construct_fits, construct_goes_on, construct_turns_to}
 
 -- what is to be shown of a result is shown of a construction and of a part of the input
 pub by_result : {file w : List ℕ} {base : ℕ} {G : Type 0} (r : Registers) → Result file w base r
@@ -29,14 +29,14 @@ by_result r (a_part {x} is_part no-case) of-built of_part = of_part (part_contro
 
 module _ (file types functions w : List ℕ) (base cell : ℕ) (r : Registers) (is_part : control_in r ≡ part_in cell) where
   -- behind it comes what waits
-  pub part-goes-on :
+  pub part_goes_on :
       {w' : List ℕ} {n : Next} → GoesOn file types functions w w' base r n → (label : ℕ) → Stepped file types functions w w' base label r n
-  part-goes-on {w'} {n} goes label = record {
+  part_goes_on {w'} {n} goes label = record {
     only_top = goes_only goes;
     steps = λ p sought cells e s file_of stands.
         inspected file types functions w base cell r is_part p cells e s (λ s'. StepMeans file types functions w w' base r p e s' n) stands
         (λ q fs is frames there frames_in sound.
-        after-result stands (λ fs'. Eval.inspecting q fs') (part_end p e q) (part-after p e q) frames frames_in goes);
+        after_result stands (λ fs'. Eval.inspecting q fs') (part_end p e q) (part_after p e q) frames frames_in goes);
   }
 
   pub part_fits : no_case ≤ r.frame → Standing file types functions w base r → FieldsFit w base r
@@ -70,11 +70,11 @@ module _ (file types functions w : List ℕ) (base : ℕ) (r : Registers) (resul
     result_turns some turns label =
         own_built some
         (λ ready no-case counts.
-        construct-turns-to file types functions w base r.place r.env r ready no-case refl refl counts (λ none. clash (omega (arith, some, none))) turns label)
+        construct_turns_to file types functions w base r.place r.env r ready no-case refl refl counts (λ none. clash (omega (arith, some, none))) turns label)
 
     -- without them comes what waits
     pub result_goes_on : {w' : List ℕ} {n : Next} → k ≡ 0 → GoesOn file types functions w w' base r n → (label : ℕ) → Stepped file types functions w w' base label r n
     result_goes_on none goes label =
         by_result r result
         (λ is ready no-case. construct_goes_on file types functions w base r.place r.env r ready no-case refl refl (own.0 is) none goes label)
-        (λ other x is_part no-case. part-goes-on file types functions w base x r is_part goes label)
+        (λ other x is_part no-case. part_goes_on file types functions w base x r is_part goes label)

@@ -14,7 +14,7 @@ use Rattle.reach.specs.States.{EnvIn, FramesIn}
 use Rattle.reach.proofs.Base.{clash}
 use Rattle.machine.specs.Cells.{cell_of}
 use Rattle.machine.specs.Records.{record_word, no_case, FrameBelow, Code, CodeAll, EnvAt, FramesAt, evaluating_at, OnlyTop}
-use Rattle.machine.proofs.Codes.{code_next, code-construct}
+use Rattle.machine.proofs.Codes.{code_next, code_construct}
 use Rattle.machine.proofs.Words.{nothing_written}
 use Rattle.registers.specs.declared.Registers.{Registers}
 use Rattle.registers.specs.declared.Next.{Next}
@@ -23,8 +23,8 @@ use Rattle.lookups.specs.Fields.{FieldCount}
 use Rattle.registers.specs.Stepping.{declarations_of, StandsFor, Standing, Ready, Follows, Stepped, StepMeans, Turned, to_last, to_next}
 use Rattle.turning.specs.Turning.{FieldsFit, FitWords, GoesOn, at_the_end, to_field}
 use Rattle.registers.proofs.Words.{few_kept}
-use Rattle.registers.proofs.Which.{when_construct, when_no_frame, when-fields, when-no-case}
-use Rattle.registers.proofs.Kept.{Met, shown, env-there, frames-there, fields_there, few-added}
+use Rattle.registers.proofs.Which.{when_construct, when_no_frame, when_fields, when_no_case}
+use Rattle.registers.proofs.Kept.{Met, shown, env_there, frames_there, fields_there, few_added}
 
 -- What the words stand for after the turn.
 module _
@@ -38,7 +38,7 @@ module _
         → Turned file types functions w w' base r first k env frame r' → Follows file types functions w' base r.records r' (Eval.evaluating x outer (with_fields xs outer fs))
     unfolding with_fields count
     turned []ₑ many code (to_last only one) = record {
-      state = evaluating_at (code_next file (declarations_of file types functions) first x []ₑ code).0 (env-there stands only env<t env_at env_in) (frames-there stands only frame<t frames_at frames_in);
+      state = evaluating_at (code_next file (declarations_of file types functions) first x []ₑ code).0 (env_there stands only env<t env_at env_in) (frames_there stands only frame<t frames_at frames_in);
       environment_below = env<t;
       frame_below = frame<t;
       no_fewer = omega arith;
@@ -50,19 +50,19 @@ module _
     turned (y ∷ₑ ys) many code (to_next i wrote more passed) =
         let (at, behind-it) = code_next file (declarations_of file types functions) first x (y ∷ₑ ys) code in
         record {
-          state = evaluating_at at (env-there stands wrote.only_top env<t env_at env_in)
+          state = evaluating_at at (env_there stands wrote.only_top env<t env_at env_in)
               (fields_there stands wrote.only_top wrote.holds env<t frame<t (omega arith) (behind-it i (passed x at)) env_at env_in frames_at frames_in);
           environment_below = omega arith;
           frame_below = (omega (arith, stands.space.room, stands.space.narrow), omega (arith, stands.space.room, stands.space.narrow));
           no_fewer = omega arith;
           one_more = omega arith;
-          few = few-added stands.space.few wrote (omega (arith, stands.space.some_record));
+          few = few_added stands.space.few wrote (omega (arith, stands.space.some_record));
         }
 
-pub turned-only :
+pub turned_only :
     {file types functions w w' : List ℕ} {base first k env frame : ℕ} {r r' : Registers} → Turned file types functions w w' base r first k env frame r' → OnlyTop w w' base r.records
-turned-only (to_last only one) = only
-turned-only (to_next i wrote more passed) = wrote.only_top
+turned_only (to_last only one) = only
+turned_only (to_next i wrote more passed) = wrote.only_top
 
 -- What comes next at a result with no case waiting.
 
@@ -70,11 +70,11 @@ construct_end : (p : Program) (e : Parts) (t c : ℕ) (env : Env) → next p e (
 unfolding next answer view
 construct_end p e t c env = refl
 
-construct-after :
+construct_after :
     (p : Program) (e : Parts) (t c : ℕ) (env : Env) (y : Expr) (ys : Exprs) (outer : Env) (rest : List Frame)
     → next p e (Eval.evaluating (construct t c []ₑ) env (fields y ys outer ∷ rest)) ≡ Eval.goes (Eval.evaluating y outer (with_fields ys outer rest))
 unfolding next answer view
-construct-after p e t c env y ys outer rest = refl
+construct_after p e t c env y ys outer rest = refl
 
 construct_turns :
     (p : Program) (e : Parts) (t c : ℕ) (x : Expr) (xs : Exprs) (env : Env)
@@ -82,21 +82,21 @@ construct_turns :
 unfolding next answer view
 construct_turns p e t c x xs env = refl
 
-construct-turns-first :
+construct_turns_first :
     (p : Program) (e : Parts) (t c : ℕ) (x : Expr) (xs : Exprs) (env : Env) (y : Expr) (ys : Exprs) (outer : Env) (rest : List Frame)
     → next p e (Eval.evaluating (construct t c (x ∷ₑ xs)) env (fields y ys outer ∷ rest)) ≡ Eval.goes (Eval.evaluating x env (with_fields xs env (fields y ys outer ∷ rest)))
 unfolding next answer view
-construct-turns-first p e t c x xs env y ys outer rest = refl
+construct_turns_first p e t c x xs env y ys outer rest = refl
 
 pub part_end : (p : Program) (e : Parts) (q : Place) → next p e (Eval.inspecting q []) ≡ Eval.stops Eval.value
 unfolding next answer view
 part_end p e q = refl
 
-pub part-after :
+pub part_after :
     (p : Program) (e : Parts) (q : Place) (y : Expr) (ys : Exprs) (outer : Env) (rest : List Frame)
     → next p e (Eval.inspecting q (fields y ys outer ∷ rest)) ≡ Eval.goes (Eval.evaluating y outer (with_fields ys outer rest))
 unfolding next answer view
-part-after p e q y ys outer rest = refl
+part_after p e q y ys outer rest = refl
 
 module _
     {file types functions w : List ℕ} {base cells : ℕ} {p : Program} {r : Registers} {e : Parts} {s : State} (stands : StandsFor file types functions p w base cells r e s)
@@ -112,21 +112,21 @@ module _
     pub fields_fit :
         {fs : List Frame} {x : ℕ} → FramesAt file (declarations_of file types functions) w base (cell_of w) r.frame fs → r.frame ≡ no_case + x → 0 < x → FitWords w base r x
     fields_fit {x = x} frames is some =
-        when-fields (λ fs. FitWords w base r x) is some frames
+        when_fields (λ fs. FitWords w base r x) is some frames
         (λ y ys outer rest env<f next<f many code env_at frames_at.
         let below = record_there is in
         (omega (arith, many), omega (arith, below, stands.space.few x below), omega (arith, env<f, below), (omega (arith, next<f.0, below), next<f.1)))
 
     -- behind a result with nothing to go into
-    pub after-result :
+    pub after_result :
         {w' : List ℕ} {fs : List Frame} {n : Next} (S : List Frame → State) → next p e (S []) ≡ Eval.stops Eval.value
         → ((y : Expr) (ys : Exprs) (outer : Env) (rest : List Frame) → next p e (S (fields y ys outer ∷ rest)) ≡ Eval.goes (Eval.evaluating y outer (with_fields ys outer rest)))
         → FramesAt file (declarations_of file types functions) w base (cell_of w) r.frame fs → FramesIn e fs
         → GoesOn file types functions w w' base r n → StepMeans file types functions w w' base r p e (S fs) n
-    after-result {w'} S end on frames frames_in (at_the_end none only) =
+    after_result {w'} S end on frames frames_in (at_the_end none only) =
         when_no_frame (λ fs. StepMeans file types functions w w' base r p e (S fs) Next.Stops) none frames (Eval.value, end)
-    after-result {w'} S end on frames frames_in (to_field {r'} x is some turns) =
-        when-fields (λ fs. FramesIn e fs → StepMeans file types functions w w' base r p e (S fs) (Next.Goes r')) is some frames
+    after_result {w'} S end on frames frames_in (to_field {r'} x is some turns) =
+        when_fields (λ fs. FramesIn e fs → StepMeans file types functions w w' base r p e (S fs) (Next.Goes r')) is some frames
         (λ y ys outer rest env<f next<f many code env_at frames_at in-input.
         let below = record_there is in (
           Eval.evaluating y outer (with_fields ys outer rest),
@@ -136,24 +136,24 @@ module _
 
 pub goes_only : {file types functions w w' : List ℕ} {base : ℕ} {r : Registers} {n : Next} → GoesOn file types functions w w' base r n → OnlyTop w w' base r.records
 goes_only (at_the_end none only) = only
-goes_only (to_field x is some turns) = turned-only turns
+goes_only (to_field x is some turns) = turned_only turns
 
 -- the words of the frame are those of the fields that wait
-pub goes-field :
+pub goes_field :
     {file types functions w w' : List ℕ} {base first k env frame x : ℕ} {r r' : Registers} → r.frame ≡ no_case + x → 0 < x → first ≡ record_word w base x 0
     → k ≡ record_word w base x 1 → env ≡ record_word w base x 2 → frame ≡ record_word w base x 3
     → Turned file types functions w w' base r first k env frame r' → GoesOn file types functions w w' base r (Next.Goes r')
-goes-field {x = x} {r' = r'} is some is-first is-k is-env is-frame turns = to_field {r' = r'} x is some (rw (← is-first, ← is-k, ← is-env, ← is-frame) turns)
+goes_field {x = x} {r' = r'} is some is-first is-k is-env is-frame turns = to_field {r' = r'} x is some (rw (← is-first, ← is-k, ← is-env, ← is-frame) turns)
 
 -- A construction with no case waiting.
 module _ (file types functions w : List ℕ) (base i env : ℕ) (r : Registers) (ready : Ready file w base r 2 i env) (no-case : no_case ≤ r.frame) where
   -- as many fields as the type's record says
-  many-fields :
+  many_fields :
       {t' c' k : ℕ} (t c : ℕ) (es : Exprs) → t' ≡ get_or file (i + 1) 0 → c' ≡ get_or file (i + 2) 0 → FieldCount file types t' c' k
       → Code file (declarations_of file types functions) i (construct t c es) → k ≡ count es
   unfolding declarations_at
-  many-fields t c es is-t is_c counts code =
-      let bytes = code-construct file (declarations_of file types functions) i t c es code in
+  many_fields t c es is-t is_c counts code =
+      let bytes = code_construct file (declarations_of file types functions) i t c es code in
       let arity = code.1 in
       counts.0 arity.0 (rw (is-t ∙ bytes.1.1, is_c ∙ bytes.2.1) arity.1) ∙ sym arity.2
 
@@ -185,16 +185,16 @@ module _ (file types functions w : List ℕ) (base i env : ℕ) (r : Registers) 
             (p : Program) (cells : ℕ) (e : Parts) (s : State) → StandsFor file types functions p w base cells r e s → (t c : ℕ) (es : Exprs) (env' : Env) (fs : List Frame)
             → Met file types functions w base i env r p e (construct t c es) env' fs → StepMeans file types functions w w' base r p e (Eval.evaluating (construct t c es) env' fs) n
         by_fields p cells e s stands t c []ₑ env' fs met =
-            after-result stands (λ fs'. Eval.evaluating (construct t c []ₑ) env' fs') (construct_end p e t c env') (construct-after p e t c env') met.frames_at met.frames_in goes
-        by_fields p cells e s stands t c (x ∷ₑ xs) env' fs met = absurd (clash (omega (arith, many-fields t c (x ∷ₑ xs) is-t is_c counts met.code)))
+            after_result stands (λ fs'. Eval.evaluating (construct t c []ₑ) env' fs') (construct_end p e t c env') (construct_after p e t c env') met.frames_at met.frames_in goes
+        by_fields p cells e s stands t c (x ∷ₑ xs) env' fs met = absurd (clash (omega (arith, many_fields t c (x ∷ₑ xs) is-t is_c counts met.code)))
 
     -- with fields: the first is turned to
-    pub construct-turns-to :
+    pub construct_turns_to :
         {w' : List ℕ} {r' : Registers} → (k ≡ 0 → ⊥) → Turned file types functions w w' base r (i + 3) k env r.frame r' → (label : ℕ)
         → Stepped file types functions w w' base label r (Next.Goes r')
     unfolding count
-    construct-turns-to {w'} {r'} some turns label = record {
-      only_top = turned-only turns;
+    construct_turns_to {w'} {r'} some turns label = record {
+      only_top = turned_only turns;
       steps = λ p sought cells e s file_of stands.
           construction p cells e s (λ s'. StepMeans file types functions w w' base r p e s' (Next.Goes r')) stands (by_fields p cells e s stands);
     }
@@ -202,12 +202,12 @@ module _ (file types functions w : List ℕ) (base i env : ℕ) (r : Registers) 
         by_fields :
             (p : Program) (cells : ℕ) (e : Parts) (s : State) → StandsFor file types functions p w base cells r e s → (t c : ℕ) (es : Exprs) (env' : Env) (fs : List Frame)
             → Met file types functions w base i env r p e (construct t c es) env' fs → StepMeans file types functions w w' base r p e (Eval.evaluating (construct t c es) env' fs) (Next.Goes r')
-        by_fields p cells e s stands t c []ₑ env' fs met = absurd (some (many-fields t c []ₑ is-t is_c counts met.code))
+        by_fields p cells e s stands t c []ₑ env' fs met = absurd (some (many_fields t c []ₑ is-t is_c counts met.code))
         by_fields p cells e s stands t c (x ∷ₑ xs) env' fs met =
-            let bytes = code-construct file (declarations_of file types functions) i t c (x ∷ₑ xs) met.code in (
+            let bytes = code_construct file (declarations_of file types functions) i t c (x ∷ₑ xs) met.code in (
               Eval.evaluating x env' (with_fields xs env' fs),
-              when-no-case (λ fs'. next p e (Eval.evaluating (construct t c (x ∷ₑ xs)) env' fs') ≡ Eval.goes (Eval.evaluating x env' (with_fields xs env' fs'))) no-case met.frames_at
-                  (construct_turns p e t c x xs env') (construct-turns-first p e t c x xs env'),
+              when_no_case (λ fs'. next p e (Eval.evaluating (construct t c (x ∷ₑ xs)) env' fs') ≡ Eval.goes (Eval.evaluating x env' (with_fields xs env' fs'))) no-case met.frames_at
+                  (construct_turns p e t c x xs env') (construct_turns_first p e t c x xs env'),
               turned stands (omega (arith, counts.1, ready.space.some_record)) ready.environment_there ready.space.frame_below met.env_at met.env_in met.frames_at met.frames_in xs
-                  (many-fields t c (x ∷ₑ xs) is-t is_c counts met.code) bytes.3 turns,
+                  (many_fields t c (x ∷ₑ xs) is-t is_c counts met.code) bytes.3 turns,
             )

@@ -20,7 +20,7 @@ use Rattle.lookups.specs.Heads.{head_of}
 use Rattle.lookups.proofs.Tables.{parameters_many}
 use Rattle.machine.specs.Cells.{cell_of}
 use Rattle.machine.specs.Records.{record_word, Code, empty_at, evaluating_at, Wrote}
-use Rattle.machine.proofs.Codes.{code_call, code-let, code_one, code-case, code_target}
+use Rattle.machine.proofs.Codes.{code_call, code_let, code_one, code_case, code_target}
 use Rattle.machine.proofs.Records.{count_word}
 use Rattle.registers.specs.declared.Registers.{Registers}
 use Rattle.registers.specs.declared.Next.{Next}
@@ -28,7 +28,7 @@ use Rattle.registers.specs.declared.Next.TheVariants as Next
 use Rattle.registers.specs.Stepping.{declarations_of, FileOf, StandsFor, Ready, Leads, Stepped, StepMeans, PassedOver, expression_kind}
 use Rattle.machine.proofs.Words.{nothing_written}
 use Rattle.registers.proofs.Which.{when_call, when_let, when_case, when_target}
-use Rattle.registers.proofs.Kept.{Met, StepsAt, steps-by, env-there, frames-there, operands-there, waiting-there, few-added}
+use Rattle.registers.proofs.Kept.{Met, StepsAt, steps_by, env_there, frames_there, operands_there, waiting_there, few_added}
 
 -- what a mapped list holds at a number is the image of what stands there
 mapped : {A B : Type 0} (f : A → B) (xs : List A) (d : A) (n : ℕ) (y : B) → get_elem? (map f xs) n ≡ some y → (n < length xs) × (f (get_or xs n d) ≡ y)
@@ -62,12 +62,12 @@ module _
     call_after : Registers
     call_after = record { kind = expression_kind; place = head.body; env = r.records; frame = r.frame; records = r.records + 1 }
 
-    call-follows :
+    call_follows :
         (types : List ℕ) (p : Program) (cells : ℕ) (e : Parts) (s : State) → FileOf file types functions p → StandsFor file types functions p w base cells r e s
         → (f : ℕ) (es : Exprs) (env' : Env) (fs : List Frame) → Met file types functions w base i env r p e (call f es) env' fs
         → StepMeans file types functions w w' base r p e (Eval.evaluating (call f es) env' fs) (Next.Goes call_after)
     unfolding size call_after
-    call-follows types p cells e s file_of stands f es env' fs met =
+    call_follows types p cells e s file_of stands f es env' fs met =
         let bytes = code_call file (declarations_of file types functions) i f es met.code in
         let arity = met.code.1 in
         let known = called file types functions f es arity.0 arity.1 arity.2 in
@@ -79,34 +79,34 @@ module _
           call_next p e f es env' fs there.0 there.1,
           record {
             state = evaluating_at (subst (λ (k : ℕ). Code file (declarations_of file types functions) k there.0.body) body there.2)
-                (operands-there stands wrote.only_top wrote.holds ready.space.some_record ready.environment_there (omega arith) empty_at tt met.env_at met.env_in bytes.2)
-                (frames-there stands wrote.only_top ready.space.frame_below met.frames_at met.frames_in);
+                (operands_there stands wrote.only_top wrote.holds ready.space.some_record ready.environment_there (omega arith) empty_at tt met.env_at met.env_in bytes.2)
+                (frames_there stands wrote.only_top ready.space.frame_below met.frames_at met.frames_in);
             environment_below = omega arith;
             frame_below = (omega (arith, ready.space.frame_below.0), ready.space.frame_below.1);
             no_fewer = omega arith;
             one_more = omega arith;
-            few = few-added ready.space.few wrote (omega (arith, ready.space.some_record));
+            few = few_added ready.space.few wrote (omega (arith, ready.space.some_record));
           },
         )
 
-    pub call-leads :
+    pub call_leads :
         (types : List ℕ)
         → Leads file types functions w w' base r (record { kind = expression_kind; place = head.body; env = r.records; frame = r.frame; records = r.records + 1 })
     unfolding call_after
-    call-leads types = record {
+    call_leads types = record {
       only_top = wrote.only_top;
       steps = λ p cells e s file_of stands.
-          steps-by file types functions w w' base i env r p e (Next.Goes call_after) ready stands
-          (λ x coded. when_call (StepsAt file types functions w w' base i env r p e (Next.Goes call_after)) coded (λ f es. call-follows types p cells e s file_of stands f es));
+          steps_by file types functions w w' base i env r p e (Next.Goes call_after) ready stands
+          (λ x coded. when_call (StepsAt file types functions w w' base i env r p e (Next.Goes call_after)) coded (λ f es. call_follows types p cells e s file_of stands f es));
     }
 
 -- A let.
 
-let-next :
+let_next :
     (p : Program) (e : Parts) (t : ℕ) (y b : Expr) (env : Env) (fs : List Frame)
     → next p e (Eval.evaluating (let_in t y b) env fs) ≡ Eval.goes (Eval.evaluating b (operands env (y ∷ₑ []ₑ) env) fs)
 unfolding next answer view
-let-next p e t y b env fs = refl
+let_next p e t y b env fs = refl
 
 module _
     (file types functions w w' : List ℕ) (base i env : ℕ) (r : Registers) {body seen : ℕ} (ready : Ready file w base r 4 i env)
@@ -116,26 +116,26 @@ module _
     let_after : Registers
     let_after = record { kind = expression_kind; place = body; env = r.records; frame = r.frame; records = r.records + 1 }
 
-    let-follows :
+    let_follows :
         (p : Program) (cells : ℕ) (e : Parts) (s : State) → StandsFor file types functions p w base cells r e s
         → (t : ℕ) (y b : Expr) (env' : Env) (fs : List Frame) → Met file types functions w base i env r p e (let_in t y b) env' fs
         → StepMeans file types functions w w' base r p e (Eval.evaluating (let_in t y b) env' fs) (Next.Goes let_after)
     unfolding count let_after
-    let-follows p cells e s stands t y b env' fs met =
-        let at = code-let file (declarations_of file types functions) i t y b met.code in
+    let_follows p cells e s stands t y b env' fs met =
+        let at = code_let file (declarations_of file types functions) i t y b met.code in
         let many = count_word file (declarations_of file types functions) w base (cell_of w) stands.zeros met.env_at in (
           Eval.evaluating b (operands env' (y ∷ₑ []ₑ) env') fs,
-          let-next p e t y b env' fs,
+          let_next p e t y b env' fs,
           record {
             state = evaluating_at (at.3 body (found y at.2))
-                (operands-there stands wrote.only_top wrote.holds ready.environment_there ready.environment_there (omega (arith, is_seen, many)) met.env_at met.env_in met.env_at met.env_in
+                (operands_there stands wrote.only_top wrote.holds ready.environment_there ready.environment_there (omega (arith, is_seen, many)) met.env_at met.env_in met.env_at met.env_in
                 (code_one file (declarations_of file types functions) (i + 2) y at.2))
-                (frames-there stands wrote.only_top ready.space.frame_below met.frames_at met.frames_in);
+                (frames_there stands wrote.only_top ready.space.frame_below met.frames_at met.frames_in);
             environment_below = omega arith;
             frame_below = (omega (arith, ready.space.frame_below.0), ready.space.frame_below.1);
             no_fewer = omega arith;
             one_more = omega arith;
-            few = few-added ready.space.few wrote (omega (arith, is_seen, ready.environment_there, ready.space.few env ready.environment_there));
+            few = few_added ready.space.few wrote (omega (arith, is_seen, ready.environment_there, ready.space.few env ready.environment_there));
           },
         )
 
@@ -144,17 +144,17 @@ module _
     let_leads = record {
       only_top = wrote.only_top;
       steps = λ p cells e s file_of stands.
-          steps-by file types functions w w' base i env r p e (Next.Goes let_after) ready stands
-          (λ x coded. when_let (StepsAt file types functions w w' base i env r p e (Next.Goes let_after)) coded (λ t y b. let-follows p cells e s stands t y b));
+          steps_by file types functions w w' base i env r p e (Next.Goes let_after) ready stands
+          (λ x coded. when_let (StepsAt file types functions w w' base i env r p e (Next.Goes let_after)) coded (λ t y b. let_follows p cells e s stands t y b));
     }
 
 -- A case.
 
-case-next :
+case_next :
     (p : Program) (e : Parts) (t : ℕ) (y : Expr) (alts : Alternatives) (env : Env) (fs : List Frame)
     → next p e (Eval.evaluating (case t y alts) env fs) ≡ Eval.goes (Eval.evaluating y env (waiting alts env ∷ fs))
 unfolding next answer view
-case-next p e t y alts env fs = refl
+case_next p e t y alts env fs = refl
 
 module _
     (file types functions w w' : List ℕ) (base i env : ℕ) (r : Registers) {alternatives : ℕ} (ready : Ready file w base r 3 i env)
@@ -163,24 +163,24 @@ module _
     case_after : Registers
     case_after = record { kind = expression_kind; place = i + 2; env = env; frame = r.records; records = r.records + 1 }
 
-    case-follows :
+    case_follows :
         (p : Program) (cells : ℕ) (e : Parts) (s : State) → StandsFor file types functions p w base cells r e s
         → (t : ℕ) (y : Expr) (alts : Alternatives) (env' : Env) (fs : List Frame) → Met file types functions w base i env r p e (case t y alts) env' fs
         → StepMeans file types functions w w' base r p e (Eval.evaluating (case t y alts) env' fs) (Next.Goes case_after)
     unfolding case_after
-    case-follows p cells e s stands t y alts env' fs met =
-        let at = code-case file (declarations_of file types functions) i t y alts met.code in (
+    case_follows p cells e s stands t y alts env' fs met =
+        let at = code_case file (declarations_of file types functions) i t y alts met.code in (
           Eval.evaluating y env' (waiting alts env' ∷ fs),
-          case-next p e t y alts env' fs,
+          case_next p e t y alts env' fs,
           record {
-            state = evaluating_at at.2 (env-there stands wrote.only_top ready.environment_there met.env_at met.env_in)
-                (waiting-there stands wrote.only_top wrote.holds ready.environment_there ready.space.frame_below (at.3 alternatives (found y at.2))
+            state = evaluating_at at.2 (env_there stands wrote.only_top ready.environment_there met.env_at met.env_in)
+                (waiting_there stands wrote.only_top wrote.holds ready.environment_there ready.space.frame_below (at.3 alternatives (found y at.2))
                 met.env_at met.env_in met.frames_at met.frames_in);
             environment_below = omega (arith, ready.environment_there);
             frame_below = (omega arith, omega (arith, ready.space.room, ready.space.narrow));
             no_fewer = omega arith;
             one_more = omega arith;
-            few = few-added ready.space.few wrote (omega (arith, ready.space.some_record));
+            few = few_added ready.space.few wrote (omega (arith, ready.space.some_record));
           },
         )
 
@@ -189,46 +189,46 @@ module _
     case_leads = record {
       only_top = wrote.only_top;
       steps = λ p cells e s file_of stands.
-          steps-by file types functions w w' base i env r p e (Next.Goes case_after) ready stands
-          (λ x coded. when_case (StepsAt file types functions w w' base i env r p e (Next.Goes case_after)) coded (λ t y alts. case-follows p cells e s stands t y alts));
+          steps_by file types functions w w' base i env r p e (Next.Goes case_after) ready stands
+          (λ x coded. when_case (StepsAt file types functions w w' base i env r p e (Next.Goes case_after)) coded (λ t y alts. case_follows p cells e s stands t y alts));
     }
 
 -- A target.
 
-target-next :
+target_next :
     (p : Program) (e : Parts) (l : ℕ) (y : Expr) (env : Env) (fs : List Frame)
     → next p e (Eval.evaluating (target l y) env fs) ≡ answer e (pick (eqb l p.label) Eval.demands (Eval.goes (Eval.evaluating y env fs)))
 unfolding next view
-target-next p e l y env fs = refl
+target_next p e l y env fs = refl
 
 module _ (file types functions w : List ℕ) (base label i env : ℕ) (r : Registers) (ready : Ready file w base r 5 i env) where
   -- what is right at every target is right
-  target-steps :
+  target_steps :
       (n : Next)
       → ((p : Program) (e : Parts) → label ≡ p.label → (l : ℕ) (y : Expr) → StepsAt file types functions w w base i env r p e n (target l y))
       → Stepped file types functions w w base label r n
-  target-steps n means = record {
+  target_steps n means = record {
     only_top = nothing_written w base r.records;
     steps = λ p sought cells e s file_of stands.
-        steps-by file types functions w w base i env r p e n ready stands
+        steps_by file types functions w w base i env r p e n ready stands
         (λ x coded. when_target (StepsAt file types functions w w base i env r p e n) coded (means p e sought));
   }
 
   pub target_demands : get_or file (i + 1) 0 ≡ label → Stepped file types functions w w base label r Next.Demands
   unfolding answer
-  target_demands is = target-steps Next.Demands (λ p e sought l y env' fs met.
+  target_demands is = target_steps Next.Demands (λ p e sought l y env' fs met.
       let at = code_target file (declarations_of file types functions) i l y met.code in
       let same : l ≡ p.label = cc at.1.1 in
-      rw (target-next, eq-eqb l p.label same))
+      rw (target_next, eq-eqb l p.label same))
 
   pub target_goes :
       (get_or file (i + 1) 0 ≡ label → ⊥)
       → Stepped file types functions w w base label r (Next.Goes (record { kind = expression_kind; place = i + 2; env = env; frame = r.frame; records = r.records }))
   unfolding answer
-  target_goes other = target-steps (Next.Goes (record { kind = expression_kind; place = i + 2; env = env; frame = r.frame; records = r.records })) (λ p e sought l y env' fs met.
+  target_goes other = target_steps (Next.Goes (record { kind = expression_kind; place = i + 2; env = env; frame = r.frame; records = r.records })) (λ p e sought l y env' fs met.
       let at = code_target file (declarations_of file types functions) i l y met.code in (
         Eval.evaluating y env' fs,
-        rw (target-next, ne_eqb l p.label (λ same. other (at.1.1 ∙ (same ∙ sym sought)))),
+        rw (target_next, ne_eqb l p.label (λ same. other (at.1.1 ∙ (same ∙ sym sought)))),
         record {
           state = evaluating_at at.2 met.env_at met.frames_at;
           environment_below = ready.environment_there;

@@ -14,14 +14,14 @@ use Rattle.machine.specs.Cells.{cell_of}
 use Rattle.machine.specs.Records.{record_word, EnvAt, evaluating_at, inspecting_at}
 use Rattle.machine.proofs.Codes.{code_variable}
 use Rattle.machine.specs.Walks.{VariableAt, outside_of}
-use Rattle.machine.proofs.Records.{variable_at_law, variable-part, variable-operand}
+use Rattle.machine.proofs.Records.{variable_at_law, variable_part, variable_operand}
 use Rattle.registers.specs.declared.Registers.{Registers}
 use Rattle.registers.specs.declared.Next.{Next}
 use Rattle.registers.specs.declared.Next.TheVariants as Next
 use Rattle.registers.specs.Stepping.{declarations_of, StandsFor, Standing, Ready, Leads, VariableThere, Group, OperandIn, part_kind, expression_kind}
 use Rattle.machine.proofs.Words.{nothing_written}
 use Rattle.registers.proofs.Which.{when_variable}
-use Rattle.registers.proofs.Kept.{Met, shown, StepsAt, steps-by}
+use Rattle.registers.proofs.Kept.{Met, shown, StepsAt, steps_by}
 
 -- what comes next at a variable, by what it stands for
 part_next :
@@ -58,15 +58,15 @@ module _ (file types functions w : List ℕ) (base i env : ℕ) (r : Registers) 
       (file, declarations_of file types functions, cell_of w, there.0, there.2)) met)
 
   -- what is right at every variable is right
-  variable-leads :
+  variable_leads :
       (r' : Registers)
       → ((p : Program) (cells : ℕ) (e : Parts) (s : State) → StandsFor file types functions p w base cells r e s
       → (m : ℕ) → StepsAt file types functions w w base i env r p e (Next.Goes r') (variable m))
       → Leads file types functions w w base r r'
-  variable-leads r' means = record {
+  variable_leads r' means = record {
     only_top = nothing_written w base r.records;
     steps = λ p cells e s file_of stands.
-        steps-by file types functions w w base i env r p e (Next.Goes r') ready stands
+        steps_by file types functions w w base i env r p e (Next.Goes r') ready stands
         (λ x coded. when_variable (StepsAt file types functions w w base i env r p e (Next.Goes r')) coded (means p cells e s stands));
   }
 
@@ -75,12 +75,12 @@ module _ (file types functions w : List ℕ) (base i env : ℕ) (r : Registers) 
       (is-first : first ≡ record_word w base group 2) (is-inner : inner ≡ record_word w base group 3)
     where
       -- a part of the input
-      pub part-leads :
+      pub part_leads :
           inner ≡ 0 → Leads file types functions w w base r (record { kind = part_kind; place = first + (n - outside); env = 0; frame = r.frame; records = r.records })
-      part-leads mark = variable-leads (record { kind = part_kind; place = first + (n - outside); env = 0; frame = r.frame; records = r.records }) (λ p cells e s stands m env' fs met.
+      part_leads mark = variable_leads (record { kind = part_kind; place = first + (n - outside); env = 0; frame = r.frame; records = r.records }) (λ p cells e s stands m env' fs met.
           let there = found p cells e s stands m env' fs met in
           let at-group = group-is.outward file (declarations_of file types functions) (cell_of w) there.0 there.2 in
-          let part = variable-part file (declarations_of file types functions) w base (cell_of w) n group there.0 at-group group-is.inside (sym is-inner ∙ mark) in (
+          let part = variable_part file (declarations_of file types functions) w base (cell_of w) n group there.0 at-group group-is.inside (sym is-inner ∙ mark) in (
             Eval.inspecting part.0 fs,
             part_next p e m env' fs part.0 (there.1 ∙ ap some part.1),
             record {
@@ -94,13 +94,13 @@ module _ (file types functions w : List ℕ) (base i env : ℕ) (r : Registers) 
           ))
 
       -- an operand, in the environment in which it stands
-      pub operand-leads :
+      pub operand_leads :
           {place : ℕ} → (inner ≡ 0 → ⊥) → OperandIn file types functions first (n - outside) place
           → Leads file types functions w w base r (record { kind = expression_kind; place = place; env = inner - 1; frame = r.frame; records = r.records })
-      operand-leads {place} other placed = variable-leads (record { kind = expression_kind; place = place; env = inner - 1; frame = r.frame; records = r.records }) (λ p cells e s stands m env' fs met.
+      operand_leads {place} other placed = variable_leads (record { kind = expression_kind; place = place; env = inner - 1; frame = r.frame; records = r.records }) (λ p cells e s stands m env' fs met.
           let there = found p cells e s stands m env' fs met in
           let at-group = group-is.outward file (declarations_of file types functions) (cell_of w) there.0 there.2 in
-          let (y, env'', is, before, env_at, operand) = variable-operand file (declarations_of file types functions) w base (cell_of w) n group there.0 at-group group-is.inside (λ zero-mark. other (is-inner ∙ zero-mark)) in (
+          let (y, env'', is, before, env_at, operand) = variable_operand file (declarations_of file types functions) w base (cell_of w) n group there.0 at-group group-is.inside (λ zero-mark. other (is-inner ∙ zero-mark)) in (
             Eval.evaluating y env'' fs,
             operand_next p e m env' fs y env'' (there.1 ∙ ap some is),
             record {

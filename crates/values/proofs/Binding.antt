@@ -19,8 +19,8 @@ use Rattle.reach.proofs.Depths.{typed_width}
 use Rattle.reach.proofs.Places.{bytes_length}
 use Rattle.reach.proofs.WellTyped.{open_apart}
 use Rattle.machine.specs.Cells.{cell_word, cell_of, Cells, Binds, Unmoved}
-use Rattle.machine.proofs.Cells.{field, walk_part, walk_kept, OneOf, bind-places, bind_elsewhere}
-use Rattle.cells.proofs.Binding.{bound-cells}
+use Rattle.machine.proofs.Cells.{field, walk_part, walk_kept, OneOf, bind_places, bind_elsewhere}
+use Rattle.cells.proofs.Binding.{bound_cells}
 use Rattle.values.specs.Positions.{ClosedRowStands, byte_of}
 use Rattle.values.specs.Notes.{noted_place, Noted, NotesStand, FollowsInput}
 use Rattle.values.proofs.Standing.{ValueStands, PartStands, input_stands, input_part_law}
@@ -46,10 +46,10 @@ unfolding at slot_at
 ⊑-slot types (⊑-same {c = c} f a) (inside q) ss t = ⊑-slot types f q (field_slots types (head? ss) c) t
 
 -- what is noted in the cells before stays
-pub noted-before :
+pub noted_before :
     {file places input w w' ts : List ℕ} {first i : ℕ} → Noted file places input w w' first ts i → (x : ℕ) → x < first
     → noted_place w' x ≡ noted_place w x
-noted-before noted x l =
+noted_before noted x l =
     let low = noted.elsewhere (5 * x + 4) (λ m less. (omega arith, omega arith)) in
     let high = noted.elsewhere (5 * x + 1) (λ m less. (omega arith, omega arith)) in
     rw (low, high)
@@ -85,7 +85,7 @@ module _
 -- a place of a row of open parts is one of its numbers, as it is of the fields of a part that was just bound
 open_places : (n : ℕ) (r : Place) → There (at (all_open n) r) → OneOf n part r
 unfolding at bind_at within
-open_places n r t = by_place (bind-places here 0 n (opened end) (inside r) refl t)
+open_places n r t = by_place (bind_places here 0 n (opened end) (inside r) refl t)
   where
     by_place : ⊥ ⊎ OneOf n (λ m. inside (part m)) (inside r) → OneOf n part r
     by_place (inl none) = absurd none
@@ -93,11 +93,11 @@ open_places n r t = by_place (bind-places here 0 n (opened end) (inside r) refl 
 
 -- The parameters' open cells, and in these the places from the first byte on, as `note_values` notes them: the words stand for the input with every
 -- parameter open, and follow the closed one.
-pub start-follows :
+pub start_follows :
     {p : Program} (file types : List ℕ) → check file ≡ accepted p → p.types ≡ map (type_at file) types → (input : List ℕ) {j : Parts} {v w' ts : List ℕ} {n : ℕ}
     → input_of p input ≡ some j → ts ≡ source_types p → length ts ≡ n → Cells (map (type_at file) types) (source_slots p) v n (all_open n)
     → Noted file types input v w' 0 ts 0 → FollowsInput (map (type_at file) types) (source_slots p) w' n (all_open n) j
-start-follows {p} file types checked there input {j} {v} {w'} {ts} {n} reads source count cells noted = record {
+start_follows {p} file types checked there input {j} {v} {w'} {ts} {n} reads source count cells noted = record {
   cells = noted_cells cells noted (λ r c k h. absurd (open_unbound n r h));
   below = rw (← count, ← (typed_width p.types ts j (rw source (input_stands file checked input reads).typed))) (open_least j);
   notes = λ r h. by_part r (open_places n r (free_there h));
@@ -144,11 +144,11 @@ open_by p there type room place = record {
 }
 
 -- so it is where the input is bound as its closed bytes say
-pub open-stands :
+pub open_stands :
     {p : Program} (file types : List ℕ) → check file ≡ accepted p → p.types ≡ map (type_at file) types → (input : List ℕ) {w : List ℕ} {top : ℕ} {e j : Parts}
     → input_of p input ≡ some j → (q : Place) → FollowsInput (map (type_at file) types) (source_slots p) w top e j → at e q ≡ free
     → OpenStands (map (type_at file) types) (source_slots p) input w e j q
-open-stands {p} file types checked types_there input {w} {e = e} {j} reads q follows unbound =
+open_stands {p} file types checked types_there input {w} {e = e} {j} reads q follows unbound =
     let there = free_there unbound in
     let stands = subst (λ (known : Types). PartStands known input j q (source_slots p) 0) types_there (input_part_law file checked input reads q (⊑-there follows.below q there)) in
     let slot : slot_at (map (type_at file) types) e q (source_slots p) ≡ some stands.slot =
@@ -170,7 +170,7 @@ module _
     after_bind : Cells (map (type_at file) types) ss v (top + k) (bind_at q c k e) × Unmoved w v e × ((n : ℕ) → cell_of v (field q n) ≡ top + n)
     after_bind =
         let says = follows.cells.slot q open_part.slot (free_there unbound) open_part.slot_there in
-        bound-cells file fields q follows.cells unbound open_part.slot_there (omega (arith, says.1, open_part.deep))
+        bound_cells file fields q follows.cells unbound open_part.slot_there (omega (arith, says.1, open_part.deep))
         (rw (constructor, ← says.0) open_part.stands.known) (sym typed) fits binds
 
     -- every bound part has a cell below the old top
@@ -198,7 +198,7 @@ module _
         let apart : cell_of w r ≢ cell_of w q = λ same. other (follows.cells.apart r q there (free_there unbound) same) in
         let low = binds.elsewhere (5 * cell_of w r + 4) (omega arith) (omega arith) (λ over. omega arith) in
         let high = binds.elsewhere (5 * cell_of w r + 1) (omega arith) (omega arith) (λ over. omega arith) in
-        rw (unmoved r there) (noted-before noted (cell_of w r) used ∙ rw (low, high) (follows.notes r h))
+        rw (unmoved r there) (noted_before noted (cell_of w r) used ∙ rw (low, high) (follows.notes r h))
 
     -- a field's place is noted in its new cell
     new_note : (n : ℕ) → n < k → noted_place w' (top + n) ≡ byte_of j (field q n) 0
@@ -207,7 +207,7 @@ module _
         ∙ rw place (sym (open_part.field_parts (part n)))
 
     notes : NotesStand w' (bind_at q c k e) j
-    notes r h = by_place (bind-places q c k e r unbound (free_there h))
+    notes r h = by_place (bind_places q c k e r unbound (free_there h))
       where
         by_place : There (at e r) ⊎ OneOf k (field q) r → noted_place w' (cell_of w' r) ≡ byte_of j r 0
         by_place (inl there) =

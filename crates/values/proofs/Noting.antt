@@ -84,20 +84,20 @@ module _ (file types input : List ℕ) (ts : List ℕ) (at : ℕ) where
 
 -- the same where the types are bytes of the file, of which `more` are left: the next cell is noted, and the next type is the byte at the next place
 module _ (file types input : List ℕ) (fields k at more : ℕ) (some : 0 < more) (left : more ≤ k) where
-  pub noted-next :
+  pub noted_next :
       {w v v' : List ℕ} {place : ℕ} (first cell : ℕ) → NotedFirst file types input w v first (bytes_at file fields k) at (k - more)
       → Reached file types input (bytes_at file fields k) at (k - more) place → 5 * (first + k) ≤ length w → cell + more ≡ first + k
       → v' ≡ note_place v cell place → NotedFirst file types input w v' first (bytes_at file fields k) at (k - (more - 1))
-  noted-next first cell noted reached fits number written =
+  noted_next first cell noted reached fits number written =
       let n = k - more in
       let count : k - (more - 1) ≡ n + 1 = omega arith in
       let spot : cell ≡ first + n = omega arith in
       rw (written, count, spot) (noted_more file types input (bytes_at file fields k) at first noted reached (omega (arith, noted.same_length)))
 
-  pub reached-more :
+  pub reached_more :
       {place next t : ℕ} (field : ℕ) → Reached file types input (bytes_at file fields k) at (k - more) place → field + more ≡ fields + k
       → t ≡ get_or file field 0 → next ≡ behind_value file types input place t → Reached file types input (bytes_at file fields k) at (k - (more - 1)) next
-  reached-more field reached number read told =
+  reached_more field reached number read told =
       let n = k - more in
       let count : k - (more - 1) ≡ n + 1 = omega arith in
       let spot : field ≡ fields + n = omega arith in

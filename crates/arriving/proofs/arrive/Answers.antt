@@ -1,58 +1,58 @@
 -- `arriving::arrive` meets its contract, by what the steps came to. Rests on Arriving.
 use mathlib.Core.Path.{refl}
 use Rattle.steps.specs.declared.Halt.TheVariants as Halt
-use Rattle.steps.proofs.Running.{comes-so}
+use Rattle.steps.proofs.Running.{comes_so}
 use Rattle.choices.proofs.Returning.{limit_few}
-use Rattle.arriving.proofs.Arriving.{led-by, led-standing, arrive_demands, arrive_lacks, arrive_stops, arrive_spent_going, arrive_spent_waiting, push-bounds, arrive-waits}
+use Rattle.arriving.proofs.Arriving.{led_by, led_standing, arrive_demands, arrive_lacks, arrive_stops, arrive_spent_going, arrive_spent_waiting, push_bounds, arrive_waits}
 use native.Mathlib.Omega.{arith}
 use Rattle.arriving.proofs.arrive.Goals as goal
 
 pub run_on-ran-requires : goal.run_on-ran-requires
 run_on-ran-requires c = let (least, p, e, s, cs, given, sought, under) = c.requires.some_under_way in
-    record { ends = c.requires.ends; onward = λ n w₁ r₁ few steps. led-standing given under sought few steps }
+    record { ends = c.requires.ends; onward = λ n w₁ r₁ few steps. led_standing given under sought few steps }
 
 pub returns-in-Demands : goal.returns-in-Demands
-returns-in-Demands c = let last = comes-so _ _ _ _ c.run_on-ran.ensures Halt.Demands c.in-Demands.is in
+returns-in-Demands c = let last = comes_so _ _ _ _ c.run_on-ran.ensures Halt.Demands c.in-Demands.is in
     λ least p e s cs given sought under.
-    let (s₁, led) = led-by given under sought c.run_on-ran.ensures.led (omega (arith, c.run_on-ran.ensures.no_more, under.in_time)) in
+    let (s₁, led) = led_by given under sought c.run_on-ran.ensures.led (omega (arith, c.run_on-ran.ensures.no_more, under.in_time)) in
     rw c.over.ensures (arrive_demands given led sought last refl)
 
 pub returns-in-Stops : goal.returns-in-Stops
-returns-in-Stops c = let last = comes-so _ _ _ _ c.run_on-ran.ensures Halt.Stops c.in-Stops.is in
+returns-in-Stops c = let last = comes_so _ _ _ _ c.run_on-ran.ensures Halt.Stops c.in-Stops.is in
     λ least p e s cs given sought under.
-    let (s₁, led) = led-by given under sought c.run_on-ran.ensures.led (omega (arith, c.run_on-ran.ensures.no_more, under.in_time)) in
+    let (s₁, led) = led_by given under sought c.run_on-ran.ensures.led (omega (arith, c.run_on-ran.ensures.no_more, under.in_time)) in
     rw c.over-in-Stops.ensures (arrive_stops given led sought last refl)
 
 pub returns-in-Spent : goal.returns-in-Spent
-returns-in-Spent c = let (to, last, used) = comes-so _ _ _ _ c.run_on-ran.ensures Halt.Spent c.in-Spent.is in
+returns-in-Spent c = let (to, last, used) = comes_so _ _ _ _ c.run_on-ran.ensures Halt.Spent c.in-Spent.is in
     λ least p e s cs given sought under.
-    let (s₁, led) = led-by given under sought c.run_on-ran.ensures.led (omega (arith, c.run_on-ran.ensures.no_more, under.in_time)) in
+    let (s₁, led) = led_by given under sought c.run_on-ran.ensures.led (omega (arith, c.run_on-ran.ensures.no_more, under.in_time)) in
     rw c.over-in-Spent.ensures (arrive_spent_going given led sought last (omega (arith, used)) refl)
 
 pub returns-in-Lacks : goal.returns-in-Lacks
-returns-in-Lacks c = let last = comes-so _ _ _ _ c.run_on-ran.ensures Halt.Lacks c.in-Lacks.is in
+returns-in-Lacks c = let last = comes_so _ _ _ _ c.run_on-ran.ensures Halt.Lacks c.in-Lacks.is in
     λ least p e s cs given sought under.
-    let (s₁, led) = led-by given under sought c.run_on-ran.ensures.led (omega (arith, c.run_on-ran.ensures.no_more, under.in_time)) in
+    let (s₁, led) = led_by given under sought c.run_on-ran.ensures.led (omega (arith, c.run_on-ran.ensures.no_more, under.in_time)) in
     rw c.over-in-Lacks.ensures (arrive_lacks given led sought last refl)
 
 pub returns-then-limit-total : goal.returns-then-limit-total
-returns-then-limit-total c = let last = comes-so _ _ _ _ c.run_on-ran.ensures (Halt.Waits _) c.in-Waits.is in
+returns-then-limit-total c = let last = comes_so _ _ _ _ c.run_on-ran.ensures (Halt.Waits _) c.in-Waits.is in
     λ least p e s cs given sought under.
-    let (s₁, led) = led-by given under sought c.run_on-ran.ensures.led (omega (arith, c.run_on-ran.ensures.no_more, under.in_time)) in
+    let (s₁, led) = led_by given under sought c.run_on-ran.ensures.led (omega (arith, c.run_on-ran.ensures.no_more, under.in_time)) in
     rw c.over-then-limit-total.ensures (arrive_spent_waiting given led sought last (omega (arith, c.if-limit-total.true)) refl)
 
 pub push_choice-requires : goal.push_choice-requires
-push_choice-requires c = let last = comes-so _ _ _ _ c.run_on-ran.ensures (Halt.Waits _) c.in-Waits.is in
+push_choice-requires c = let last = comes_so _ _ _ _ c.run_on-ran.ensures (Halt.Waits _) c.in-Waits.is in
     let (least, p, e, s, cs, given, sought, under) = c.requires.some_under_way in
-    let (s₁, led) = led-by given under sought c.run_on-ran.ensures.led (omega (arith, c.run_on-ran.ensures.no_more, under.in_time)) in
-    push-bounds given led sought last (omega (arith, c.if-limit-total.false)) refl
+    let (s₁, led) = led_by given under sought c.run_on-ran.ensures.led (omega (arith, c.run_on-ran.ensures.no_more, under.in_time)) in
+    push_bounds given led sought last (omega (arith, c.if-limit-total.false)) refl
 
 pub overflow_add-height : goal.overflow_add-height
 overflow_add-height c = let (least, p, e, s, cs, given, sought, under) = c.requires.some_under_way in
     omega (arith, under.no_higher, under.in_time, limit_few given)
 
 pub returns-in-Waits : goal.returns-in-Waits
-returns-in-Waits c = let last = comes-so _ _ _ _ c.run_on-ran.ensures (Halt.Waits _) c.in-Waits.is in
+returns-in-Waits c = let last = comes_so _ _ _ _ c.run_on-ran.ensures (Halt.Waits _) c.in-Waits.is in
     λ least p e s cs given sought under.
-    let (s₁, led) = led-by given under sought c.run_on-ran.ensures.led (omega (arith, c.run_on-ran.ensures.no_more, under.in_time)) in
-    rw c.over-in-Waits.ensures (arrive-waits given led sought last (omega (arith, c.if-limit-total.false)) refl c.push_choice.ensures)
+    let (s₁, led) = led_by given under sought c.run_on-ran.ensures.led (omega (arith, c.run_on-ran.ensures.no_more, under.in_time)) in
+    rw c.over-in-Waits.ensures (arrive_waits given led sought last (omega (arith, c.if-limit-total.false)) refl c.push_choice.ensures)

@@ -1,7 +1,7 @@
 -- `binding::bind_asked` meets its contract: what its callees ensure is a cell bound as the input says. Rests on Bound.
 use native.Mathlib.Omega.{arith}
 use Rattle.lookups.proofs.Tables.{near_at}
-use Rattle.binding.proofs.Bound.{bound_unknown, fields_few, bound-known}
+use Rattle.binding.proofs.Bound.{bound_unknown, fields_few, bound_known}
 use Rattle.binding.proofs.bind_asked.Goals as goal
 
 pub returns-in_default : goal.returns-in_default
@@ -27,5 +27,5 @@ overflow_add-result c =
 
 pub returns : goal.returns
 returns c =
-    bound-known c.args.file.now c.args.types.now c.args.input.now c.args.work.now c.args.cells c.args.x _ c.noted-place.ensures c.byte_or_zero-c.ensures c.cell_word-t.ensures.0 c.fields_of.ensures.result_value c.in-At.is
+    bound_known c.args.file.now c.args.types.now c.args.input.now c.args.work.now c.args.cells c.args.x _ c.noted-place.ensures c.byte_or_zero-c.ensures c.cell_word-t.ensures.0 c.fields_of.ensures.result_value c.in-At.is
     c.bind_cell.ensures c.note_values.ensures

@@ -1,6 +1,6 @@
 -- `binding::enter_asked` meets its contract: the cell is bound to what the input has there, and the case's step is that with the bound part. Rests on Advancing.
 use native.Mathlib.Omega.{arith}
-use Rattle.binding.proofs.Advancing.{asks, more_cells, some_head, entering, went-bound}
+use Rattle.binding.proofs.Advancing.{asks, more_cells, some_head, entering, went_bound}
 use Rattle.binding.proofs.enter_asked.Goals as goal
 
 pub bind_asked-more-requires : goal.bind_asked-more-requires
@@ -21,5 +21,5 @@ enter_part-registers-requires c = (c.args.types.now, c.requires.0, c.args.x, ent
 
 pub returns : goal.returns
 returns c = λ functions w label filled stepped limit done p j s h.
-    went-bound h stepped c.bind_asked-more.ensures
+    went_bound h stepped c.bind_asked-more.ensures
     (c.enter_part-registers.ensures c.args.types.now functions c.args.x label (entering h stepped c.bind_asked-more.ensures c.cell_word-head.ensures.0 c.cell_word-head.ensures.1) filled)

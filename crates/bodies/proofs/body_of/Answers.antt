@@ -2,7 +2,7 @@
 -- Rests on Functions.
 use native.Mathlib.Omega.{arith}
 use Rattle.expressions.specs.Readers.{view_of}
-use Rattle.bodies.proofs.Functions.{few-parameters, body_length, body_refused, body_trailing, body_ends}
+use Rattle.bodies.proofs.Functions.{few_parameters, body_length, body_refused, body_trailing, body_ends}
 use Rattle.bodies.proofs.body_of.Goals as goal
 
 pub overflow_add-end : goal.overflow_add-end
@@ -10,7 +10,7 @@ overflow_add-end c = omega arith
 
 pub extended-parameters-requires : goal.extended-parameters-requires
 extended-parameters-requires c =
-    (omega (arith, few-parameters c.requires.0 c.requires.1 c.head_of-head.result c.head_of-head.ensures.result_value), omega arith)
+    (omega (arith, few_parameters c.requires.0 c.requires.1 c.head_of-head.result c.head_of-head.ensures.result_value), omega arith)
 
 pub slice_bounds-body-end : goal.slice_bounds-body-end
 slice_bounds-body-end c =
@@ -18,7 +18,7 @@ slice_bounds-body-end c =
 
 pub expression-step-requires : goal.expression-step-requires
 expression-step-requires c =
-    (c.requires.0, omega (arith, few-parameters c.requires.0 c.requires.1 c.head_of-head.result c.head_of-head.ensures.result_value))
+    (c.requires.0, omega (arith, few_parameters c.requires.0 c.requires.1 c.head_of-head.result c.head_of-head.ensures.result_value))
 
 pub returns-in_default : goal.returns-in_default
 returns-in_default c =

@@ -6,7 +6,7 @@ use native.Mathlib.Omega.{arith}
 use Rattle.reach.specs.Types.{even_slots}
 use Rattle.reach.specs.Places.{bytes_at}
 use Rattle.cells.specs.Writes.{Opens}
-use Rattle.cells.proofs.Writing.{opens_none, opens-next}
+use Rattle.cells.proofs.Writing.{opens_none, opens_next}
 use Rattle.cells.proofs.open_cells.Goals as goal
 
 pub loop-more-init : goal.loop-more-init
@@ -21,7 +21,7 @@ open_cell-requires c =
 
 pub loop-more-preserved : goal.loop-more-preserved
 loop-more-preserved c = (
-  opens-next _ _ _ _ _
+  opens_next _ _ _ _ _
       c.loop-more.invariant.0
       c.requires.0
       c.loop-more-test.true

@@ -6,7 +6,7 @@ use native.Mathlib.Omega.{arith}
 use Rattle.reach.specs.Types.{slots}
 use Rattle.reach.specs.Places.{bytes_at}
 use Rattle.cells.specs.Writes.{Opens}
-use Rattle.cells.proofs.Writing.{opens_none, starts-next}
+use Rattle.cells.proofs.Writing.{opens_none, starts_next}
 use Rattle.cells.proofs.Binding.{starts}
 use Rattle.cells.proofs.start_cells.Goals as goal
 
@@ -19,12 +19,11 @@ open_cell-requires c =
     omega (arith, c.byte_or_zero-t.ensures, c.loop-i.invariant.0.same_length)
 
 pub loop-i-preserved : goal.loop-i-preserved
-loop-i-preserved c =
-    (
-      starts-next _ _ _ _ c.loop-i.invariant.0 c.requires.0 c.loop-i-test.true
-          c.byte_or_zero-t.ensures c.depth_at.ensures.value c.open_cell.ensures,
-      omega arith,
-    )
+loop-i-preserved c = (
+  starts_next _ _ _ _ c.loop-i.invariant.0 c.requires.0 c.loop-i-test.true
+      c.byte_or_zero-t.ensures c.depth_at.ensures.value c.open_cell.ensures,
+  omega arith,
+)
 
 pub shape_of-work : goal.shape_of-work
 shape_of-work c = c.loop-i.invariant.0.same_length

@@ -6,7 +6,7 @@ use native.Mathlib.Omega.{arith}
 use Rattle.reach.specs.Types.{slots}
 use Rattle.reach.specs.Places.{bytes_at}
 use Rattle.cells.specs.Writes.{Opens}
-use Rattle.cells.proofs.Writing.{opens_none, starts-next}
+use Rattle.cells.proofs.Writing.{opens_none, starts_next}
 use Rattle.cells.proofs.Binding.{starts}
 use Rattle.cells.proofs.start_cells.Given as goal
 

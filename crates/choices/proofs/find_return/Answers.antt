@@ -2,7 +2,7 @@
 use Prim.Native.Nat.{◌≤◌}
 use mathlib.Core.Path.{◌≡◌, refl, ◌∙◌}
 use lib.ListN.{length}
-use Rattle.choices.proofs.Returning.{CameTo, came_first, came-bounds, came_nowhere, drops, leads}
+use Rattle.choices.proofs.Returning.{CameTo, came_first, came_bounds, came_nowhere, drops, leads}
 use native.Mathlib.Omega.{arith}
 use Rattle.choices.proofs.find_return.Goals as goal
 
@@ -12,7 +12,7 @@ loop-h-init c =
 
 pub candidate-next-requires : goal.candidate-next-requires
 candidate-next-requires c =
-    let b = came-bounds c.args.file.now c.args.types.now c.args.least.of c.args.work.now c.args.stack c.args.height c.loop-h.work c.loop-h.h c.loop-h.invariant.2 c.requires (omega arith) in
+    let b = came_bounds c.args.file.now c.args.types.now c.args.least.of c.args.work.now c.args.stack c.args.height c.loop-h.work c.loop-h.h c.loop-h.invariant.2 c.requires (omega arith) in
     (b.0, b.1, b.2)
 
 pub returns-in-Take : goal.returns-in-Take
@@ -21,7 +21,7 @@ returns-in-Take c =
 
 pub reopen-requires : goal.reopen-requires
 reopen-requires c =
-    let b = came-bounds c.args.file.now c.args.types.now c.args.least.of c.args.work.now c.args.stack c.args.height c.loop-h.work c.loop-h.h c.loop-h.invariant.2 c.requires (omega arith) in
+    let b = came_bounds c.args.file.now c.args.types.now c.args.least.of c.args.work.now c.args.stack c.args.height c.loop-h.work c.loop-h.h c.loop-h.invariant.2 c.requires (omega arith) in
     (b.0, b.1, b.3)
 
 pub loop-h-preserved : goal.loop-h-preserved

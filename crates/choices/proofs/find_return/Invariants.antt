@@ -2,7 +2,7 @@
 use Prim.Native.Nat.{◌≤◌}
 use mathlib.Core.Path.{◌≡◌, refl, ◌∙◌}
 use lib.ListN.{length}
-use Rattle.choices.proofs.Returning.{CameTo, came_first, came-bounds, came_nowhere, drops, leads}
+use Rattle.choices.proofs.Returning.{CameTo, came_first, came_bounds, came_nowhere, drops, leads}
 use native.Mathlib.Omega.{arith}
 use Rattle.choices.proofs.find_return.Given as goal
 

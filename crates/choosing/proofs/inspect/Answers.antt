@@ -1,7 +1,7 @@
 -- `choosing::inspect` meets its contract: Inspecting says what comes next at an open part, and after the choice at a bound one.
 use native.Mathlib.Omega.{arith}
 use Rattle.registers.specs.Stepping.{looked}
-use Rattle.choosing.proofs.Inspecting.{part_small, part_waits, part_chooses, part-goes}
+use Rattle.choosing.proofs.Inspecting.{part_small, part_waits, part_chooses, part_goes}
 use Rattle.choosing.proofs.inspect.Goals as goal
 
 pub cell_word-head-requires : goal.cell_word-head-requires
@@ -18,15 +18,18 @@ pub cell_word-t-requires : goal.cell_word-t-requires
 cell_word-t-requires c = (part_small c.args.file.now c.args.types.now c.requires.0.0 c.args.work.now c.args.base c.args.cell c.args.r c.requires.1 c.requires.0.1, omega arith)
 
 pub choose-requires : goal.choose-requires
-choose-requires c = let (functions, standing) = c.requires.0 in record { space = standing.stands.space; c_bound = (
-        omega (arith, c.cell_word-head.ensures.1),
-        part_chooses c.args.file.now c.args.types.now functions c.args.work.now c.args.base c.args.cell c.args.r c.requires.1 c.requires.2 c.cell_word-head.ensures.0 c.if-head-eq0.false standing,
-        c.field_count-k.ensures.1,
-        c.cell_word-first.ensures.1,
-        omega arith,
-      ) }
+choose-requires c = let (functions, standing) = c.requires.0 in record {
+  space = standing.stands.space;
+  c_bound = (
+    omega (arith, c.cell_word-head.ensures.1),
+    part_chooses c.args.file.now c.args.types.now functions c.args.work.now c.args.base c.args.cell c.args.r c.requires.1 c.requires.2 c.cell_word-head.ensures.0 c.if-head-eq0.false standing,
+    c.field_count-k.ensures.1,
+    c.cell_word-first.ensures.1,
+    omega arith,
+  );
+}
 
 pub returns : goal.returns
 returns c = λ functions label filled.
-    looked tt (part-goes c.args.file.now c.args.types.now functions c.args.work.now c.args.base c.args.cell c.args.r c.requires.1 c.requires.2 c.cell_word-head.ensures.0 c.if-head-eq0.false
+    looked tt (part_goes c.args.file.now c.args.types.now functions c.args.work.now c.args.base c.args.cell c.args.r c.requires.1 c.requires.2 c.cell_word-head.ensures.0 c.if-head-eq0.false
     c.cell_word-first.ensures.0 c.cell_word-t.ensures.0 c.field_count-k.ensures (c.choose.ensures c.args.types.now functions filled) label)

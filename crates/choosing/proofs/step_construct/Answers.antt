@@ -12,13 +12,16 @@ returns-then-r-ge-NO_CASE c = λ functions label filled. at_result refl (built c
 
 pub choose-requires : goal.choose-requires
 choose-requires c = let (functions, standing) = c.requires.0 in
-    let waits : c.args.r.frame < no_case = omega (arith, c.if-r-ge-NO_CASE.false) in record { space = c.requires.1.space; c_bound = (
+    let waits : c.args.r.frame < no_case = omega (arith, c.if-r-ge-NO_CASE.false) in record {
+      space = c.requires.1.space;
+      c_bound = (
         omega (arith, c.byte_or_zero-c.ensures, c.type_inv.file (c.args.at + 2)),
         construct_chooses c.args.file.now c.args.types.now functions c.args.work.now c.args.base c.args.at c.args.env c.args.r c.requires.1 c.byte_or_zero-c.ensures waits standing,
         c.field_count-k.ensures.1,
         omega arith,
         omega arith,
-      ) }
+      );
+    }
 
 pub returns : goal.returns
 returns c = let waits : c.args.r.frame < no_case = omega (arith, c.if-r-ge-NO_CASE.false) in λ functions label filled.

@@ -2,7 +2,7 @@
 use mathlib.Core.Path.{refl, ◌∙◌}
 use native.Mathlib.Omega.{arith}
 use lib.ListN.{length-take}
-use Rattle.loaded.proofs.Loaded.{loaded_refused, types_taken, types_held, functions_taken, functions_held, steps_small, taken_length, behind-kept}
+use Rattle.loaded.proofs.Loaded.{loaded_refused, types_taken, types_held, functions_taken, functions_held, steps_small, taken_length, behind_kept}
 use Rattle.closed.proofs.Answering.{answer_refused, run_bad, run_deep, run_short, run_able, run_ran, run_leaves}
 use Rattle.closed.proofs.run.Goals as goal
 
@@ -90,7 +90,7 @@ returns c =
           run_ran c.args.file.now c.load-loaded.result c.load-loaded.ensures c.in_default.is c.args.input.now c.input_depth.ensures c.in-Deep.is c.work_words-words.ensures
           c.evaluate-outcome.ensures _ (omega arith);
       words_are =
-          behind-kept c.args.file.now c.load-loaded.result c.load-loaded.ensures c.in_default.is c.evaluate-outcome.new.types.1.1.1.1.0 c.args.work.now c.work_words-words.ensures
+          behind_kept c.args.file.now c.load-loaded.result c.load-loaded.ensures c.in_default.is c.evaluate-outcome.new.types.1.1.1.1.0 c.args.work.now c.work_words-words.ensures
           (c.evaluate-outcome.auto.types.1.1.1.1.0 ∙ taken_length c.work_words-words.result c.args.work.now (omega arith));
       cells_are =
           run_leaves c.args.file.now c.load-loaded.result c.load-loaded.ensures c.in_default.is c.args.input.now c.input_depth.ensures c.in-Deep.is c.work_words-words.ensures

@@ -4,13 +4,13 @@ use mathlib.Core.Path.{◌≡◌, refl, ◌∙◌, subst}
 use lib.ListN.{length}
 use Rattle.arriving.specs.Moving.{walk_weight}
 use Rattle.exploring.specs.Exploring.{GoesOn}
-use Rattle.exploring.proofs.Exploring.{CameFrom, came-begin, came_standing, same_room, came-over, move_lighter, move_length, move_listable, came-on, came_full}
+use Rattle.exploring.proofs.Exploring.{CameFrom, came_begin, came_standing, same_room, came_over, move_lighter, move_length, move_listable, came_on, came_full}
 use native.Mathlib.Omega.{arith}
 use Rattle.exploring.proofs.explore.Goals as goal
 
 pub loop-least-init : goal.loop-least-init
 loop-least-init c =
-    (refl, refl, came-begin _)
+    (refl, refl, came_begin _)
 
 pub make_moves-moved-requires : goal.make_moves-moved-requires
 make_moves-moved-requires c =
@@ -30,8 +30,8 @@ loop-least-smaller c =
 
 pub loop-least-preserved : goal.loop-least-preserved
 loop-least-preserved c =
-    (move_length (c.loop-least.invariant.2 c.args.from c.first_walk-walk.ensures) c.make_moves-moved.ensures c.loop-least.invariant.0 c.requires.some_begins, c.write_listing-written.auto.types.1.1.1.1.1.1.0 ∙ c.loop-least.invariant.1, λ r is. came-on (c.loop-least.invariant.2 r is) c.make_moves-moved.ensures c.loop-least.invariant.0 _ _ c.write_listing-written.ensures c.in-Behind.is c.verdict_after-verdict.ensures)
+    (move_length (c.loop-least.invariant.2 c.args.from c.first_walk-walk.ensures) c.make_moves-moved.ensures c.loop-least.invariant.0 c.requires.some_begins, c.write_listing-written.auto.types.1.1.1.1.1.1.0 ∙ c.loop-least.invariant.1, λ r is. came_on (c.loop-least.invariant.2 r is) c.make_moves-moved.ensures c.loop-least.invariant.0 _ _ c.write_listing-written.ensures c.in-Behind.is c.verdict_after-verdict.ensures)
 
 pub returns : goal.returns
 returns c =
-    came-over (c.loop-least.invariant.2 c.args.from c.first_walk-walk.ensures) c.is_active.ensures c.loop-least-test.false
+    came_over (c.loop-least.invariant.2 c.args.from c.first_walk-walk.ensures) c.is_active.ensures c.loop-least-test.false

@@ -4,7 +4,7 @@ use mathlib.Core.Path.{◌≡◌, refl, ◌∙◌, subst}
 use lib.ListN.{length}
 use Rattle.arriving.specs.Moving.{walk_weight}
 use Rattle.exploring.specs.Exploring.{GoesOn}
-use Rattle.exploring.proofs.Exploring.{CameFrom, came-begin, came_standing, same_room, came-over, move_lighter, move_length, move_listable, came-on, came_full}
+use Rattle.exploring.proofs.Exploring.{CameFrom, came_begin, came_standing, same_room, came_over, move_lighter, move_length, move_listable, came_on, came_full}
 use native.Mathlib.Omega.{arith}
 use Rattle.exploring.proofs.explore.Given as goal
 

@@ -37,11 +37,10 @@ returns-then-all_shallow c =
     )
 
 pub loop-c-preserved : goal.loop-c-preserved
-loop-c-preserved c =
-    (
-      c.loop-c.invariant.0 ∙ found_left_out c.args.file.now c.args.types.now c.args.least.of c.args.t c.args.room c.loop-c.c c.fields_of.result c.fields_of.ensures.result_value c.in-At.is (omega arith) c.all_shallow.ensures c.if-all_shallow.false,
-      omega arith,
-    )
+loop-c-preserved c = (
+  c.loop-c.invariant.0 ∙ found_left_out c.args.file.now c.args.types.now c.args.least.of c.args.t c.args.room c.loop-c.c c.fields_of.result c.fields_of.ensures.result_value c.in-At.is (omega arith) c.all_shallow.ensures c.if-all_shallow.false,
+  omega arith,
+)
 
 pub returns : goal.returns
 returns c =

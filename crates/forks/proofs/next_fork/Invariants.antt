@@ -9,7 +9,7 @@ use Rattle.forks.proofs.Untried.{untried_no_room, untried_end, found_none, found
 use Rattle.forks.proofs.next_fork.Given as goal
 
 abbrev pub invariant-loop-c : goal.invariant-loop-c
-invariant-loop-c l =     (untried_in l.file l.types l.least.of l.t l.room l.from ≡ untried_in l.file l.types l.least.of l.t l.room l.c) × (l.from ≤ l.c)
+invariant-loop-c l = (untried_in l.file l.types l.least.of l.t l.room l.from ≡ untried_in l.file l.types l.least.of l.t l.room l.c) × (l.from ≤ l.c)
 
 abbrev pub decreases-loop-c : goal.decreases-loop-c
 decreases-loop-c l = 255 - l.c

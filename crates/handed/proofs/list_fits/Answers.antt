@@ -47,14 +47,13 @@ pub overflow_add-at : goal.overflow_add-at
 overflow_add-at c = omega (arith, size_inside c.args.list.now c.loop-more.at c.in-Bytes.n (sym c.size_at.ensures ∙ ap size_of c.in-Bytes.is))
 
 pub loop-more-preserved : goal.loop-more-preserved
-loop-more-preserved c =
-    (
-      c.loop-more.invariant.0,
-      size_inside c.args.list.now c.loop-more.at c.in-Bytes.n (sym c.size_at.ensures ∙ ap size_of c.in-Bytes.is),
-      λ p given. sym (fit given c.args.list.now c.loop-more.more c.loop-more.at c.loop-more-test.true (omega (arith, c.loop-more.invariant.0, c.if-end-at.false)) (c.loop-more.at + c.in-Bytes.n) c.entry_fits.result
-          c.entry_fits.ensures c.if-not-entry_fits.false)
-          ∙ c.loop-more.invariant.2 p given,
-    )
+loop-more-preserved c = (
+  c.loop-more.invariant.0,
+  size_inside c.args.list.now c.loop-more.at c.in-Bytes.n (sym c.size_at.ensures ∙ ap size_of c.in-Bytes.is),
+  λ p given. sym (fit given c.args.list.now c.loop-more.more c.loop-more.at c.loop-more-test.true (omega (arith, c.loop-more.invariant.0, c.if-end-at.false)) (c.loop-more.at + c.in-Bytes.n) c.entry_fits.result
+      c.entry_fits.ensures c.if-not-entry_fits.false)
+      ∙ c.loop-more.invariant.2 p given,
+)
 
 pub returns : goal.returns
 returns c p given =

@@ -15,7 +15,7 @@ use Rattle.handed.proofs.list_fits.Given as goal
 
 -- what is left of the list, from the place reached, is read as all of it is
 abbrev pub invariant-loop-more : goal.invariant-loop-more
-invariant-loop-more l =     (l.end ≡ length l.list) × (l.at ≤ length l.list)
+invariant-loop-more l = (l.end ≡ length l.list) × (l.at ≤ length l.list)
     × ((p : Program) → AcceptedTables l.file l.types l.functions l.least.of l.goal.source l.goal.depths l.goal.steps p → found (entries_by (entry p) l.more l.list l.at) ≡ found (entries_by (entry p) (length l.list) l.list 0))
 
 abbrev pub decreases-loop-more : goal.decreases-loop-more

@@ -21,20 +21,19 @@ put_number-parts-requires c =
 
 pub put_parts-end-requires : goal.put_parts-end-requires
 unfolding word_at
-put_parts-end-requires c =
-    (
-      omega arith,
-      omega arith,
-      omega (
-        arith,
-        c.requires,
-        kind_end _ c.put_kind-steps.ensures,
-        number_end _ c.put_number-parts.ensures,
-        c.word_call.ensures,
-        c.type_inv.entry 2,
-        c.type_inv.entry 3,
-      ),
-    )
+put_parts-end-requires c = (
+  omega arith,
+  omega arith,
+  omega (
+    arith,
+    c.requires,
+    kind_end _ c.put_kind-steps.ensures,
+    number_end _ c.put_number-parts.ensures,
+    c.word_call.ensures,
+    c.type_inv.entry 2,
+    c.type_inv.entry 3,
+  ),
+)
 
 pub put_byte-requires : goal.put_byte-requires
 unfolding word_at
@@ -52,19 +51,18 @@ put_byte-requires c =
 
 pub returns : goal.returns
 unfolding decoded word_at
-returns c =
-    (
-      line_put (kind_at c.args.entry.now 0) (word_at c.args.entry.now 2) (drop 6 c.args.entry.now) (rw c.kind_call.ensures at c.put_kind-steps.ensures)
-          (rw c.word_call.ensures at c.put_number-parts.ensures) c.put_parts-end.ensures.0 c.put_byte.ensures,
-      omega (
-        arith,
-        c.requires,
-        kind_end _ c.put_kind-steps.ensures,
-        number_end _ c.put_number-parts.ensures,
-        c.put_parts-end.ensures.1,
-        c.put_byte.ensures.place,
-        c.word_call.ensures,
-        c.type_inv.entry 2,
-        c.type_inv.entry 3,
-      ),
-    )
+returns c = (
+  line_put (kind_at c.args.entry.now 0) (word_at c.args.entry.now 2) (drop 6 c.args.entry.now) (rw c.kind_call.ensures at c.put_kind-steps.ensures)
+      (rw c.word_call.ensures at c.put_number-parts.ensures) c.put_parts-end.ensures.0 c.put_byte.ensures,
+  omega (
+    arith,
+    c.requires,
+    kind_end _ c.put_kind-steps.ensures,
+    number_end _ c.put_number-parts.ensures,
+    c.put_parts-end.ensures.1,
+    c.put_byte.ensures.place,
+    c.word_call.ensures,
+    c.type_inv.entry 2,
+    c.type_inv.entry 3,
+  ),
+)

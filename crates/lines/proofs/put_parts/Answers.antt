@@ -26,13 +26,12 @@ pub loop-i-smaller : goal.loop-i-smaller
 loop-i-smaller c = omega arith
 
 pub loop-i-preserved : goal.loop-i-preserved
-loop-i-preserved c =
-    (
-      omega arith,
-      omega arith,
-      omega (arith, part_end (get_or c.args.entry.now c.loop-i.i 0) (omega (arith, c.type_inv.entry c.loop-i.i)) c.put_part-to.ensures),
-      parts_next _ _ c.loop-i.invariant.3 c.loop-i-test.true c.put_part-to.ensures,
-    )
+loop-i-preserved c = (
+  omega arith,
+  omega arith,
+  omega (arith, part_end (get_or c.args.entry.now c.loop-i.i 0) (omega (arith, c.type_inv.entry c.loop-i.i)) c.put_part-to.ensures),
+  parts_next _ _ c.loop-i.invariant.3 c.loop-i-test.true c.put_part-to.ensures,
+)
 
 pub shape_of-text : goal.shape_of-text
 shape_of-text c =

@@ -1,7 +1,7 @@
 -- `listing::write_row` meets its contract: no part, an open part and the rest of the row, or a bound part, its fields and the rest of the row.
 -- Rests on Rows.
 use Rattle.std.proofs.Common.{◌∙◌, length-set, arith}
-use Rattle.listing.proofs.Rows.{part_fits, open_fits, number_small, fields_fit, rest-fits, wrote_none, wrote-open, wrote-bound}
+use Rattle.listing.proofs.Rows.{part_fits, open_fits, number_small, fields_fit, rest_fits, wrote_none, wrote_open, wrote_bound}
 use Rattle.listing.proofs.+write_row.Goals as goal
 
 -- no part
@@ -29,7 +29,7 @@ write_row-requires t c = (
 )
 
 pub returns-then-head-eq0 : goal.returns-then-head-eq0
-returns-then-head-eq0 t c = wrote-open c.if-k-eq0.false c.cell_word-head.ensures.0 c.if-head-eq0.true c.write_row.ensures
+returns-then-head-eq0 t c = wrote_open c.if-k-eq0.false c.cell_word-head.ensures.0 c.if-head-eq0.true c.write_row.ensures
 
 -- a bound part, its fields, and the rest of the row
 pub cell_word-fields-requires : goal.cell_word-fields-requires
@@ -65,7 +65,7 @@ overflow_sub-fuel-3 t c = (part_fits c.requires c.if-k-eq0.false).0
 pub write_row-requires-2 : goal.write_row-requires-2
 write_row-requires-2 t c = (
   omega (arith, c.decreases, part_fits c.requires c.if-k-eq0.false),
-  rest-fits c.requires c.if-k-eq0.false c.cell_word-head.ensures.0 c.if-head-eq0.false c.cell_word-fields.ensures.0 c.cell_word.ensures.0
+  rest_fits c.requires c.if-k-eq0.false c.cell_word-head.ensures.0 c.if-head-eq0.false c.cell_word-fields.ensures.0 c.cell_word.ensures.0
       c.field_count-n.ensures
       c.write_row-next.ensures
       (c.write_row-next.auto.list ∙ simp length-set),
@@ -73,7 +73,7 @@ write_row-requires-2 t c = (
 
 pub returns : goal.returns
 returns t c =
-    wrote-bound c.if-k-eq0.false c.cell_word-head.ensures.0 c.if-head-eq0.false c.cell_word-fields.ensures.0 c.cell_word.ensures.0
+    wrote_bound c.if-k-eq0.false c.cell_word-head.ensures.0 c.if-head-eq0.false c.cell_word-fields.ensures.0 c.cell_word.ensures.0
     c.field_count-n.ensures
     c.write_row-next.ensures
     c.write_row-2.ensures

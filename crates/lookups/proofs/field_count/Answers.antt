@@ -1,5 +1,5 @@
 -- `lookups::field_count` meets its contract, by the answer to where the fields stand. Rests on Tables.
-use Rattle.lookups.proofs.Tables.{count-known, count_unknown}
+use Rattle.lookups.proofs.Tables.{count_known, count_unknown}
 use Rattle.lookups.proofs.field_count.Goals as goal
 
 pub returns-in_default : goal.returns-in_default
@@ -8,4 +8,4 @@ returns-in_default c =
 
 pub returns : goal.returns
 returns c =
-    count-known c.args.s.now c.args.types.now c.args.t c.args.c c.fields_of.result c.fields_of.ensures.result_value c.fields_of.ensures.near c.in-At.is
+    count_known c.args.s.now c.args.types.now c.args.t c.args.c c.fields_of.result c.fields_of.ensures.result_value c.fields_of.ensures.near c.in-At.is

@@ -10,7 +10,7 @@ use Rattle.lookups.proofs.Tables.{constructor_first, constructor_later, construc
 use Rattle.lookups.proofs.fields_at.Given as goal
 
 abbrev pub invariant-loop-more : goal.invariant-loop-more
-invariant-loop-more l =     (get_elem? (constructors_at l.s l.place (l.n - l.c + l.more)) l.more ≡ get_elem? (constructors_at l.s l.at l.n) l.c)
+invariant-loop-more l = (get_elem? (constructors_at l.s l.place (l.n - l.c + l.more)) l.more ≡ get_elem? (constructors_at l.s l.at l.n) l.c)
     × (l.place + 256 * l.more ≤ l.at + 256 * l.c)
 
 abbrev pub decreases-loop-more : goal.decreases-loop-more

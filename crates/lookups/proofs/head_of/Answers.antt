@@ -32,13 +32,16 @@ overflow_add-result-4 c =
 pub returns : goal.returns
 unfolding head_at word_at
 returns c =
-    let z : c.place_or_zero-place.result + 2 + c.byte_or_zero-count.result + 1 ≡ c.place_or_zero-place.result + 3 + c.byte_or_zero-count.result = omega arith in record { result_value = rw (← c.place_or_zero-place.ensures.0, ← c.byte_or_zero-count.ensures, z, c.byte_or_zero.ensures, c.byte_or_zero-high.ensures, c.byte_or_zero-low.ensures); near = (
+    let z : c.place_or_zero-place.result + 2 + c.byte_or_zero-count.result + 1 ≡ c.place_or_zero-place.result + 3 + c.byte_or_zero-count.result = omega arith in record {
+      result_value = rw (← c.place_or_zero-place.ensures.0, ← c.byte_or_zero-count.ensures, z, c.byte_or_zero.ensures, c.byte_or_zero-high.ensures, c.byte_or_zero-low.ensures);
+      near = (
         omega arith,
         omega (arith, c.type_inv.s c.place_or_zero-place.result),
         omega (arith, c.type_inv.s (c.place_or_zero-place.result + 1 + c.byte_or_zero-count.result)),
         omega (arith, c.type_inv.s c.place_or_zero-place.result),
         omega (arith, c.type_inv.s (c.place_or_zero-place.result + 2 + c.byte_or_zero-count.result), c.type_inv.s (c.place_or_zero-place.result + 3 + c.byte_or_zero-count.result)),
-      ) }
+      );
+    }
 
 pub overflow_add-place : goal.overflow_add-place
 overflow_add-place c = omega arith

@@ -1,5 +1,5 @@
 -- `moves::make_moves` meets its contract, by whether there is a path to go on with. Rests on Returning.
-use Rattle.moves.proofs.Returning.{none_moves, on_some, on-moves}
+use Rattle.moves.proofs.Returning.{none_moves, on_some, on_moves}
 use Rattle.moves.proofs.make_moves.Goals as goal
 
 pub resume-from-requires : goal.resume-from-requires
@@ -17,4 +17,4 @@ arrive-requires c =
 
 pub returns : goal.returns
 returns c =
-    on-moves c.args.file.now c.args.types.now c.args.functions.now c.args.least.of c.args.label c.args.work.now _ c.args.limit c.args.base c.args.stack c.args.walk c.resume-from.result c.resume-from.ensures c.position_of-position.ensures c.in-On.is c.arrive.ensures
+    on_moves c.args.file.now c.args.types.now c.args.functions.now c.args.least.of c.args.label c.args.work.now _ c.args.limit c.args.base c.args.stack c.args.walk c.resume-from.result c.resume-from.ensures c.position_of-position.ensures c.in-On.is c.arrive.ensures

@@ -19,7 +19,7 @@ use Rattle.namelines.proofs.put_entries.Given as goal
 
 -- the rest of the list stands from the place reached on, and its names are still to be written
 abbrev pub invariant-loop-at : goal.invariant-loop-at
-invariant-loop-at l =     NamesLeft (map (type_at l.file) l.types) l.asked.named (types_asked l.file l.asked) l.list l.initial.text
+invariant-loop-at l = NamesLeft (map (type_at l.file) l.types) l.asked.named (types_asked l.file l.asked) l.list l.initial.text
     (list_names (map (type_at l.file) l.types) l.asked.named (types_asked l.file l.asked) l.list) l.text l.at l.to
     × (l.at ≤ length l.list)
 

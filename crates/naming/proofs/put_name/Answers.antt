@@ -37,7 +37,7 @@ put_encodings-end-requires c =
     let small : c.letter_at.result < 256 = omega (arith, c.letter_at.ensures, letters.0) in
     let first : c.put_decimal-others.result ≤ c.args.to + 257 = omega (arith, c.put_decimal-others.ensures.place, decimal_few c.letter_at.result, small) in
     let latin : c.put_letters-encodings.result ≤ c.args.to + 257 + 258 * length c.args.list.now =
-        omega (arith, c.put_letters-encodings.ensures.place, first, letters_few c.args.list.now (c.args.at + 3) letters.1) in
+    omega (arith, c.put_letters-encodings.ensures.place, first, letters_few c.args.list.now (c.args.at + 3) letters.1) in
     (c.requires.0, c.requires.1, omega (arith, latin), c.requires.3)
 
 pub put_byte-requires-2 : goal.put_byte-requires-2
@@ -47,7 +47,7 @@ put_byte-requires-2 c =
     let small : c.letter_at.result < 256 = omega (arith, c.letter_at.ensures, letters.0) in
     let first : c.put_decimal-others.result ≤ c.args.to + 257 = omega (arith, c.put_decimal-others.ensures.place, decimal_few c.letter_at.result, small) in
     let latin : c.put_letters-encodings.result ≤ c.args.to + 257 + 258 * length c.args.list.now =
-        omega (arith, c.put_letters-encodings.ensures.place, first, letters_few c.args.list.now (c.args.at + 3) letters.1) in
+    omega (arith, c.put_letters-encodings.ensures.place, first, letters_few c.args.list.now (c.args.at + 3) letters.1) in
     omega (arith, c.put_encodings-end.ensures.place, latin, encodings_few c.args.list.now c.args.at c.requires.3)
 
 pub returns : goal.returns

@@ -9,7 +9,7 @@ use Rattle.partials.proofs.Frames.{Reading, begun, last_waits, ended, popped, st
 use Rattle.partials.proofs.values.Given as goal
 
 abbrev pub invariant-loop-top : goal.invariant-loop-top
-invariant-loop-top l =     Reading l.file l.types l.least l.list l.levels l.stack l.top l.row l.place (of_rest l.file l.types l.least l.levels l.list l.at l.initial.row)
+invariant-loop-top l = Reading l.file l.types l.least l.list l.levels l.stack l.top l.row l.place (of_rest l.file l.types l.least l.levels l.list l.at l.initial.row)
 
 abbrev pub decreases-loop-top : goal.decreases-loop-top
 decreases-loop-top l = 2 * (length l.list - l.place) + l.top

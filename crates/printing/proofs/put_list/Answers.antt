@@ -47,16 +47,15 @@ slice_bounds-put_line-end c =
     omega (arith, stands_inside c.args.list.now c.loop-more.at c.size_at.ensures c.in-Bytes.is)
 
 pub put_line-to-requires : goal.put_line-to-requires
-put_line-to-requires c =
-    (
-      part_least c.args.list.now c.loop-more.at c.size_at.ensures c.in-Bytes.is,
-      omega (
-        arith,
-        part_most c.args.list.now c.loop-more.at c.size_at.ensures c.in-Bytes.is,
-        stands_inside c.args.list.now c.loop-more.at c.size_at.ensures c.in-Bytes.is,
-      ),
-      omega arith,
-    )
+put_line-to-requires c = (
+  part_least c.args.list.now c.loop-more.at c.size_at.ensures c.in-Bytes.is,
+  omega (
+    arith,
+    part_most c.args.list.now c.loop-more.at c.size_at.ensures c.in-Bytes.is,
+    stands_inside c.args.list.now c.loop-more.at c.size_at.ensures c.in-Bytes.is,
+  ),
+  omega arith,
+)
 
 pub kind_at-requires : goal.kind_at-requires
 kind_at-requires c =

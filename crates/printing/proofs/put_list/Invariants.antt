@@ -13,7 +13,7 @@ use Rattle.printing.proofs.Walk.{text_from, text_whole, few_more, size_some, par
 use Rattle.printing.proofs.put_list.Given as goal
 
 abbrev pub invariant-loop-more : goal.invariant-loop-more
-invariant-loop-more l =     (l.at ≤ length l.list) × Few l.counts l.at × (l.to ≤ 70000 * l.at)
+invariant-loop-more l = (l.at ≤ length l.list) × Few l.counts l.at × (l.to ≤ 70000 * l.at)
     × Left l.initial.text 0 (text_of l.full (decoded_from (length l.list) l.list 0)) l.text l.to (text_from l.full l.counts (decoded_from l.more l.list l.at))
 
 abbrev pub decreases-loop-more : goal.decreases-loop-more

@@ -10,7 +10,7 @@ use Rattle.rooms.proofs.Rooms.{roomy_whole, roomy_fails, roomy_next, roomy_done}
 use Rattle.rooms.proofs.all_roomy.Given as goal
 
 abbrev pub invariant-loop-i : goal.invariant-loop-i
-invariant-loop-i l =     (roomy l.table.of (slots (bytes_at l.s (l.at + l.i) (l.n - l.i)) (drop l.i l.depths)) ≡ roomy l.table.of (slots (bytes_at l.s l.at l.n) l.depths)) × (l.i ≤ l.n)
+invariant-loop-i l = (roomy l.table.of (slots (bytes_at l.s (l.at + l.i) (l.n - l.i)) (drop l.i l.depths)) ≡ roomy l.table.of (slots (bytes_at l.s l.at l.n) l.depths)) × (l.i ≤ l.n)
 
 abbrev pub decreases-loop-i : goal.decreases-loop-i
 decreases-loop-i l = l.n - l.i

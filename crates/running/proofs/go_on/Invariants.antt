@@ -9,7 +9,7 @@ use Rattle.running.proofs.Looping.{came_first, came_onward, halt_demands, halt_s
 use Rattle.running.proofs.go_on.Given as goal
 
 abbrev pub invariant-loop-x : goal.invariant-loop-x
-invariant-loop-x l =     (length l.work ≡ length l.initial.work) × (l.done ≤ l.limit) × LedTo l.file l.types l.functions l.input l.label l.limit l.initial.work l.base l.first l.initial.r l.work l.cells l.done l.r
+invariant-loop-x l = (length l.work ≡ length l.initial.work) × (l.done ≤ l.limit) × LedTo l.file l.types l.functions l.input l.label l.limit l.initial.work l.base l.first l.initial.r l.work l.cells l.done l.r
 
 abbrev pub decreases-loop-x : goal.decreases-loop-x
 decreases-loop-x l = l.limit - l.done

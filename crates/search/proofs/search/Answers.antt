@@ -2,7 +2,7 @@
 use mathlib.Core.Path.{◌∙◌, sym}
 use lib.ListN.{length-take}
 use Rattle.loaded.proofs.Loaded.{taken_length, types_taken, types_held, functions_taken, functions_held, steps_small}
-use Rattle.search.proofs.Answering.{room_taken, room_inside, search_refused, search_short, search-able, search-done}
+use Rattle.search.proofs.Answering.{room_taken, room_inside, search_refused, search_short, search_able, search_done}
 use native.Mathlib.Omega.{arith}
 use Rattle.search.proofs.search.Goals as goal
 
@@ -49,12 +49,12 @@ slice_bounds-search_checked-end-6 c =
 
 pub search_checked-requires : goal.search_checked-requires
 search_checked-requires c =
-    search-able c.args.file.now c.load-loaded.result c.load-loaded.ensures c.in_default.is c.work_words-words.ensures
+    search_able c.args.file.now c.load-loaded.result c.load-loaded.ensures c.in_default.is c.work_words-words.ensures
     c.args.work.now (omega arith)
 
 pub returns : goal.returns
 returns c =
-    search-done c.args.file.now c.load-loaded.result c.load-loaded.ensures c.in_default.is c.work_words-words.ensures
+    search_done c.args.file.now c.load-loaded.result c.load-loaded.ensures c.in_default.is c.work_words-words.ensures
     c.args.work.now c.args.list.now c.search_checked.new.types.1.1.1.1.0 c.search_checked.new.types.1.1.1.1.1.0 (omega arith) c.room-counted.ensures
     (c.search_checked.auto.types.1.1.1.1.0 ∙ taken_length c.work_words-words.result c.args.work.now (omega arith))
     c.search_checked.result c.search_checked.ensures

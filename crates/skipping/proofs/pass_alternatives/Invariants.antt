@@ -9,7 +9,7 @@ use Rattle.skipping.proofs.Finding.{alternatives_none, alternatives_more}
 use Rattle.skipping.proofs.pass_alternatives.Given as goal
 
 abbrev pub invariant-loop-left : goal.invariant-loop-left
-invariant-loop-left l =     (passed_alternatives l.file l.ends l.left l.place ≡ passed_alternatives l.file l.ends l.n l.at) × (l.left ≤ l.n) × (l.place + l.left ≤ max l.at 65535 + l.n)
+invariant-loop-left l = (passed_alternatives l.file l.ends l.left l.place ≡ passed_alternatives l.file l.ends l.n l.at) × (l.left ≤ l.n) × (l.place + l.left ≤ max l.at 65535 + l.n)
 
 abbrev pub decreases-loop-left : goal.decreases-loop-left
 decreases-loop-left l = l.left

@@ -6,7 +6,7 @@ use lib.ListN.{length}
 use Rattle.registers.specs.declared.Next.TheVariants as Next
 use Rattle.steps.specs.declared.Halt.TheVariants as Halt
 use Rattle.steps.specs.Running.{StepsTo, no_step, one_more}
-use Rattle.steps.proofs.Running.{not_stops, not_goes, stepped-so, onward-from, ran-behind, at-a-result, ran}
+use Rattle.steps.proofs.Running.{not_stops, not_goes, stepped_so, onward_from, ran_behind, at_a_result, ran}
 use native.Mathlib.Omega.{arith}
 use mir.Facts.{Fits-le}
 use Rattle.steps.proofs.run_on.Given as goal

@@ -5,7 +5,7 @@ use lib.ListN.{length}
 use Rattle.registers.specs.declared.Next.TheVariants as Next
 use Rattle.steps.specs.declared.Halt.TheVariants as Halt
 use Rattle.steps.specs.Running.{StepsTo, no_step, one_more}
-use Rattle.steps.proofs.Running.{looked-so, looked-stepped, ran}
+use Rattle.steps.proofs.Running.{looked_so, looked_stepped, ran}
 use native.Mathlib.Omega.{arith}
 use Rattle.std.proofs.Common.{rules}
 use Rattle.steps.proofs.run_to_result.Goals as goal
@@ -18,27 +18,27 @@ step-next-requires c = (c.requires.ends, c.requires.onward _ _ _ c.loop-x.invari
 
 pub returns-in-Demands : goal.returns-in-Demands
 returns-in-Demands c = rw c.halted.ensures (ran c.args.file.now c.args.types.now c.args.functions.now c.args.label Halt.Demands c.loop-x.invariant.2 c.loop-x.invariant.1
-    (looked-so c.args.file.now c.args.types.now c.args.functions.now c.args.label Next.Demands c.step-next.ensures c.in-Demands.is))
+    (looked_so c.args.file.now c.args.types.now c.args.functions.now c.args.label Next.Demands c.step-next.ensures c.in-Demands.is))
 
 pub returns-in-Lacks : goal.returns-in-Lacks
 returns-in-Lacks c = rw c.halted-in-Lacks.ensures (ran c.args.file.now c.args.types.now c.args.functions.now c.args.label Halt.Lacks c.loop-x.invariant.2 c.loop-x.invariant.1
-    (looked-so c.args.file.now c.args.types.now c.args.functions.now c.args.label Next.Lacks c.step-next.ensures c.in-Lacks.is))
+    (looked_so c.args.file.now c.args.types.now c.args.functions.now c.args.label Next.Lacks c.step-next.ensures c.in-Lacks.is))
 
 pub returns-in-Stops : goal.returns-in-Stops
 returns-in-Stops c = rw c.halted-in-Stops.ensures (ran c.args.file.now c.args.types.now c.args.functions.now c.args.label Halt.Stops c.loop-x.invariant.2 c.loop-x.invariant.1
-    (looked-so c.args.file.now c.args.types.now c.args.functions.now c.args.label Next.Stops c.step-next.ensures c.in-Stops.is))
+    (looked_so c.args.file.now c.args.types.now c.args.functions.now c.args.label Next.Stops c.step-next.ensures c.in-Stops.is))
 
 pub returns-in-Waits : goal.returns-in-Waits
 returns-in-Waits c = rw c.halted-in-Waits.ensures (ran c.args.file.now c.args.types.now c.args.functions.now c.args.label (Halt.Waits _) c.loop-x.invariant.2 c.loop-x.invariant.1
-    (looked-so c.args.file.now c.args.types.now c.args.functions.now c.args.label (Next.Waits _) c.step-next.ensures c.in-Waits.is))
+    (looked_so c.args.file.now c.args.types.now c.args.functions.now c.args.label (Next.Waits _) c.step-next.ensures c.in-Waits.is))
 
 pub returns-then-left-done : goal.returns-then-left-done
 returns-then-left-done c = rw c.halted-then-left-done.ensures (ran c.args.file.now c.args.types.now c.args.functions.now c.args.label Halt.Spent c.loop-x.invariant.2 c.loop-x.invariant.1
-    (_, looked-so c.args.file.now c.args.types.now c.args.functions.now c.args.label (Next.Goes _) c.step-next.ensures c.in-Goes.is, omega arith))
+    (_, looked_so c.args.file.now c.args.types.now c.args.functions.now c.args.label (Next.Goes _) c.step-next.ensures c.in-Goes.is, omega arith))
 
 pub loop-x-smaller : goal.loop-x-smaller
 loop-x-smaller c = omega arith
 
 pub loop-x-preserved : goal.loop-x-preserved
 loop-x-preserved c = let one : c.loop-x.done + 1 ≡ suc c.loop-x.done = omega arith in
-    (search rules, omega arith, rw one (one_more c.loop-x.invariant.2 (looked-stepped c.args.file.now c.args.types.now c.args.functions.now c.args.label tt (looked-so c.args.file.now c.args.types.now c.args.functions.now c.args.label (Next.Goes _) c.step-next.ensures c.in-Goes.is))))
+    (search rules, omega arith, rw one (one_more c.loop-x.invariant.2 (looked_stepped c.args.file.now c.args.types.now c.args.functions.now c.args.label tt (looked_so c.args.file.now c.args.types.now c.args.functions.now c.args.label (Next.Goes _) c.step-next.ensures c.in-Goes.is))))

@@ -5,7 +5,7 @@ use lib.ListN.{length}
 use Rattle.registers.specs.declared.Next.TheVariants as Next
 use Rattle.steps.specs.declared.Halt.TheVariants as Halt
 use Rattle.steps.specs.Running.{StepsTo, no_step, one_more}
-use Rattle.steps.proofs.Running.{looked-so, looked-stepped, ran}
+use Rattle.steps.proofs.Running.{looked_so, looked_stepped, ran}
 use native.Mathlib.Omega.{arith}
 use Rattle.steps.proofs.run_to_result.Given as goal
 

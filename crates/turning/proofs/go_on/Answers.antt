@@ -5,7 +5,7 @@ use mathlib.Core.Logic.{inl, inr}
 use native.Mathlib.Omega.{arith}
 use Rattle.machine.proofs.Words.{nothing_written}
 use Rattle.turning.specs.Turning.{at_the_end}
-use Rattle.turning.proofs.Turning.{goes-field}
+use Rattle.turning.proofs.Turning.{goes_field}
 use Rattle.turning.proofs.go_on.Goals as goal
 
 pub returns-then-frame-eq-NO_CASE : goal.returns-then-frame-eq-NO_CASE
@@ -21,5 +21,8 @@ turn_to-requires c = let x = c.args.r.frame - 1000000 in
 pub returns : goal.returns
 returns c = let x = c.args.r.frame - 1000000 in
     let is : c.args.r.frame ≡ 1000000 + x = omega (arith, c.requires.2) in
-    let some : 0 < x = omega (arith, c.requires.2, c.if-frame-eq-NO_CASE.false) in record { by_index = λ file types functions filled.
-          goes-field {x = x} is some c.record_word-first.ensures.0 c.record_word-k.ensures.0 c.record_word-env.ensures.0 c.record_word-next.ensures.0 (c.turn_to.ensures file types functions filled); turns = inr (_, refl) }
+    let some : 0 < x = omega (arith, c.requires.2, c.if-frame-eq-NO_CASE.false) in record {
+      by_index = λ file types functions filled.
+          goes_field {x = x} is some c.record_word-first.ensures.0 c.record_word-k.ensures.0 c.record_word-env.ensures.0 c.record_word-next.ensures.0 (c.turn_to.ensures file types functions filled);
+      turns = inr (_, refl);
+    }

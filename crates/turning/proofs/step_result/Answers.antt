@@ -19,15 +19,21 @@ overflow_add-r c = let (functions, standing) = c.requires.0 in
     (λ ready no-case counts. omega (arith, ready.within, ready.small))
 
 pub returns-then-k-gt0 : goal.returns-then-k-gt0
-returns-then-k-gt0 c = record { stepped_by = λ functions label filled.
-          result_turns c.args.file.now c.args.types.now functions c.args.work.now c.args.base c.args.r c.requires.1 c.own_fields-k.ensures (omega (arith, c.if-k-gt0.true))
-          (c.turn_to.ensures c.args.file.now c.args.types.now functions filled) label; turns = inr (_, refl) }
+returns-then-k-gt0 c = record {
+  stepped_by = λ functions label filled.
+      result_turns c.args.file.now c.args.types.now functions c.args.work.now c.args.base c.args.r c.requires.1 c.own_fields-k.ensures (omega (arith, c.if-k-gt0.true))
+      (c.turn_to.ensures c.args.file.now c.args.types.now functions filled) label;
+  turns = inr (_, refl);
+}
 
 pub go_on-requires : goal.go_on-requires
 go_on-requires c = let (functions, standing) = c.requires.0 in
     (standing.stands.space, result_fits c.args.file.now c.args.types.now functions c.args.work.now c.args.base c.args.r c.requires.1 standing, result_no_case c.requires.1)
 
 pub returns : goal.returns
-returns c = record { stepped_by = λ functions label filled.
-          result_goes_on c.args.file.now c.args.types.now functions c.args.work.now c.args.base c.args.r c.requires.1 c.own_fields-k.ensures (omega (arith, c.if-k-gt0.false))
-          (c.go_on.ensures.by_index c.args.file.now c.args.types.now functions filled) label; turns = c.go_on.ensures.turns }
+returns c = record {
+  stepped_by = λ functions label filled.
+      result_goes_on c.args.file.now c.args.types.now functions c.args.work.now c.args.base c.args.r c.requires.1 c.own_fields-k.ensures (omega (arith, c.if-k-gt0.false))
+      (c.go_on.ensures.by_index c.args.file.now c.args.types.now functions filled) label;
+  turns = c.go_on.ensures.turns;
+}

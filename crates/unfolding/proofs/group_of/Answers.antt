@@ -3,7 +3,7 @@
 use Prim.Native.Nat.{◌≤◌}
 use native.Mathlib.Omega.{arith}
 use Rattle.registers.specs.Stepping.{Outward}
-use Rattle.registers.proofs.Walks.{walk_here, walk-outward, walk_less}
+use Rattle.registers.proofs.Walks.{walk_here, walk_outward, walk_less}
 use Rattle.unfolding.proofs.group_of.Goals as goal
 
 pub loop-group-init : goal.loop-group-init
@@ -20,7 +20,7 @@ loop-group-smaller c = walk_less _ _ _ _ _ c.requires.0 c.loop-group.invariant.0
 
 pub loop-group-preserved : goal.loop-group-preserved
 loop-group-preserved c = (
-  walk-outward _ _ _ _ _ c.loop-group.invariant.0 c.Outside-of.ensures c.loop-group-test.true c.record_word-group.ensures.0,
+  walk_outward _ _ _ _ _ c.loop-group.invariant.0 c.Outside-of.ensures c.loop-group-test.true c.record_word-group.ensures.0,
   omega (arith, walk_less _ _ _ _ _ c.requires.0 c.loop-group.invariant.0 c.record_word-group.ensures.0),
 )
 

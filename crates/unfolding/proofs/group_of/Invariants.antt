@@ -3,7 +3,7 @@
 use Prim.Native.Nat.{◌≤◌}
 use native.Mathlib.Omega.{arith}
 use Rattle.registers.specs.Stepping.{Outward}
-use Rattle.registers.proofs.Walks.{walk_here, walk-outward, walk_less}
+use Rattle.registers.proofs.Walks.{walk_here, walk_outward, walk_less}
 use Rattle.unfolding.proofs.group_of.Given as goal
 
 abbrev pub invariant-loop-group : goal.invariant-loop-group

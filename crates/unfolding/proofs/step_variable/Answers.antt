@@ -1,7 +1,7 @@
 -- `unfolding::step_variable` meets its contract: Variables says what the words stand for after the step, by the mark of the group's record.
 use Prim.Native.Nat.{◌+◌}
 use Rattle.registers.proofs.Walks.{operand_there}
-use Rattle.unfolding.proofs.Variables.{variable_there, part-leads, operand-leads}
+use Rattle.unfolding.proofs.Variables.{variable_there, part_leads, operand_leads}
 use native.Mathlib.Omega.{arith}
 use Rattle.unfolding.proofs.step_variable.Goals as goal
 
@@ -14,11 +14,11 @@ overflow_add-result c = omega (arith, c.byte_or_zero-n.ensures, c.type_inv.file 
 
 pub returns-then-inner-eq0 : goal.returns-then-inner-eq0
 returns-then-inner-eq0 c = λ types functions filled.
-    part-leads c.args.file.now types functions c.args.work.now c.args.base c.args.at c.args.env c.args.r c.requires.1 c.byte_or_zero-n.ensures
+    part_leads c.args.file.now types functions c.args.work.now c.args.base c.args.at c.args.env c.args.r c.requires.1 c.byte_or_zero-n.ensures
     c.Group-of.ensures c.Outside-of.ensures c.record_word-first.ensures.0 c.record_word-inner.ensures.0 c.if-inner-eq0.true
 
 pub returns : goal.returns
 returns c = λ types functions filled.
-    operand-leads c.args.file.now types functions c.args.work.now c.args.base c.args.at c.args.env c.args.r c.requires.1 c.byte_or_zero-n.ensures
+    operand_leads c.args.file.now types functions c.args.work.now c.args.base c.args.at c.args.env c.args.r c.requires.1 c.byte_or_zero-n.ensures
     c.Group-of.ensures c.Outside-of.ensures c.record_word-first.ensures.0 c.record_word-inner.ensures.0 c.if-inner-eq0.false
     (operand_there c.args.file.now types functions c.args.ends.now filled _ _ c.pass_operands-place.ensures)

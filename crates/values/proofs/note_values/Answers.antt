@@ -7,7 +7,7 @@ use lib.ListN.{length}
 use Rattle.reach.specs.Places.{bytes_at}
 use Rattle.reach.proofs.Places.{bytes_length}
 use Rattle.values.specs.Notes.{NotedFirst}
-use Rattle.values.proofs.Noting.{Reached, reached_first, noted_none, noted-next, reached-more}
+use Rattle.values.proofs.Noting.{Reached, reached_first, noted_none, noted_next, reached_more}
 use Rattle.values.proofs.note_values.Goals as goal
 
 pub loop-more-init : goal.loop-more-init
@@ -21,14 +21,13 @@ pub note-requires : goal.note-requires
 note-requires c = omega (arith, c.loop-more.invariant.0.same_length)
 
 pub loop-more-preserved : goal.loop-more-preserved
-loop-more-preserved c =
-    (
-      noted-next _ _ _ _ _ _ _ c.loop-more-test.true c.loop-more.invariant.4 _ _ c.loop-more.invariant.0 (c.loop-more.invariant.1 c.loop-more-test.true) c.requires.0 c.loop-more.invariant.2 c.note.ensures,
-      λ some. reached-more _ _ _ _ _ _ _ c.loop-more-test.true c.loop-more.invariant.4 _ (c.loop-more.invariant.1 c.loop-more-test.true) c.loop-more.invariant.3 c.byte_or_zero-t.ensures (c.next_place-place.ensures (omega arith)),
-      omega arith,
-      omega arith,
-      omega arith,
-    )
+loop-more-preserved c = (
+  noted_next _ _ _ _ _ _ _ c.loop-more-test.true c.loop-more.invariant.4 _ _ c.loop-more.invariant.0 (c.loop-more.invariant.1 c.loop-more-test.true) c.requires.0 c.loop-more.invariant.2 c.note.ensures,
+  λ some. reached_more _ _ _ _ _ _ _ c.loop-more-test.true c.loop-more.invariant.4 _ (c.loop-more.invariant.1 c.loop-more-test.true) c.loop-more.invariant.3 c.byte_or_zero-t.ensures (c.next_place-place.ensures (omega arith)),
+  omega arith,
+  omega arith,
+  omega arith,
+)
 
 pub shape_of-work : goal.shape_of-work
 shape_of-work c = c.loop-more.invariant.0.same_length

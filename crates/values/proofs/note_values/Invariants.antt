@@ -7,11 +7,11 @@ use lib.ListN.{length}
 use Rattle.reach.specs.Places.{bytes_at}
 use Rattle.reach.proofs.Places.{bytes_length}
 use Rattle.values.specs.Notes.{NotedFirst}
-use Rattle.values.proofs.Noting.{Reached, reached_first, noted_none, noted-next, reached-more}
+use Rattle.values.proofs.Noting.{Reached, reached_first, noted_none, noted_next, reached_more}
 use Rattle.values.proofs.note_values.Given as goal
 
 abbrev pub invariant-loop-more : goal.invariant-loop-more
-invariant-loop-more l =     (NotedFirst l.file l.types l.input l.initial.work l.work l.first (bytes_at l.file l.fields l.k) l.at (l.k - l.more))
+invariant-loop-more l = (NotedFirst l.file l.types l.input l.initial.work l.work l.first (bytes_at l.file l.fields l.k) l.at (l.k - l.more))
     × (0 < l.more → Reached l.file l.types l.input (bytes_at l.file l.fields l.k) l.at (l.k - l.more) l.place)
     × (l.cell + l.more ≡ l.first + l.k)
     × (l.field + l.more ≡ l.fields + l.k)
