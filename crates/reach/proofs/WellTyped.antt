@@ -204,11 +204,11 @@ abbrev HeadExists : Types → Head → Type 0
 HeadExists types h = Each (Exists types) h.parameters × Exists types h.result
 
 -- the types that TY and the heads name exist, and the source exists
-numbers_exist :
+numbers_exist_law :
     (o : Outline) → numbers_exist o ≡ true
     → Each (Each (Each (Exists o.declared.types))) o.declared.types × Each (HeadExists o.declared.types) o.declared.heads
     × (o.goal.source < length o.declared.heads)
-numbers_exist o h =
+numbers_exist_law o h =
     let (exist, source) = (numbers_exist_exactly o).0 h in (
       member_each _ o.declared.types (λ cs m. member_each _ cs (λ us k. member_each _ us (λ t l. exist t (of_field cs us m k l)))),
       member_each _ o.declared.heads (λ f m. (member_each _ f.parameters (λ t l. exist t (of_parameter f m l)), exist f.result (of_result f m refl))),
@@ -244,7 +244,7 @@ program_typed :
     → WellTyped (program_of o fs)
 unfolding program_of function_at
 program_typed o fs exist same all =
-    let exists = numbers_exist o exist in
+    let exists = numbers_exist_law o exist in
     record {
       fields_exist = exists.0;
       functions_typed = λ f g e. rw same (all f g e);
@@ -258,7 +258,7 @@ file_typed s i =
     (λ u k. after_any _ _ (outline s k)
     (λ o l. after_test _ _ (numbers_exist o) UnknownNumber s l
     (λ exist. if_found_then _ _ _ (functions_of o.declared o.declared.heads s l)
-    (functions_read o.declared o.declared.heads (numbers_exist o exist).1 s l)
+    (functions_read o.declared o.declared.heads (numbers_exist_law o exist).1 s l)
     (λ fs m read. after_any _ _ (demand (no_empty_type (least_depths o.declared.types)) EmptyType s m)
     (λ v h. after_any _ _ (demand (deep_enough (program_of o fs)) _ s h)
     (λ w j. after_any _ _ (demand (well_spelled o) BadSpelling s j)

@@ -87,5 +87,7 @@ loop-top-preserved c =
 
 pub returns : goal.returns
 returns c =
-    rw c.wide_depth-2.ensures
-    (sym (ended _ _ _ _ c.loop-top.invariant (omega (arith, c.loop-top-test.false, c.wide.ensures)) (omega (arith, c.loop-top-test.false, c.wide.ensures))), omega (arith, c.loop-top.invariant.low.1))
+    rw c.wide_depth-2.ensures (record {
+      value = sym (ended _ _ _ _ c.loop-top.invariant (omega (arith, c.loop-top-test.false, c.wide.ensures)) (omega (arith, c.loop-top-test.false, c.wide.ensures)));
+      near = omega (arith, c.loop-top.invariant.low.1);
+    })
