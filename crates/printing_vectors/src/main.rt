@@ -53,12 +53,7 @@ fn run_list<R: Read>(rt: &impl Print, input: &mut R, full: bool) -> io::Result<(
 }
 
 // The rest of a case whose list is handed in with its rule file, behind that file.
-fn run_handed<R: Read>(
-    rt: &impl Print,
-    input: &mut R,
-    file: &[u8],
-    full: bool,
-) -> io::Result<()> {
+fn run_handed<R: Read>(rt: &impl Print, input: &mut R, file: &[u8], full: bool) -> io::Result<()> {
     let mut list = [0u8; PART];
     let mut text = bytes(46);
     let n = read_part(input, &mut list);

@@ -5,8 +5,8 @@
 ghost use Rattle.std.specs.Prelude.{◌≤◌, length};
 
 use cases::{
-    BYTES, CASES, NO_PART, PART, WORDS, bytes, least, print, print_number, print_refused, read_byte,
-    read_number, read_part, words,
+    BYTES, CASES, NO_PART, PART, WORDS, bytes, least, print, print_number, print_refused,
+    read_byte, read_number, read_part, words,
 };
 use reach::Outcome;
 use results::RunResult;
