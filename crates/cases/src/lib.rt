@@ -15,6 +15,9 @@ pub const WORDS: usize = 300000;
 
 pub const BYTES: usize = 1048576;
 
+// The bytes of a buffer for a part, which hold every length.
+pub const PART: usize = 65536;
+
 // What is read for a byte, for a part and for a number where the container has ended: one more than the largest.
 pub const NO_BYTE: usize = 256;
 

@@ -5,83 +5,90 @@
 #![tactic(auto)]
 
 use cases::{
-    BYTES, CASES, NO_BYTE, bytes, least, print, print_number, print_refused, print_text, read_byte,
-    read_number, read_part,
+    BYTES, CASES, NO_BYTE, PART, bytes, least, print, print_number, print_refused, print_text,
+    read_byte, read_number, read_part,
 };
 use printout::{text_length, write_text};
 use results::TextResult;
+use std::io::{self, Read};
 
 // Prints the text of a list of at most 65,535 bytes.
-fn print_list(list: &[u8], full: bool) {
+fn print_list(rt: &impl Print, list: &[u8], full: bool) -> io::Result<()> {
     let mut text = bytes(0);
     let n = printing::list_text(list, full, &mut text);
-    print_text(&text, n);
+    print_text(rt, &text, n)
 }
 
 // Prints the word for a call, and what it answered.
-fn print_answer(call: &[u8], answer: TextResult) {
+fn print_answer(rt: &impl Print, call: &[u8], answer: TextResult) -> io::Result<()> {
     match answer {
         TextResult::Refused(why) => {
-            print(call);
-            print_refused(why);
+            print(rt, call)?;
+            print_refused(rt, why)?;
         }
-        TextResult::Length(n) => print_number(call, n as u64),
+        TextResult::Length(n) => print_number(rt, call, n as u64)?,
     }
-    print(b"\n");
+    print(rt, b"\n")
 }
 
 // Prints what both calls answer for a list that is handed in, and the text slice.
-fn print_handed<'a>(file: &'a [u8], list: &'a [u8], full: bool, text: &mut [u8]) {
-    print_answer(b"length ", text_length(file, list, full));
-    print_answer(b"text ", write_text(file, list, full, text));
-    print(text);
-    print(b"\n");
+fn print_handed<'a>(
+    rt: &impl Print,
+    file: &'a [u8],
+    list: &'a [u8],
+    full: bool,
+    text: &mut [u8],
+) -> io::Result<()> {
+    print_answer(rt, b"length ", text_length(file, list, full))?;
+    print_answer(rt, b"text ", write_text(file, list, full, text))?;
+    print(rt, text)?;
+    print(rt, b"\n")
 }
 
 // The rest of a case whose list stands by itself.
-fn run_list(full: bool) {
-    let mut list = io::large_buffer();
-    let n = read_part(&mut list);
-    print_list(&list[..n], full);
+fn run_list<R: Read>(rt: &impl Print, input: &mut R, full: bool) -> io::Result<()> {
+    let mut list = [0u8; PART];
+    let n = read_part(input, &mut list);
+    print_list(rt, &list[..n], full)
 }
 
 // The rest of a case whose list is handed in with its rule file, behind that file.
-fn run_handed(file: &[u8], full: bool) {
-    let mut list = io::large_buffer();
+fn run_handed<R: Read>(rt: &impl Print, input: &mut R, file: &[u8], full: bool) -> io::Result<()> {
+    let mut list = [0u8; PART];
     let mut text = bytes(46);
-    let n = read_part(&mut list);
-    let room = least(read_number(), BYTES);
-    print_handed(file, &list[..n], full, &mut text[..room]);
+    let n = read_part(input, &mut list);
+    let room = least(read_number(input), BYTES);
+    print_handed(rt, file, &list[..n], full, &mut text[..room])
 }
 
 // The rest of a case that has a rule file.
-fn run_file(full: bool) {
-    let mut file = io::large_buffer();
-    let n = read_part(&mut file);
-    run_handed(&file[..n], full);
+fn run_file<R: Read>(rt: &impl Print, input: &mut R, full: bool) -> io::Result<()> {
+    let mut file = [0u8; PART];
+    let n = read_part(input, &mut file);
+    run_handed(rt, input, &file[..n], full)
 }
 
 // Reads one case and prints its text; false where the container has ended.
-fn run_case() -> bool {
-    let kind = read_byte();
+fn run_case<R: Read>(rt: &impl Print, input: &mut R) -> io::Result<bool> {
+    let kind = read_byte(input);
     if kind == NO_BYTE {
-        return false;
+        return Ok(false);
     }
     let full = kind % 2 == 1;
     if kind < 2 {
-        run_list(full);
+        run_list(rt, input, full)?;
     } else {
-        run_file(full);
+        run_file(rt, input, full)?;
     }
-    true
+    Ok(true)
 }
 
-fn main() {
-    let mut more = CASES;
-    while 0 < more {
-        if !run_case() {
-            return;
+fn main(rt: HostRuntime) -> io::Result<()> {
+    let mut input = rt.stdin();
+    for _ in 0..CASES {
+        if !run_case(&rt, &mut input)? {
+            break;
         }
-        more -= 1;
     }
+    Ok(())
 }

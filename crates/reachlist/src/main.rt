@@ -1,13 +1,15 @@
 // The program `reachlist`: reads a rule file from standard input and prints its text. Its buffers are those that `program_text` takes.
 #![tactic(auto)]
 
-use libc::{STDIN_FILENO, STDOUT_FILENO};
+use cases::read_bytes;
 use report::program_text;
+use reporting::INPUT;
+use std::io;
 
-fn main() {
+fn main(rt: HostRuntime) -> io::Result<()> {
     let mut file = reporting::input();
     let mut text = reporting::page();
-    let got = io::read_full(STDIN_FILENO, &mut file);
+    let got = read_bytes(&mut rt.stdin(), &mut file, INPUT);
     let size = program_text(&file, got, &mut text);
-    io::write_all(STDOUT_FILENO, &text[..size]);
+    Print::write_all(&rt, &text[..size])
 }

@@ -7,56 +7,57 @@ use cases::{BYTES, CASES, NO_NUMBER, bytes, least, print, read_bytes, read_numbe
 use namereport::program_names;
 use report::program_text;
 use reporting::{INPUT, input, page};
+use std::io::{self, Read};
 
 // Prints what `reachlist` prints for the bytes that were read, and the line behind it.
-fn print_report(file: &[u8; INPUT], size: usize) {
+fn print_report(rt: &impl Print, file: &[u8; INPUT], size: usize) -> io::Result<()> {
     let mut text = page();
     let n = program_text(file, size, &mut text);
-    print(&text[..n]);
-    print(b"end\n");
+    print(rt, &text[..n])?;
+    print(rt, b"end\n")
 }
 
 // And what `namelist` prints.
-fn print_names(file: &[u8; INPUT], size: usize) {
+fn print_names(rt: &impl Print, file: &[u8; INPUT], size: usize) -> io::Result<()> {
     let mut text = page();
     let n = program_names(file, size, &mut text);
-    print(&text[..n]);
-    print(b"end\n");
+    print(rt, &text[..n])?;
+    print(rt, b"end\n")
 }
 
 // Prints the texts of the rule file whose n bytes come next.
-fn print_texts(n: usize) {
+fn print_texts<R: Read>(rt: &impl Print, from: &mut R, n: usize) -> io::Result<()> {
     let mut file = input();
-    let size = read_bytes(&mut file, least(n, INPUT));
-    print_report(&file, size);
-    print_names(&file, size);
+    let size = read_bytes(from, &mut file, least(n, INPUT));
+    print_report(rt, &file, size)?;
+    print_names(rt, &file, size)
 }
 
 // Passes over so many bytes.
-fn pass(n: usize) {
+fn pass<R: Read>(from: &mut R, n: usize) {
     let mut rest = bytes(0);
-    read_bytes(&mut rest, least(n, BYTES));
+    read_bytes(from, &mut rest, least(n, BYTES));
 }
 
 // Reads one rule file and prints its texts; false where the container has ended.
-fn run_case() -> bool {
-    let n = read_number();
+fn run_case<R: Read>(rt: &impl Print, from: &mut R) -> io::Result<bool> {
+    let n = read_number(from);
     if n == NO_NUMBER {
-        return false;
+        return Ok(false);
     }
-    print_texts(n);
+    print_texts(rt, from, n)?;
     if INPUT < n {
-        pass(n - INPUT);
+        pass(from, n - INPUT);
     }
-    true
+    Ok(true)
 }
 
-fn main() {
-    let mut more = CASES;
-    while 0 < more {
-        if !run_case() {
-            return;
+fn main(rt: HostRuntime) -> io::Result<()> {
+    let mut from = rt.stdin();
+    for _ in 0..CASES {
+        if !run_case(&rt, &mut from)? {
+            break;
         }
-        more -= 1;
     }
+    Ok(())
 }

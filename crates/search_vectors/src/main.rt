@@ -3,12 +3,13 @@
 #![tactic(auto)]
 
 use cases::{
-    BYTES, CASES, NO_PART, WORDS, bytes, bytes_kept, least, low_first, print, print_bytes,
+    BYTES, CASES, NO_PART, PART, WORDS, bytes, bytes_kept, least, low_first, print, print_bytes,
     print_kept, print_number, print_refused, print_verdict, read_number, read_part, words,
     words_kept,
 };
 use reach::Refusal;
 use results::SearchResult;
+use std::io::{self, Read};
 
 // What stands in every word of the work slice and in every byte of the list slice before the call.
 const WORD: u32 = 0xA5A5A5A5;
@@ -16,25 +17,31 @@ const WORD: u32 = 0xA5A5A5A5;
 const BYTE: u8 = 0xA5;
 
 // Prints the first line: the answer, with the length of the list.
-fn print_answer(answer: SearchResult) {
+fn print_answer(rt: &impl Print, answer: SearchResult) -> io::Result<()> {
     match answer {
-        SearchResult::Refused(why) => print_refused(why),
-        SearchResult::Complete(count, verdict) => print_verdict(verdict, count),
+        SearchResult::Refused(why) => print_refused(rt, why)?,
+        SearchResult::Complete(count, verdict) => print_verdict(rt, verdict, count)?,
         SearchResult::Full(count) => {
-            print_refused(Refusal::ListFull);
-            print_number(b" ", count as u64);
+            print_refused(rt, Refusal::ListFull)?;
+            print_number(rt, b" ", count as u64)?;
         }
     }
-    print(b"\n");
+    print(rt, b"\n")
 }
 
 // Prints the second line: the bytes of the list, and whether the rest of the list slice, and the words from `spare` on, are as before.
-fn print_slices<'a>(work: &'a [u32], list: &'a [u8], count: usize, spare: usize) {
-    print_bytes(list, count);
-    print_kept(bytes_kept(list, count, BYTE));
-    print(b" ");
-    print_kept(words_kept(work, spare, WORD));
-    print(b"\n");
+fn print_slices<'a>(
+    rt: &impl Print,
+    work: &'a [u32],
+    list: &'a [u8],
+    count: usize,
+    spare: usize,
+) -> io::Result<()> {
+    print_bytes(rt, list, count)?;
+    print_kept(rt, bytes_kept(list, count, BYTE))?;
+    print(rt, b" ")?;
+    print_kept(rt, words_kept(work, spare, WORD))?;
+    print(rt, b"\n")
 }
 
 // The length of the list in an answer.
@@ -61,38 +68,43 @@ fn words_in(answer: SearchResult, file: &[u8]) -> usize {
 }
 
 // Searches one rule file and prints its two lines.
-fn search_case<'a>(file: &'a [u8], work: &mut [u32], list: &mut [u8]) {
+fn search_case<'a>(
+    rt: &impl Print,
+    file: &'a [u8],
+    work: &mut [u32],
+    list: &mut [u8],
+) -> io::Result<()> {
     let answer = search::search(file, work, list);
-    print_answer(answer);
-    print_slices(work, list, count_in(answer), words_in(answer, file));
+    print_answer(rt, answer)?;
+    print_slices(rt, work, list, count_in(answer), words_in(answer, file))
 }
 
 // Reads the lengths of the slices for a rule file, and searches it in them.
-fn run_file(file: &[u8]) {
+fn run_file<R: Read>(rt: &impl Print, input: &mut R, file: &[u8]) -> io::Result<()> {
     let mut work = words(WORD);
     let mut list = bytes(BYTE);
-    let w = least(read_number(), WORDS);
-    let l = least(read_number(), BYTES);
-    search_case(file, &mut work[..w], &mut list[..l]);
+    let w = least(read_number(input), WORDS);
+    let l = least(read_number(input), BYTES);
+    search_case(rt, file, &mut work[..w], &mut list[..l])
 }
 
 // Reads one case and prints its lines; false where the container has ended.
-fn run_case() -> bool {
-    let mut file = io::large_buffer();
-    let n = read_part(&mut file);
+fn run_case<R: Read>(rt: &impl Print, input: &mut R) -> io::Result<bool> {
+    let mut file = [0u8; PART];
+    let n = read_part(input, &mut file);
     if n == NO_PART {
-        return false;
+        return Ok(false);
     }
-    run_file(&file[..n]);
-    true
+    run_file(rt, input, &file[..n])?;
+    Ok(true)
 }
 
-fn main() {
-    let mut more = CASES;
-    while 0 < more {
-        if !run_case() {
-            return;
+fn main(rt: HostRuntime) -> io::Result<()> {
+    let mut input = rt.stdin();
+    for _ in 0..CASES {
+        if !run_case(&rt, &mut input)? {
+            break;
         }
-        more -= 1;
     }
+    Ok(())
 }
