@@ -18,7 +18,7 @@ next_round-next-requires c = record { few = omega arith; reached = omega arith; 
 
 pub returns-then-not-next : goal.returns-then-not-next
 returns-then-not-next c =
-    c.loop-made.invariant.0 ∙ array_settled c.args.s.now c.args.types.now c.loop-made.made (sym c.next_round-next.ensures.holds ∙ c.next_round-next.ensures.same (c.if-not-next.true) ∙ c.loop-made.invariant.0)
+    c.loop-made.invariant.0 ∙ array_settled c.args.s.now c.args.types.now c.loop-made.made (sym c.next_round-next.ensures.holds ∙ c.next_round-next.ensures.same (not-true _ c.if-not-next.true) ∙ c.loop-made.invariant.0)
 
 pub loop-made-preserved : goal.loop-made-preserved
 loop-made-preserved c = (c.next_round-next.ensures.holds, omega arith)
