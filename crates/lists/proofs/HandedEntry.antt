@@ -20,7 +20,7 @@ use Rattle.reach.specs.Places.{word_at}
 use Rattle.reach.specs.Types.{Slot}
 use Rattle.reach.specs.Search.{Entry}
 use Rattle.reach.specs.Lists.{entry_bytes, kind_of, entry_size}
-use Rattle.reach.specs.Reader.{Got, got, refused, on_got, ◌>>=◌, ◌>>◌, give, demand, byte, word}
+use Rattle.reach.specs.Reader.{Got, got, refused, on_got, ◌>>=◌, give, demand, byte, word}
 use Rattle.reach.specs.Partial.{slotted}
 use Rattle.lists.specs.Handed.{Fitting, in_entries, kind_mark, spanning, entry_by, entry}
 use Rattle.reach.proofs.Limits.{IfFound}

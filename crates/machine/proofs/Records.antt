@@ -14,7 +14,7 @@ use Rattle.reach.specs.Base.{pick}
 use Rattle.reach.specs.Syntax.{Expr, Exprs, []ₑ, ◌∷ₑ◌, count, nth_expr, Alternatives}
 use Rattle.reach.specs.Parts.{Parts, Place, at, There}
 use Rattle.reach.specs.RuleFile.{Declarations}
-use Rattle.reach.specs.Eval.{Row, part_of, Env, empty, operands, input_parts, size, Closure, suspended, input_part, suspend, lookup, Frame, waiting, fields, with_fields, State}
+use Rattle.reach.specs.Eval.{Row, part_of, Env, empty, operands, input_parts, size, Closure, suspended, input_part, suspend, lookup, Frame, waiting, fields, State}
 use Rattle.reach.proofs.Base.{clash}
 use Rattle.reach.specs.States.{EnvIn, FramesIn, StateIn}
 use Rattle.machine.specs.Records.{record_word, RecordIs, CodeAll, CodeAlternatives, Control, environment_of, no_case, FrameBelow, EnvAt, empty_at, operands_at_law, parts_at, FramesAt, none_at, waiting_at, fields_at, StateAt, evaluating_at, inspecting_at, missing_at}

@@ -1,6 +1,6 @@
 -- The evaluation of the whole result is the unit-evaluator applied again to each child: the same outcome, after the same steps.
 -- Rests on specs/Whole and Evaluation.
-use Prim.Native.Nat.{ℕ, zero, suc, ◌≤◌, ◌<◌}
+use Prim.Native.Nat.{ℕ, zero, suc, ◌≤◌}
 use mathlib.Core.Path.{◌≡◌, refl, sym, ◌∙◌, ap, subst}
 use mathlib.Core.Bool.{Bool, true, false}
 use mathlib.Core.List.{List, [], ◌∷◌, ◌++◌}
@@ -8,7 +8,7 @@ use mathlib.Core.Option.{Option, none, some}
 use lib.Dec.{eqb}
 use native.Mathlib.Omega.{arith}
 use Rattle.reach.specs.Base.{pick}
-use Rattle.reach.specs.Syntax.{Expr, variable, call, construct, case, let_in, target, Exprs, []ₑ, ◌∷ₑ◌, Alternatives, no_more, absent, present, Function, Program, function_at}
+use Rattle.reach.specs.Syntax.{variable, call, construct, case, let_in, target, Exprs, []ₑ, ◌∷ₑ◌, Alternatives, no_more, absent, present, Function, Program, function_at}
 use Rattle.reach.specs.Parts.{Parts, Seen, gone, free, has, at}
 use Rattle.reach.specs.Eval.{Env, Closure, suspended, input_part, lookup, Frame, waiting, fields, with_fields, State, evaluating, inspecting, uncovered, stuck, resume, choose, enter, Question, answered, Stop, value, unknown, Next, demands, lacks, stops, goes, waits}
 use Rattle.reach.specs.Eval.{view, look, answer, next, Run, reached, ended, unfinished, missing, halted, conclude, eval, start_of, start, run}

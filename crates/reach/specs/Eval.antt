@@ -4,7 +4,7 @@
 use Rattle.std.specs.Prelude.{ℕ, zero, suc, ◌+◌, ◌-◌, ◌≤◌, ◌<◌, ◌≡◌, List, [], ◌∷◌, length, ltb, eqb}
 use Rattle.std.proofs.Math.Option.{Option, none, some}
 use Rattle.reach.specs.Base.{pick}
-use Rattle.reach.specs.Syntax.{Expr, variable, call, construct, case, let_in, target, Exprs, []ₑ, ◌∷ₑ◌, count, nth_expr, Alternatives, no_more, absent, present, Function, Program, function_at, where_construct, where_target, where_variable, where_call, where_let, where_case}
+use Rattle.reach.specs.Syntax.{Expr, Exprs, []ₑ, ◌∷ₑ◌, count, nth_expr, Alternatives, no_more, absent, present, Function, Program, function_at, where_construct, where_target, where_variable, where_call, where_let, where_case}
 use Rattle.reach.specs.Parts.{Parts, Place, part, within, Seen, gone, free, has, at}
 
 -- A row of input parts: the source's parameters, or the fields of the part at a place.

@@ -1,11 +1,11 @@
 -- The whole result in the words of 000, section 3.4: the unit-evaluator, which comes to a constructor with unevaluated children or to a part of the
 -- input, is applied again to each child, from left to right and depth first. proofs/Whole.antt shows that `run` is this, with its steps.
 -- Rests on Eval.
-use Rattle.std.specs.Prelude.{ℕ, zero, suc, List, [], ◌∷◌}
-use Rattle.std.proofs.Math.Option.{Option, none, some, map}
+use Rattle.std.specs.Prelude.{ℕ, zero, suc, [], ◌∷◌}
+use Rattle.std.proofs.Math.Option.{Option, none, some}
 use Rattle.reach.specs.Syntax.{Expr, Exprs, []ₑ, ◌∷ₑ◌, Program, where_construct}
 use Rattle.reach.specs.Parts.{Parts}
-use Rattle.reach.specs.Eval.{Env, empty, State, evaluating, inspecting, uncovered, stuck, value, Question, on_next, next, Run, reached, ended, unfinished, missing, halted, conclude, start}
+use Rattle.reach.specs.Eval.{Env, empty, State, evaluating, inspecting, uncovered, stuck, value, on_next, next, Run, reached, ended, unfinished, missing, halted, conclude, start}
 
 -- What an evaluation came to, with so many steps left and done; or it stopped.
 pub data Came (A : Type 0) : Type 0 where

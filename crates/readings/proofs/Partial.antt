@@ -14,7 +14,7 @@ use Rattle.reach.specs.Base.{Each}
 use Rattle.reach.specs.Syntax.{Types, field_types}
 use Rattle.reach.specs.Parts.{Parts, end, opened, bound, Closed, depth, prefix}
 use Rattle.reach.specs.Types.{Typed, Slot, slot_types, least_depths}
-use Rattle.reach.specs.Reader.{Got, got, refused, Reader, ◌>>=◌, ◌>>◌, refuse, or_refuse, demand, byte}
+use Rattle.reach.specs.Reader.{Got, got, refused, Reader, ◌>>=◌, refuse, or_refuse, demand, byte}
 use Rattle.reach.specs.Partial.{fields_in, deepest, Keeps, Value, unbound, built, ◌before◌, deep_of, values_by, Manner, in_inputs, OpenApart, value_from, value, slotted}
 use Rattle.reach.proofs.Base.{clash, picked}
 use Rattle.reach.proofs.Limits.{IfFound, if_found_then}
