@@ -10,13 +10,9 @@ use Rattle.reach.specs.Lists.{list_bytes}
 use Rattle.reach.specs.Answers.{Checked, accepted, turned_back, SearchAnswer, no_search, complete, cut_short, RunAnswer, no_run, ran}
 use Rattle.lists.specs.Printouts.{TextAnswer, no_text, of_length}
 use Rattle.results.specs.declared.CheckResult.{CheckResult}
-use Rattle.results.specs.declared.CheckResult.TheVariants as CheckResult
 use Rattle.results.specs.declared.SearchResult.{SearchResult}
-use Rattle.results.specs.declared.SearchResult.TheVariants as SearchResult
 use Rattle.results.specs.declared.RunResult.{RunResult}
-use Rattle.results.specs.declared.RunResult.TheVariants as RunResult
 use Rattle.results.specs.declared.TextResult.{TextResult}
-use Rattle.results.specs.declared.TextResult.TheVariants as TextResult
 
 -- the check
 abbrev pub check_result : Checked → CheckResult
