@@ -33,15 +33,6 @@ use Rattle.reach.proofs.Stages.{numbers_refused, bodies_refused, empty_refused, 
 use Rattle.rulefile.proofs.Passes as Passes
 use Rattle.rulefile.proofs.Tabled.{depth_tested}
 
--- a test that was not passed, and one that was
-not_true : (r : Bool) → not r ≡ true → r ≡ false
-not_true true e = sym e
-not_true false e = refl
-
-not_false : (r : Bool) → not r ≡ false → r ≡ true
-not_false true e = refl
-not_false false e = sym e
-
 -- what a loaded file answers is what the check answers
 pub answer_is : (s : List ℕ) (r : Loaded) (a : CheckResult) → LoadsAs s r a → a ≡ check_result (check s)
 answer_is s r CheckResult.Accepted loads = rw loads.1
@@ -76,13 +67,13 @@ module _ (s : List ℕ) (o : Outlined) where
 
   -- the second and the third pass
   module _ (out : Outlines s o) {r : Bool} (tested : r ≡ numbers_exist whole) where
-    pub unknown_number : not r ≡ true → check s ≡ turned_back UnknownNumber
-    unknown_number e = numbers_refused s out.size out.read (sym tested ∙ not_true r e)
+    pub unknown_number : r ≡ false → check s ≡ turned_back UnknownNumber
+    unknown_number e = numbers_refused s out.size out.read (sym tested ∙ e)
 
-    exist : not r ≡ false → numbers_exist whole ≡ true
-    exist e = sym tested ∙ not_false r e
+    exist : r ≡ true → numbers_exist whole ≡ true
+    exist e = sym tested ∙ e
 
-    module _ (passed : not r ≡ false) {b : Judged} (told : b ≡ bodies_of (passed_of (functions_at s (types_in o) (functions_in o)))) where
+    module _ (passed : r ≡ true) {b : Judged} (told : b ≡ bodies_of (passed_of (functions_at s (types_in o) (functions_in o)))) where
       pub body_refused : {why : Refusal} → b ≡ Judged.Refused why → check s ≡ turned_back why
       unfolding outline_at
       body_refused e =
@@ -105,33 +96,33 @@ module _ (s : List ℕ) (o : Outlined) where
       unfolding declarations_at outline_at
       none_empty_is = sym (tested ∙ rw are (ap no_empty_type (rw (types_count reads.outlined) at (least_front s (types_in o)))))
 
-      pub type_empty : not r ≡ true → check s ≡ turned_back EmptyType
+      pub type_empty : r ≡ false → check s ≡ turned_back EmptyType
       unfolding outline_at
       type_empty e =
           empty_refused s reads.outlined.size reads.passed.read reads.passed.exist reads.passed.bodies
-          (none_empty_is ∙ not_true r e)
+          (none_empty_is ∙ e)
 
-      module _ (filled : not r ≡ false) {d : Bool} (deep : d ≡ source_shallow s (functions_in o) (goal_of o.goal) least) where
+      module _ (filled : r ≡ true) {d : Bool} (deep : d ≡ source_shallow s (functions_in o) (goal_of o.goal) least) where
         deep_is : deep_enough (program_of whole reads.functions) ≡ d
         deep_is = sym (deep ∙ rw are (depth_tested reads.passed))
 
-        pub depth_small : not d ≡ true → check s ≡ turned_back DepthTooSmall
+        pub depth_small : d ≡ false → check s ≡ turned_back DepthTooSmall
         unfolding outline_at
         depth_small e =
             depth_refused s reads.outlined.size reads.passed.read reads.passed.exist reads.passed.bodies
-            (none_empty_is ∙ not_false r filled) (deep_is ∙ not_true d e)
+            (none_empty_is ∙ filled) (deep_is ∙ e)
 
         -- the test of the form of names
-        module _ (fits : not d ≡ false) {w : Bool} (formed : w ≡ names_spelled s (types_in o) (named_of o.named)) where
+        module _ (fits : d ≡ true) {w : Bool} (formed : w ≡ names_spelled s (types_in o) (named_of o.named)) where
           spelled_is : well_spelled whole ≡ w
           unfolding well_spelled declarations_at outline_at
           spelled_is = sym formed
 
-          pub misspelled : not w ≡ true → check s ≡ turned_back BadSpelling
+          pub misspelled : w ≡ false → check s ≡ turned_back BadSpelling
           unfolding outline_at
           misspelled e =
               spelling_refused s reads.outlined.size reads.passed.read reads.passed.exist reads.passed.bodies
-              (none_empty_is ∙ not_false r filled) (deep_is ∙ not_false d fits) (spelled_is ∙ not_true w e)
+              (none_empty_is ∙ filled) (deep_is ∙ fits) (spelled_is ∙ e)
 
           -- the file is accepted, and this is what is handed on
           abbrev loaded : Loaded
@@ -147,12 +138,12 @@ module _ (s : List ℕ) (o : Outlined) where
                 least = least;
               }
 
-          pub all_passed : not w ≡ false → LoadsAs s loaded CheckResult.Accepted
+          pub all_passed : w ≡ true → LoadsAs s loaded CheckResult.Accepted
           unfolding program_of declarations_at outline_at
           all_passed e = (
             program_of whole reads.functions,
             file_accepted s reads.outlined.size reads.passed.read reads.passed.exist reads.passed.bodies
-                (none_empty_is ∙ not_false r filled) (deep_is ∙ not_false d fits) (spelled_is ∙ not_false w e),
+                (none_empty_is ∙ filled) (deep_is ∙ fits) (spelled_is ∙ e),
             record {
               size = reads.outlined.size;
               types_limit = reads.outlined.types_limit;

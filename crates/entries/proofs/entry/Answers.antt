@@ -17,16 +17,16 @@ slice_bounds-result-end c = search rules
 
 pub returns-in_default : goal.returns-in_default
 returns-in_default c =
-    record { result_value = part_none _ _ _ c.room-end.ensures c.Span-of.ensures c.in_default.is; place = points_on _ (place_none _ _ _ c.room-end.ensures c.Span-of.ensures c.in_default.is) }
+    record { result_value = part_none _ _ _ c.room-end.ensures c.span_of.ensures c.in_default.is; place = points_on _ (place_none _ _ _ c.room-end.ensures c.span_of.ensures c.in_default.is) }
 
 pub overflow_add-stop : goal.overflow_add-stop
 overflow_add-stop c =
-    omega (arith, part_inside _ _ _ c.room-end.ensures c.Span-of.ensures c.in-At.is)
+    omega (arith, part_inside _ _ _ c.room-end.ensures c.span_of.ensures c.in-At.is)
 
 pub slice_bounds-result-end-2 : goal.slice_bounds-result-end-2
 slice_bounds-result-end-2 c =
-    part_inside _ _ _ c.room-end.ensures c.Span-of.ensures c.in-At.is
+    part_inside _ _ _ c.room-end.ensures c.span_of.ensures c.in-At.is
 
 pub returns : goal.returns
 returns c =
-    record { result_value = part_found _ _ _ c.room-end.ensures c.Span-of.ensures c.in-At.is; place = points_on _ (place_found _ _ _ c.room-end.ensures c.Span-of.ensures c.in-At.is) }
+    record { result_value = part_found _ _ _ c.room-end.ensures c.span_of.ensures c.in-At.is; place = points_on _ (place_found _ _ _ c.room-end.ensures c.span_of.ensures c.in-At.is) }

@@ -35,7 +35,7 @@ returns-in_default c =
 
 pub overflow_add-result : goal.overflow_add-result
 overflow_add-result c =
-    omega (arith, c.well-formed, (entry_inside c.args.file.now c.args.types.now c.args.functions.now c.args.least.of c.args.list.now c.args.goal.source c.args.goal.depths c.args.goal.steps c.args.at c.args.n c.requires).1)
+    omega (arith, c.well_formed, (entry_inside c.args.file.now c.args.types.now c.args.functions.now c.args.least.of c.args.list.now c.args.goal.source c.args.goal.depths c.args.goal.steps c.args.at c.args.n c.requires).1)
 
 pub returns : goal.returns
 returns c =

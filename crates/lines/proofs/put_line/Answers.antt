@@ -14,7 +14,7 @@ put_number-parts-requires c =
       arith,
       c.requires,
       kind_end _ c.put_kind-steps.ensures,
-      c.word_call.ensures,
+      c.word_at.ensures,
       c.type_inv.entry 2,
       c.type_inv.entry 3,
     )
@@ -29,7 +29,7 @@ put_parts-end-requires c = (
     c.requires,
     kind_end _ c.put_kind-steps.ensures,
     number_end _ c.put_number-parts.ensures,
-    c.word_call.ensures,
+    c.word_at.ensures,
     c.type_inv.entry 2,
     c.type_inv.entry 3,
   ),
@@ -44,7 +44,7 @@ put_byte-requires c =
       kind_end _ c.put_kind-steps.ensures,
       number_end _ c.put_number-parts.ensures,
       c.put_parts-end.ensures.1,
-      c.word_call.ensures,
+      c.word_at.ensures,
       c.type_inv.entry 2,
       c.type_inv.entry 3,
     )
@@ -52,8 +52,8 @@ put_byte-requires c =
 pub returns : goal.returns
 unfolding decoded word_at
 returns c = (
-  line_put (kind_at c.args.entry.now 0) (word_at c.args.entry.now 2) (drop 6 c.args.entry.now) (rw c.kind_call.ensures at c.put_kind-steps.ensures)
-      (rw c.word_call.ensures at c.put_number-parts.ensures) c.put_parts-end.ensures.0 c.put_byte.ensures,
+  line_put (kind_at c.args.entry.now 0) (word_at c.args.entry.now 2) (drop 6 c.args.entry.now) (rw c.kind_at.ensures at c.put_kind-steps.ensures)
+      (rw c.word_at.ensures at c.put_number-parts.ensures) c.put_parts-end.ensures.0 c.put_byte.ensures,
   omega (
     arith,
     c.requires,
@@ -61,7 +61,7 @@ returns c = (
     number_end _ c.put_number-parts.ensures,
     c.put_parts-end.ensures.1,
     c.put_byte.ensures.place,
-    c.word_call.ensures,
+    c.word_at.ensures,
     c.type_inv.entry 2,
     c.type_inv.entry 3,
   ),

@@ -78,10 +78,10 @@ pub loop-more-preserved : goal.loop-more-preserved
 loop-more-preserved c =
     let some = size_some c.args.list.now c.loop-more.at c.size_at.ensures c.in-Bytes.is in (
       stands_inside c.args.list.now c.loop-more.at c.size_at.ensures c.in-Bytes.is,
-      rw c.one_more-counts.ensures (few_more c.kind_call.result c.loop-more.counts c.loop-more.at _ c.loop-more.invariant.1 (omega (arith, some))),
+      rw c.one_more-counts.ensures (few_more c.kind_at.result c.loop-more.counts c.loop-more.at _ c.loop-more.invariant.1 (omega (arith, some))),
       omega (arith, c.put_line-to.ensures.1, part_most c.args.list.now c.loop-more.at c.size_at.ensures c.in-Bytes.is),
       line_next c.args.list.now c.loop-more.at c.size_at.ensures c.args.full c.loop-more.counts c.loop-more.more c.loop-more.invariant.3 _ c.loop-more-test.true c.in-Bytes.is
-          c.put_line-to.ensures.0 c.kind_call.ensures c.one_more-counts.ensures,
+          c.put_line-to.ensures.0 c.kind_at.ensures c.one_more-counts.ensures,
     )
 
 pub put_last-requires-2 : goal.put_last-requires-2

@@ -13,11 +13,11 @@ slice_bounds-span_of-end c =
 
 pub part_number-requires : goal.part_number-requires
 part_number-requires c =
-    (span_ends c.args.list.now c.args.number _ c.room-end.ensures (span_of c.Span-of.result) c.Span-of.ensures, omega (arith, end_small c.args.list.now _ c.room-end.ensures))
+    (span_ends c.args.list.now c.args.number _ c.room-end.ensures (span_of c.span_of.result) c.span_of.ensures, omega (arith, end_small c.args.list.now _ c.room-end.ensures))
 
 pub returns : goal.returns
 returns c =
     record {
-      number_is = c.part_number.ensures ∙ part_number_law c.args.list.now c.args.number _ c.room-end.ensures (span_of c.Span-of.result) c.Span-of.ensures;
-      part_is = subst (PartAt c.args.list.now c.args.number) (sym c.part_number.ensures) (part_at c.args.list.now c.args.number _ c.room-end.ensures (span_of c.Span-of.result) c.Span-of.ensures);
+      number_is = c.part_number.ensures ∙ part_number_law c.args.list.now c.args.number _ c.room-end.ensures (span_of c.span_of.result) c.span_of.ensures;
+      part_is = subst (PartAt c.args.list.now c.args.number) (sym c.part_number.ensures) (part_at c.args.list.now c.args.number _ c.room-end.ensures (span_of c.span_of.result) c.span_of.ensures);
     }

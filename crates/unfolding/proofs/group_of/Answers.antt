@@ -20,9 +20,9 @@ loop-group-smaller c = walk_less _ _ _ _ _ c.requires.0 c.loop-group.invariant.0
 
 pub loop-group-preserved : goal.loop-group-preserved
 loop-group-preserved c = (
-  walk_outward _ _ _ _ _ c.loop-group.invariant.0 c.Outside-of.ensures c.loop-group-test.true c.record_word-group.ensures.0,
+  walk_outward _ _ _ _ _ c.loop-group.invariant.0 c.outside_of.ensures c.loop-group-test.true c.record_word-group.ensures.0,
   omega (arith, walk_less _ _ _ _ _ c.requires.0 c.loop-group.invariant.0 c.record_word-group.ensures.0),
 )
 
 pub returns : goal.returns
-returns c = record { outward = c.loop-group.invariant.0; inside = omega (arith, c.Outside-of.ensures); no_later = c.loop-group.invariant.1 }
+returns c = record { outward = c.loop-group.invariant.0; inside = omega (arith, c.outside_of.ensures); no_later = c.loop-group.invariant.1 }

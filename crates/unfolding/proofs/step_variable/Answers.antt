@@ -15,10 +15,10 @@ overflow_add-result c = omega (arith, c.byte_or_zero-n.ensures, c.type_inv.file 
 pub returns-then-inner-eq0 : goal.returns-then-inner-eq0
 returns-then-inner-eq0 c = λ types functions filled.
     part_leads c.args.file.now types functions c.args.work.now c.args.base c.args.at c.args.env c.args.r c.requires.1 c.byte_or_zero-n.ensures
-    c.Group-of.ensures c.Outside-of.ensures c.record_word-first.ensures.0 c.record_word-inner.ensures.0 c.if-inner-eq0.true
+    c.group_of-group.ensures c.outside_of.ensures c.record_word-first.ensures.0 c.record_word-inner.ensures.0 c.if-inner-eq0.true
 
 pub returns : goal.returns
 returns c = λ types functions filled.
     operand_leads c.args.file.now types functions c.args.work.now c.args.base c.args.at c.args.env c.args.r c.requires.1 c.byte_or_zero-n.ensures
-    c.Group-of.ensures c.Outside-of.ensures c.record_word-first.ensures.0 c.record_word-inner.ensures.0 c.if-inner-eq0.false
+    c.group_of-group.ensures c.outside_of.ensures c.record_word-first.ensures.0 c.record_word-inner.ensures.0 c.if-inner-eq0.false
     (operand_there c.args.file.now types functions c.args.ends.now filled _ _ c.pass_operands-place.ensures)
