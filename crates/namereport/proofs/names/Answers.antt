@@ -18,7 +18,7 @@ slice_bounds-list_names-end c =
     omega (arith, list_inside (searched_so c.search.ensures) (complete_answer (searched_so c.search.ensures) c.in-Complete.n (sym c.in-Complete.is ∙ c.search.ensures.answer_is)))
 
 pub slice_bounds-list_names-end-in-Complete : goal.slice_bounds-list_names-end-in-Complete
-slice_bounds-list_names-end-in-Complete c = sym (length-take-le _ _ (slice-reshare-prefix-list-names c))
+slice_bounds-list_names-end-in-Complete c = sym (length-take-le _ _ (omega (arith, list_inside (searched_so c.search.ensures) (complete_answer (searched_so c.search.ensures) c.in-Complete.n (sym c.in-Complete.is ∙ c.search.ensures.answer_is)))))
 
 pub list_names-requires : goal.list_names-requires
 list_names-requires c =
@@ -34,7 +34,7 @@ slice_bounds-list_names-end-in-Full c =
     omega (arith, list_inside (searched_so c.search.ensures) (full_answer (searched_so c.search.ensures) c.in-Full.n (sym c.in-Full.is ∙ c.search.ensures.answer_is)))
 
 pub slice_bounds-list_names-end-in-Full-2 : goal.slice_bounds-list_names-end-in-Full-2
-slice_bounds-list_names-end-in-Full-2 c = sym (length-take-le _ _ (slice-reshare-prefix-list-names-2 c))
+slice_bounds-list_names-end-in-Full-2 c = sym (length-take-le _ _ (omega (arith, list_inside (searched_so c.search.ensures) (full_answer (searched_so c.search.ensures) c.in-Full.n (sym c.in-Full.is ∙ c.search.ensures.answer_is)))))
 
 pub list_names-requires-in-Full : goal.list_names-requires-in-Full
 list_names-requires-in-Full c =

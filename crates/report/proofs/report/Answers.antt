@@ -17,11 +17,11 @@ slice_bounds-list_text-end c =
     omega (arith, list_inside (searched_so c.search.ensures) (complete_answer (searched_so c.search.ensures) c.in-Complete.n (sym c.in-Complete.is ∙ c.search.ensures.answer_is)))
 
 pub slice_bounds-list_text-end-in-Complete : goal.slice_bounds-list_text-end-in-Complete
-slice_bounds-list_text-end-in-Complete c = sym (length-take-le _ _ (slice-reshare-prefix-list-text c))
+slice_bounds-list_text-end-in-Complete c = sym (length-take-le _ _ (omega (arith, list_inside (searched_so c.search.ensures) (complete_answer (searched_so c.search.ensures) c.in-Complete.n (sym c.in-Complete.is ∙ c.search.ensures.answer_is)))))
 
 pub returns-in-Complete : goal.returns-in-Complete
 returns-in-Complete c =
-    list_reported (searched_so c.search.ensures) (complete_answer (searched_so c.search.ensures) c.in-Complete.n (sym c.in-Complete.is ∙ c.search.ensures.answer_is)) (λ i. omega (arith, c.type_inv.list i))
+    list_reported (searched_so c.search.ensures) (complete_answer (searched_so c.search.ensures) c.in-Complete.n (sym c.in-Complete.is ∙ c.search.ensures.answer_is)) (λ i. omega (arith, c.slice_known-5-1.given i))
     c.search.auto.list c.list_text.ensures
 
 pub slice_bounds-list_text-end-in-Full : goal.slice_bounds-list_text-end-in-Full
@@ -29,9 +29,9 @@ slice_bounds-list_text-end-in-Full c =
     omega (arith, list_inside (searched_so c.search.ensures) (full_answer (searched_so c.search.ensures) c.in-Full.n (sym c.in-Full.is ∙ c.search.ensures.answer_is)))
 
 pub slice_bounds-list_text-end-in-Full-2 : goal.slice_bounds-list_text-end-in-Full-2
-slice_bounds-list_text-end-in-Full-2 c = sym (length-take-le _ _ (slice-reshare-prefix-list-text-2 c))
+slice_bounds-list_text-end-in-Full-2 c = sym (length-take-le _ _ (omega (arith, list_inside (searched_so c.search.ensures) (full_answer (searched_so c.search.ensures) c.in-Full.n (sym c.in-Full.is ∙ c.search.ensures.answer_is)))))
 
 pub returns-in-Full : goal.returns-in-Full
 returns-in-Full c =
-    list_reported (searched_so c.search.ensures) (full_answer (searched_so c.search.ensures) c.in-Full.n (sym c.in-Full.is ∙ c.search.ensures.answer_is)) (λ i. omega (arith, c.type_inv.list i))
+    list_reported (searched_so c.search.ensures) (full_answer (searched_so c.search.ensures) c.in-Full.n (sym c.in-Full.is ∙ c.search.ensures.answer_is)) (λ i. omega (arith, c.slice_known-5-1.given i))
     c.search.auto.list c.list_text-in-Full.ensures
