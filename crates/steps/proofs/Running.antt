@@ -2,27 +2,14 @@
 -- Rests on specs/Running.
 use Prim.Native.Nat.{ℕ, suc, ◌+◌, ◌-◌, ◌≤◌}
 use mathlib.Core.Path.{◌≡◌, refl, subst}
-use mathlib.Core.List.{List, [], ◌∷◌}
+use mathlib.Core.List.{List}
 use native.Mathlib.Omega.{arith}
-use denote.Enum.Declared
-use types.Run.{OneOf, miss}
-use Rattle.registers.specs.contracts.Next as Next'
-use Rattle.steps.specs.contracts.Halt as Halt'
 use Rattle.registers.specs.declared.Registers.{Registers}
 use Rattle.registers.specs.declared.Next.{Next}
-use Rattle.registers.specs.declared.Next.TheVariants as Next
 use Rattle.steps.specs.declared.Halt.{Halt}
-use Rattle.steps.specs.declared.Halt.TheVariants as Halt
 use Rattle.steps.specs.declared.Ran.{Ran}
 use Rattle.registers.specs.Stepping.{Stepped, Result, NotStops, Looked, looked, at_result}
 use Rattle.steps.specs.Running.{StepsTo, no_step, one_more, Onward, ComesBy, ComesToHalt, RunsBy, RunsOn, RunsToResult}
-
--- by the number of the variant: what is not said
-pub not_stops : (h : Halt) → OneOf (0 ∷ 1 ∷ 3 ∷ 4 ∷ []) (Declared.tag_of Halt'.the_type h) → h ≡ Halt.Stops → ⊥
-not_stops h keys is = miss (0 ∷ 1 ∷ 3 ∷ 4 ∷ []) 2 tt (subst (λ (x : Halt). OneOf (0 ∷ 1 ∷ 3 ∷ 4 ∷ []) (Declared.tag_of Halt'.the_type x)) is keys)
-
-pub not_goes : (n : Next) (to : Registers) → OneOf (0 ∷ 1 ∷ 2 ∷ 4 ∷ []) (Declared.tag_of Next'.the_type n) → n ≡ Next.Goes to → ⊥
-not_goes n to keys is = miss (0 ∷ 1 ∷ 2 ∷ 4 ∷ []) 3 tt (subst (λ (x : Next). OneOf (0 ∷ 1 ∷ 2 ∷ 4 ∷ []) (Declared.tag_of Next'.the_type x)) is keys)
 
 module _ (file types functions : List ℕ) (label : ℕ) where
   -- what is said of the last look is said of what it found

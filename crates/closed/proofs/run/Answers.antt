@@ -90,8 +90,8 @@ returns c =
           run_ran c.args.file.now c.load-loaded.result c.load-loaded.ensures c.in_default.is c.args.input.now c.input_depth.ensures c.in-Deep.is c.work_words-words.ensures
           c.evaluate-outcome.ensures _ (omega arith);
       words_are =
-          behind_kept c.args.file.now c.load-loaded.result c.load-loaded.ensures c.in_default.is c.evaluate-outcome.new.types.1.1.1.1.0 c.args.work.now c.work_words-words.ensures
-          (c.evaluate-outcome.auto.types.1.1.1.1.0 ∙ taken_length c.work_words-words.result c.args.work.now (omega arith));
+          behind_kept c.args.file.now c.load-loaded.result c.load-loaded.ensures c.in_default.is c.evaluate-outcome.new.work c.args.work.now c.work_words-words.ensures
+          (c.evaluate-outcome.auto.work ∙ taken_length c.work_words-words.result c.args.work.now (omega arith));
       cells_are =
           run_leaves c.args.file.now c.load-loaded.result c.load-loaded.ensures c.in_default.is c.args.input.now c.input_depth.ensures c.in-Deep.is c.work_words-words.ensures
           c.evaluate-outcome.ensures _;

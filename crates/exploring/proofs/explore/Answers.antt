@@ -30,7 +30,7 @@ loop-least-smaller c =
 
 pub loop-least-preserved : goal.loop-least-preserved
 loop-least-preserved c =
-    (move_length (c.loop-least.invariant.2 c.args.from c.first_walk-walk.ensures) c.make_moves-moved.ensures c.loop-least.invariant.0 c.requires.some_begins, c.write_listing-written.auto.types.1.1.1.1.1.1.0 ∙ c.loop-least.invariant.1, λ r is. came_on (c.loop-least.invariant.2 r is) c.make_moves-moved.ensures c.loop-least.invariant.0 _ _ c.write_listing-written.ensures c.in-Behind.is c.verdict_after-verdict.ensures)
+    (move_length (c.loop-least.invariant.2 c.args.from c.first_walk-walk.ensures) c.make_moves-moved.ensures c.loop-least.invariant.0 c.requires.some_begins, c.write_listing-written.auto.list ∙ c.loop-least.invariant.1, λ r is. came_on (c.loop-least.invariant.2 r is) c.make_moves-moved.ensures c.loop-least.invariant.0 _ _ c.write_listing-written.ensures c.in-Behind.is c.verdict_after-verdict.ensures)
 
 pub returns : goal.returns
 returns c =

@@ -26,7 +26,7 @@ list_names-requires c =
 
 pub returns-in-Complete : goal.returns-in-Complete
 returns-in-Complete c =
-    names_reported (searched_so c.search.ensures) (complete_answer (searched_so c.search.ensures) c.in-Complete.n (sym c.in-Complete.is ∙ c.search.ensures.answer_is)) c.search.auto.work.1.0
+    names_reported (searched_so c.search.ensures) (complete_answer (searched_so c.search.ensures) c.in-Complete.n (sym c.in-Complete.is ∙ c.search.ensures.answer_is)) c.search.auto.list
     c.list_names.ensures
 
 pub slice_bounds-list_names-end-in-Full : goal.slice_bounds-list_names-end-in-Full
@@ -42,5 +42,5 @@ list_names-requires-in-Full c =
 
 pub returns-in-Full : goal.returns-in-Full
 returns-in-Full c =
-    names_reported (searched_so c.search.ensures) (full_answer (searched_so c.search.ensures) c.in-Full.n (sym c.in-Full.is ∙ c.search.ensures.answer_is)) c.search.auto.work.1.0
+    names_reported (searched_so c.search.ensures) (full_answer (searched_so c.search.ensures) c.in-Full.n (sym c.in-Full.is ∙ c.search.ensures.answer_is)) c.search.auto.list
     c.list_names-in-Full.ensures

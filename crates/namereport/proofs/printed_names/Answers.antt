@@ -10,4 +10,4 @@ slice_bounds-names-end c = sym (length-take-le _ _ c.counted-n.ensures.there)
 
 pub returns : goal.returns
 returns c =
-    page_printed c.counted-n.ensures c.names.ensures.writes c.names.ensures.short c.requires c.names.auto.work.1.1.0
+    page_printed c.counted-n.ensures c.names.ensures.writes c.names.ensures.short c.requires c.names.auto.text

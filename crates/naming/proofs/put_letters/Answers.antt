@@ -29,7 +29,7 @@ loop-text-preserved c =
     let here : letter_here c.args.list.now c.loop-text.place ≡ true = sym c.letter_here.ensures ∙ c.loop-text-test.true in
     let spelt = spelt_next c.args.list.now c.loop-text.place here c.loop-text.invariant.1 in
     let written = rw c.letter_at.ensures at c.put_number-end.ensures in
-    (letter_room c.args.list.now c.loop-text.place here, spelt.1, letters_next c.args.list.now c.loop-text.place c.loop-text.invariant.2 written)
+    (letter_room c.args.list.now c.loop-text.place here, spelt.1, letters_next c.args.list.now c.loop-text.place here c.loop-text.invariant.2 written)
 
 pub returns : goal.returns
 returns c = letters_done c.args.list.now c.loop-text.place (sym c.letter_here.ensures ∙ c.loop-text-test.false) c.loop-text.invariant.2

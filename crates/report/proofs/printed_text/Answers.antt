@@ -10,4 +10,4 @@ slice_bounds-report-end c = sym (length-take-le _ _ c.counted-n.ensures.there)
 
 pub returns : goal.returns
 returns c =
-    page_printed c.counted-n.ensures c.report.ensures.writes c.report.ensures.short c.requires c.report.auto.work.1.1.0
+    page_printed c.counted-n.ensures c.report.ensures.writes c.report.ensures.short c.requires c.report.auto.text

@@ -22,7 +22,7 @@ slice_bounds-list_text-end-in-Complete c = sym (length-take-le _ _ (slice-reshar
 pub returns-in-Complete : goal.returns-in-Complete
 returns-in-Complete c =
     list_reported (searched_so c.search.ensures) (complete_answer (searched_so c.search.ensures) c.in-Complete.n (sym c.in-Complete.is ∙ c.search.ensures.answer_is)) (λ i. omega (arith, c.type_inv.list i))
-    c.search.auto.work.1.0 c.list_text.ensures
+    c.search.auto.list c.list_text.ensures
 
 pub slice_bounds-list_text-end-in-Full : goal.slice_bounds-list_text-end-in-Full
 slice_bounds-list_text-end-in-Full c =
@@ -34,4 +34,4 @@ slice_bounds-list_text-end-in-Full-2 c = sym (length-take-le _ _ (slice-reshare-
 pub returns-in-Full : goal.returns-in-Full
 returns-in-Full c =
     list_reported (searched_so c.search.ensures) (full_answer (searched_so c.search.ensures) c.in-Full.n (sym c.in-Full.is ∙ c.search.ensures.answer_is)) (λ i. omega (arith, c.type_inv.list i))
-    c.search.auto.work.1.0 c.list_text-in-Full.ensures
+    c.search.auto.list c.list_text-in-Full.ensures

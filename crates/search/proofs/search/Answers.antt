@@ -55,6 +55,6 @@ search_checked-requires c =
 pub returns : goal.returns
 returns c =
     search_done c.args.file.now c.load-loaded.result c.load-loaded.ensures c.in_default.is c.work_words-words.ensures
-    c.args.work.now c.args.list.now c.search_checked.new.types.1.1.1.1.0 c.search_checked.new.types.1.1.1.1.1.0 (omega arith) c.room-counted.ensures
-    (c.search_checked.auto.types.1.1.1.1.0 ∙ taken_length c.work_words-words.result c.args.work.now (omega arith))
+    c.args.work.now c.args.list.now c.search_checked.new.work c.search_checked.new.list (omega arith) c.room-counted.ensures
+    (c.search_checked.auto.work ∙ taken_length c.work_words-words.result c.args.work.now (omega arith))
     c.search_checked.result c.search_checked.ensures

@@ -27,5 +27,5 @@ pub returns : goal.returns
 returns c =
     λ p given.
     explored given c.records_at-base.ensures c.choices_at-stack.ensures c.head_of-head.result
-    c.head_of-head.ensures.result_value c.explore.new.types.1.1.1.1.1.0 c.args.list.now c.explore.new.types.1.1.1.1.1.1.1.1.1.1.1.0
+    c.head_of-head.ensures.result_value c.explore.new.work c.args.list.now c.explore.new.list
     c.explore.result c.open_input-from.ensures.value c.open_input-from.ensures.words c.explore.ensures

@@ -1,12 +1,11 @@
 -- `steps::run_on` meets its contract. The invariant: so many steps as were made led to here. The measure is what is left of them. Rests on Running.
-use Prim.Native.Nat.{suc, ◌+◌, ◌-◌, ◌≤◌}
+use Prim.Native.Nat.{suc, ◌+◌}
 use mathlib.Core.Path.{◌≡◌, refl}
 use mathlib.Core.Logic.{⊎_elim}
-use lib.ListN.{length}
 use Rattle.registers.specs.declared.Next.TheVariants as Next
 use Rattle.steps.specs.declared.Halt.TheVariants as Halt
-use Rattle.steps.specs.Running.{StepsTo, no_step, one_more}
-use Rattle.steps.proofs.Running.{not_stops, not_goes, stepped_so, onward_from, ran_behind, at_a_result, ran}
+use Rattle.steps.specs.Running.{no_step, one_more}
+use Rattle.steps.proofs.Running.{stepped_so, onward_from, ran_behind, at_a_result, ran}
 use native.Mathlib.Omega.{arith}
 use mir.Facts.{Fits-le}
 use Rattle.std.proofs.Common.{rules}
@@ -22,7 +21,7 @@ pub overflow_add-done : goal.overflow_add-done
 overflow_add-done c = Fits-le (omega (arith, c.loop-work.invariant.1, c.run_to_result-ran.ensures.no_more)) c.ranges.left
 
 pub returns-in_default : goal.returns-in_default
-returns-in_default c = rw c.halted.ensures (ran_behind c.args.file.now c.args.types.now c.args.functions.now c.args.label c.run_to_result-ran.result c.loop-work.invariant.2 c.loop-work.invariant.1 c.run_to_result-ran.ensures (not_stops c.run_to_result-ran.result.halt c.in_default.not-Stops))
+returns-in_default c = rw c.halted.ensures (ran_behind c.args.file.now c.args.types.now c.args.functions.now c.args.label c.run_to_result-ran.result c.loop-work.invariant.2 c.loop-work.invariant.1 c.run_to_result-ran.ensures c.in_default.not-Stops)
 
 pub step_result-next-requires : goal.step_result-next-requires
 step_result-next-requires c = let (led, most, result) = at_a_result c.args.file.now c.args.types.now c.args.functions.now c.args.label c.run_to_result-ran.result c.loop-work.invariant.2 c.loop-work.invariant.1 c.run_to_result-ran.ensures c.in-Stops.is in
@@ -30,7 +29,7 @@ step_result-next-requires c = let (led, most, result) = at_a_result c.args.file.
 
 pub returns-in_default-next : goal.returns-in_default-next
 returns-in_default-next c = let (led, most, result) = at_a_result c.args.file.now c.args.types.now c.args.functions.now c.args.label c.run_to_result-ran.result c.loop-work.invariant.2 c.loop-work.invariant.1 c.run_to_result-ran.ensures c.in-Stops.is in
-    rw c.halted-in_default-next.ensures (ran c.args.file.now c.args.types.now c.args.functions.now c.args.label Halt.Stops led most (stepped_so c.args.file.now c.args.types.now c.args.functions.now c.args.label Next.Stops (c.step_result-next.ensures.stepped_by c.args.functions.now c.args.label c.requires.ends) (⊎_elim (λ is. is) (λ (to, is). absurd (not_goes c.step_result-next.result to c.in_default-next.not-Goes is)) c.step_result-next.ensures.turns)))
+    rw c.halted-in_default-next.ensures (ran c.args.file.now c.args.types.now c.args.functions.now c.args.label Halt.Stops led most (stepped_so c.args.file.now c.args.types.now c.args.functions.now c.args.label Next.Stops (c.step_result-next.ensures.stepped_by c.args.functions.now c.args.label c.requires.ends) (⊎_elim (λ is. is) (λ (to, is). absurd (c.in_default-next.not-Goes to is)) c.step_result-next.ensures.turns)))
 
 pub returns-then-done-left : goal.returns-then-done-left
 returns-then-done-left c = let (led, most, result) = at_a_result c.args.file.now c.args.types.now c.args.functions.now c.args.label c.run_to_result-ran.result c.loop-work.invariant.2 c.loop-work.invariant.1 c.run_to_result-ran.ensures c.in-Stops.is in

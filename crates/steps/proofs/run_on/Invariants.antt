@@ -1,14 +1,8 @@
 -- `steps::run_on` meets its contract. The invariant: so many steps as were made led to here. The measure is what is left of them. Rests on Running.
-use Prim.Native.Nat.{suc, ◌+◌, ◌-◌, ◌≤◌}
-use mathlib.Core.Path.{◌≡◌, refl}
-use mathlib.Core.Logic.{⊎_elim}
+use Prim.Native.Nat.{◌-◌, ◌≤◌}
+use mathlib.Core.Path.{◌≡◌}
 use lib.ListN.{length}
-use Rattle.registers.specs.declared.Next.TheVariants as Next
-use Rattle.steps.specs.declared.Halt.TheVariants as Halt
-use Rattle.steps.specs.Running.{StepsTo, no_step, one_more}
-use Rattle.steps.proofs.Running.{not_stops, not_goes, stepped_so, onward_from, ran_behind, at_a_result, ran}
-use native.Mathlib.Omega.{arith}
-use mir.Facts.{Fits-le}
+use Rattle.steps.specs.Running.{StepsTo}
 use Rattle.steps.proofs.run_on.Given as goal
 
 abbrev pub invariant-loop-work : goal.invariant-loop-work

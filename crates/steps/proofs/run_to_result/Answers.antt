@@ -1,10 +1,9 @@
 -- `steps::run_to_result` meets its contract. The invariant: so many steps as were made led to here. The measure is what is left of them. Rests on Running.
-use Prim.Native.Nat.{suc, ◌+◌, ◌-◌, ◌≤◌}
+use Prim.Native.Nat.{suc, ◌+◌}
 use mathlib.Core.Path.{◌≡◌, refl}
-use lib.ListN.{length}
 use Rattle.registers.specs.declared.Next.TheVariants as Next
 use Rattle.steps.specs.declared.Halt.TheVariants as Halt
-use Rattle.steps.specs.Running.{StepsTo, no_step, one_more}
+use Rattle.steps.specs.Running.{no_step, one_more}
 use Rattle.steps.proofs.Running.{looked_so, looked_stepped, ran}
 use native.Mathlib.Omega.{arith}
 use Rattle.std.proofs.Common.{rules}

@@ -1,12 +1,8 @@
 -- `steps::run_to_result` meets its contract. The invariant: so many steps as were made led to here. The measure is what is left of them. Rests on Running.
-use Prim.Native.Nat.{suc, ◌+◌, ◌-◌, ◌≤◌}
-use mathlib.Core.Path.{◌≡◌, refl}
+use Prim.Native.Nat.{◌-◌, ◌≤◌}
+use mathlib.Core.Path.{◌≡◌}
 use lib.ListN.{length}
-use Rattle.registers.specs.declared.Next.TheVariants as Next
-use Rattle.steps.specs.declared.Halt.TheVariants as Halt
-use Rattle.steps.specs.Running.{StepsTo, no_step, one_more}
-use Rattle.steps.proofs.Running.{looked_so, looked_stepped, ran}
-use native.Mathlib.Omega.{arith}
+use Rattle.steps.specs.Running.{StepsTo}
 use Rattle.steps.proofs.run_to_result.Given as goal
 
 abbrev pub invariant-loop-x : goal.invariant-loop-x

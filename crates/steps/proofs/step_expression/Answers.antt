@@ -1,7 +1,6 @@
 -- `steps::step_expression` meets its contract: the code that stands in the file is that of the expression, so each arm's step is the one that is due.
-use Prim.Native.Nat.{ℕ}
-use mathlib.Core.Path.{◌≡◌, refl, ◌∙◌, sym}
-use Rattle.registers.specs.Stepping.{Ready, looked}
+use mathlib.Core.Path.{◌∙◌, sym}
+use Rattle.registers.specs.Stepping.{looked}
 use Rattle.registers.proofs.Kept.{code_known, ready_at, stepped}
 use native.Mathlib.Omega.{arith}
 use Rattle.steps.proofs.step_expression.Goals as goal
