@@ -45,7 +45,8 @@ pub push_choice-requires : goal.push_choice-requires
 push_choice-requires c = let last = comes_so _ _ _ _ c.run_on-ran.ensures (Halt.Waits _) c.in-Waits.is in
     let (least, p, e, s, cs, given, sought, under) = c.requires.some_under_way in
     let (s₁, led) = led_by given under sought c.run_on-ran.ensures.led (omega (arith, c.run_on-ran.ensures.no_more, under.in_time)) in
-    push_bounds given led sought last (omega (arith, c.if-limit-total.false)) refl
+    let bounds = push_bounds given led sought last (omega (arith, c.if-limit-total.false)) refl in
+    record { h_in_bounds = bounds.0; frame_bound = bounds.1 }
 
 pub overflow_add-height : goal.overflow_add-height
 overflow_add-height c = let (least, p, e, s, cs, given, sought, under) = c.requires.some_under_way in

@@ -31,7 +31,7 @@ returns-in_default c =
     absurd (none-ne-some _ (sym (ap size_of c.in_default.is) ∙ c.size_at.ensures ∙ here.size))
 
 pub shape_of-text-in_default : goal.shape_of-text-in_default
-shape_of-text-in_default c = puts_length (returns c)
+shape_of-text-in_default c = puts_length (returns-in_default c)
 
 pub overflow_add-at : goal.overflow_add-at
 overflow_add-at c =
@@ -68,7 +68,7 @@ returns c =
     going_done _ _ _ c.requires.legible _ _ _ c.loop-at.invariant.0 c.loop-at-test.false
 
 pub shape_of-text : goal.shape_of-text
-shape_of-text c = puts_length (returns_2 c)
+shape_of-text c = puts_length (returns c)
 
 pub size_at-requires : goal.size_at-requires
 size_at-requires c = c.loop-at.invariant.1

@@ -35,7 +35,7 @@ returns-in_default c =
     absurd (clash (cc (is, c.in_default.is)))
 
 pub shape_of-text-in_default : goal.shape_of-text-in_default
-shape_of-text-in_default c = puts_length (returns c)
+shape_of-text-in_default c = puts_length (returns-in_default c)
 
 pub loop-more-preserved : goal.loop-more-preserved
 unfolding bytes_at
@@ -52,7 +52,7 @@ returns c =
     onward_done _ _ _ c.requires.0.legible _ (rw none_left at c.loop-more.invariant.0)
 
 pub shape_of-text : goal.shape_of-text
-shape_of-text c = puts_length (returns_2 c)
+shape_of-text c = puts_length (returns c)
 
 pub overflow_add-field : goal.overflow_add-field
 overflow_add-field c = omega (arith, c.loop-more.invariant.1)

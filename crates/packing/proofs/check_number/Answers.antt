@@ -7,4 +7,4 @@ pub returns-in-Accepted : goal.returns-in-Accepted
 returns-in-Accepted c a is = accepted_number a (sym c.in-Accepted.is ∙ is)
 
 pub returns-in-Refused : goal.returns-in-Refused
-returns-in-Refused c a is = c.number.ensures ∙ refused_number _ a (sym c.result.given.1 ∙ is)
+returns-in-Refused c a is = c.number.ensures ∙ refused_number _ a (sym c.in-Refused.is ∙ is)

@@ -6,22 +6,22 @@ use Rattle.packing.proofs.Numbered.{no_search_number, complete_number, full_numb
 use Rattle.packing.proofs.search_number.Goals as goal
 
 pub overflow_mul-result-in-Complete : goal.overflow_mul-result-in-Complete
-overflow_mul-result-in-Complete c = omega (arith, c.requires, ap list_length_in c.result2.given.1)
+overflow_mul-result-in-Complete c = omega (arith, c.requires, ap list_length_in c.in-Complete.is)
 
 pub overflow_add-result : goal.overflow_add-result
-overflow_add-result c = omega (arith, c.requires, ap list_length_in c.result2.given.1, c.verdict_number.ensures.small)
+overflow_add-result c = omega (arith, c.requires, ap list_length_in c.in-Complete.is, c.verdict_number.ensures.small)
 
 pub overflow_mul-result-in-Full : goal.overflow_mul-result-in-Full
-overflow_mul-result-in-Full c = omega (arith, c.requires, ap list_length_in c.result3.given.1)
+overflow_mul-result-in-Full c = omega (arith, c.requires, ap list_length_in c.in-Full.is)
 
 pub overflow_add-result-in-Full : goal.overflow_add-result-in-Full
-overflow_add-result-in-Full c = omega (arith, c.requires, ap list_length_in c.result3.given.1, c.number-in-Full.ensures)
+overflow_add-result-in-Full c = omega (arith, c.requires, ap list_length_in c.in-Full.is, c.number-in-Full.ensures)
 
 pub returns-in-Refused : goal.returns-in-Refused
-returns-in-Refused c a is = c.number.ensures ∙ no_search_number _ a (sym c.result.given.1 ∙ is)
+returns-in-Refused c a is = c.number.ensures ∙ no_search_number _ a (sym c.in-Refused.is ∙ is)
 
 pub returns-in-Complete : goal.returns-in-Complete
-returns-in-Complete c a is = rw c.verdict_number.ensures.value (complete_number _ _ a (sym c.result2.given.1 ∙ is))
+returns-in-Complete c a is = rw c.verdict_number.ensures.value (complete_number _ _ a (sym c.in-Complete.is ∙ is))
 
 pub returns-in-Full : goal.returns-in-Full
-returns-in-Full c a is = rw c.number-in-Full.ensures (full_number _ a (sym c.result3.given.1 ∙ is))
+returns-in-Full c a is = rw c.number-in-Full.ensures (full_number _ a (sym c.in-Full.is ∙ is))
