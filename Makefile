@@ -1,6 +1,6 @@
 # Installs the library for C, its header, the command and the tool that it calls. `make` alone says what there is.
-# Rests on rt, which proves and writes the library, and cargo, which builds the command; neither is called where what it makes is newer
-# than all that it is made of.
+# Rests on rt, which proves and writes the library (tools/prove), and cargo, which builds the command; neither is called where what it makes is
+# newer than all that it is made of.
 
 PREFIX = /usr/local
 DESTDIR =
@@ -9,9 +9,9 @@ version := $(shell sed -n 's/^.define REMBURAI_VERSION "\(.*\)"$$/\1/p' include/
 prefix := $(if $(PREFIX),$(shell realpath -ms -- "$(PREFIX)"))
 to = $(DESTDIR)$(prefix)
 
-library = target/staticlib/libremburai.a
+library = crates/remburai/out/libremburai.a
 command = rust/target/release/remburai
-crates := $(shell find crates -type f -path '*/src/*' -o -type f -path '*/specs/*' -o -type f -path '*/proofs/*')
+crates := $(shell find $(wildcard crates/*/src crates/*/specs crates/*/proofs) -type f)
 sources := $(shell find rust/src -type f) rust/build.rs rust/Cargo.toml rust/Cargo.lock
 rulelib := $(wildcard tools/rulelib/*.py)
 
@@ -25,11 +25,8 @@ help:
 
 build: $(library) $(command)
 
-# What the library rests on first, as many crates at a time as there are processors: for a static library rt proves one after the other.
 $(library): $(crates) crates.txt
-	rt check $$(sed -n 's/^remburai://p' crates.txt)
-	rt staticlib remburai
-	touch $@
+	tools/prove remburai
 
 $(command): $(library) $(sources)
 	cargo build --release --manifest-path rust/Cargo.toml --bin remburai

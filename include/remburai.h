@@ -1,7 +1,7 @@
 /* Remburai, the case finder, for C: the check of a rule file, its search, a closed run, where an entry of a list stands, the printed text
  * of a list, with its length beforehand, and the names that the entries of a list stand for.
  *
- * Link with libremburai.a, which `rt staticlib remburai` proves and writes to target/staticlib, and `make install` puts beside this file
+ * Link with libremburai.a, which `tools/prove remburai` proves and writes to crates/remburai/out, and `make install` puts beside this file
  * (x86-64 Linux). docs/FORMAT.md has the bytes of rule files, inputs and lists, and the texts.
  *
  * Each call is proved to give the number that its definition gives, for every content and every length of the slices, to stop, and to

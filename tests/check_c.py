@@ -385,7 +385,7 @@ CHECKS = (check_header, check_version, check_needs, check_list, check_answers, c
 
 def main():
     if len(sys.argv) != 2 or not os.path.isfile(sys.argv[1]):
-        sys.exit("usage: check_c.py LIBRARY, the file libremburai.a that 'rt staticlib remburai' proves and writes")
+        sys.exit("usage: check_c.py LIBRARY, the file libremburai.a that 'tools/prove remburai' proves and writes")
     wrong = 0
     with TemporaryDirectory() as folder:
         programs = Programs(folder, os.path.abspath(sys.argv[1]))

@@ -1,5 +1,6 @@
-"""Tests tools/edit: every edit of the repository fits its crate; one that does not fit is told, with the reason; and what a check says of an
-edit is told apart. No crate is checked here. The exit status is 1 where anything differs."""
+"""Tests tools/edit: every edit of the repository fits its crate; one that does not fit is told, with the reason; what a check says of an
+edit is told apart, and so is what rt has printed of all edits; and the copy that an edit is tried on has what it should. No crate is checked here.
+The exit status is 1 where anything differs."""
 
 import importlib.util
 import os
@@ -44,10 +45,27 @@ SAID = [  # what a check says, its exit status; how many errors are shown, the e
     (FALSE, 1, ["crates/c/proofs/one/Proof.antt:2:5: error: `returns`: 1 is not 2\n  `A` is not in scope here"], 0),
     (MADE, 1, ["note: crates/c/src/lib.rt:7:1: it is not proved"], 0),
     (UNFIT, 1, ["crates/c/proofs/one/Proof.antt:2:5: error: `returns`: record `After` has no field `two`"], 1),
+    (UNFIT.split("logic")[0] + MADE, 1, ["crates/c/proofs/one/Proof.antt:2:5: error: `returns`: record `After` has no field `two`",
+                                         "note: crates/c/src/lib.rt:7:1: it is not proved"], 0),
     ("logic=proved functions=1\n", 0, [], 1),
     ("/room/crates/c/src/lib.rt:1:1: error[unexpected-token]: a\n", 1, ["crates/c/src/lib.rt:1:1: error[unexpected-token]: a"], 2),
     ("rt: no\n", 2, [], 2),
 ]
+
+TOLD = "rt: must-fail c/{}.edit: {}\n"
+NO_FIELD = "./proofs/one/Answers.antt:2:5: error: `returns`: record `After` has no field `two`"
+PRINTED = [  # what rt prints of an edit, and the exit status of the tool
+    ("refused, as it must be: note: src/lib.rt:7:1: it is not proved that what the function ensures holds when it returns (`returns`)", 0),
+    ("refused, as it must be", 0),
+    ("refused, as it must be (only because a proof file names what the edit took away, so this says little of the contract): " + NO_FIELD, 1),
+    ("refused, as it must be: " + NO_FIELD, 1),
+    ("refused, as it must be (only by a limit of the prover, which gave no verdict, so this says less of the contract): src/lib.rt:7:1: error: a", 1),
+    ("NOT REFUSED: the crate is still proved with this edit (one that means the same as before cannot be refused: remove it)", 1),
+    ("BAD EDIT: an 'old:' text is in src/lib.rt 0 times, and not once", 1),
+    ("NOT TRIED: its check was killed, most likely for memory, so nothing is known of it: run this again", 1),
+]
+FIRST = TOLD.format("first", PRINTED[0][0])
+CRATES = "# a comment: of all\nlow:\nother: low\nhigh staticlib: middle  # two below\nmiddle: low std\n"
 
 
 def write(path, text):
@@ -76,30 +94,57 @@ def check_sayings():
         same(f"the exit status for {log!r}", edit.judged("c/try", log, status, found)[1], wanted)
 
 
-def check_kept(folder):
-    """The logs that were kept of two edits: both false, one that names what is not there, one that was not refused, and one that has no log."""
-    edit.ROOT = folder
+def logs(path):
+    """The exit status for what is printed in a file, or what is wrong with that."""
+    try:
+        with redirect_stdout(StringIO()):
+            return edit.check_logs(path)
+    except edit.Fault as fault:
+        return str(fault)
+
+
+def check_printed(folder):
+    """What was printed of two edits, the first of which is false: in a file, and by a stand-in for rt, which says where it is asked."""
+    edit.ROOT, path = folder, os.path.join(folder, "printed")
     for name in "first", "second":
         write(os.path.join(folder, "crates", "c", "must-fail", name + ".edit"), "")
-    for log, wanted in [(FALSE, 0), (UNFIT, 1), ("logic=proved functions=1\n", 1), (None, "there is no log of c/second: 'rt must-fail' writes it")]:
-        room = os.path.join(folder, "target", "must-fail", "c")
-        write(os.path.join(room, "first", ".log"), FALSE)
-        if log is None:
-            os.remove(os.path.join(room, "second", ".log"))
-        else:
-            write(os.path.join(room, "second", ".log"), log)
-        try:
-            with redirect_stdout(StringIO()):
-                got = edit.check_logs()
-        except edit.Fault as fault:
-            got = str(fault)
-        same(f"what is said of the logs with {log!r}", got, wanted)
+    nothing = "nothing is printed of c/second: 'rt must-fail' tries it"
+    texts = [(FIRST + TOLD.format("second", said), wanted) for said, wanted in PRINTED]
+    texts += [(FIRST, nothing), (FIRST + TOLD.format("second_one", PRINTED[0][0]), nothing), ("", nothing.replace("second", "first"))]
+    for text, wanted in texts:
+        write(path, "rt: c: trying its must-fail edits (2)\n" + text + "2 passed, 0 failed\n")
+        same(f"what is said of {text!r}", logs(path), wanted)
+    same("what is said without a file", logs(path + "s"), "No such file or directory")
+    os.environ["PATH"] = os.path.join(folder, "bin") + os.pathsep + os.environ["PATH"]
+    write(os.path.join(folder, "bin", "rt"), f"#!/bin/sh\n[ \"$*\" = must-fail ] && [ \"$PWD\" = '{os.path.realpath(folder)}' ] && cat printed\n")
+    os.chmod(os.path.join(folder, "bin", "rt"), 0o755)
+    for text, wanted in texts:
+        write(path, text)
+        same(f"what is said where rt prints {text!r}", logs(None), wanted)
+
+
+def check_copy(folder):
+    """The copy on which an edit of `high` is tried: those crates that it rests on, with what rt keeps of each."""
+    edit.ROOT, room = os.path.join(folder, "all"), os.path.join(folder, "room")
+    write(os.path.join(edit.ROOT, "crates.txt"), CRATES)
+    for name in "low", "other", "middle", "high":
+        for file in ("src/lib.rt", "specs/Lib.antt", "must-fail/one.edit", "out/incremental/kept", "out/rlib/stamp", f"out/rlib/{name}.rlib/format"):
+            write(os.path.join(edit.ROOT, "crates", name, file), name)
+    os.mkdir(room)
+    edit.copied("high", {"src/lib.rt": "other"}, room)
+    got = {os.path.relpath(os.path.join(place, name), room) for place, _, names in os.walk(room) for name in names}
+    wanted = {f"crates/{name}/{file}" for name in ("low", "middle", "high") for file in ("src/lib.rt", "specs/Lib.antt")}
+    wanted |= {f"crates/{name}/out/rlib/{file}" for name in ("low", "middle") for file in ("stamp", f"{name}.rlib/format")}
+    same("the files of the copy", sorted(got), sorted(wanted | {"crates.txt", "crates/high/out/incremental/kept"}))
+    same("the code of the copies", [edit.read(os.path.join(room, "crates", name, "src", "lib.rt")) for name in ("low", "high")], ["low", "other"])
+    same("the code itself", edit.read(os.path.join(edit.ROOT, "crates", "high", "src", "lib.rt")), "high")
+    same("the crates of the copy", edit.read(os.path.join(room, "crates.txt")).split("\n"), ["high staticlib: middle  # two below", "low:", "middle: low std", ""])
 
 
 def check_commands():
     done = subprocess.run([sys.executable, TOOL, "--check"], stdout=subprocess.PIPE, check=False)
     same("tools/edit --check", (done.returncode, done.stdout.endswith(b" edits, 0 do not fit\n")), (0, True))
-    for words in [], ["--other"], ["marks"], ["marks/there_is_none"]:
+    for words in [], ["--other"], ["marks"], ["marks/there_is_none"], ["--check", "one"], ["--logs", "one", "two"], ["--logs", "/there/is/none"]:
         done = subprocess.run([sys.executable, TOOL, *words], stderr=subprocess.PIPE, check=False)
         same(f"tools/edit {' '.join(words)}", (done.returncode, b"Traceback" in done.stderr), (2, False))
 
@@ -109,7 +154,10 @@ def check():
     check_sayings()
     with TemporaryDirectory() as folder:
         check_edits(folder)
-        check_kept(folder)
+    with TemporaryDirectory() as folder:
+        check_printed(folder)
+    with TemporaryDirectory() as folder:
+        check_copy(folder)
 
 
 if __name__ == "__main__":

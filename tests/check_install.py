@@ -74,7 +74,7 @@ def check_install(prefix):
     check_program(prefix)
     check_tools(prefix)
     again = make("install", prefix)
-    same("what is built again", [line for line in again.splitlines() if line.startswith(("rt ", "cargo "))], [])
+    same("what is built again", [line for line in again.splitlines() if line.startswith(("tools/prove ", "cargo "))], [])
     make("uninstall", prefix)
     same("the files that are left", sorted(below(prefix)), [])
 

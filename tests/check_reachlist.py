@@ -174,7 +174,7 @@ def main():
     programs = dict(zip(PROGRAMS, map(os.path.abspath, sys.argv[1:])))
     for word, program in programs.items():
         if not os.path.isfile(program):
-            sys.exit(f"check_reachlist: there is no program {program}; 'rt check {word}' proves and builds it")
+            sys.exit(f"check_reachlist: there is no program {program}; 'tools/prove {word}' proves and builds it")
     wrong = [runs(word, program) for word, program in programs.items()]
     return 1 if any(wrong) else 0
 

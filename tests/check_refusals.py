@@ -1,4 +1,4 @@
-"""Checks that every table of the refusals is the one of the definitions, `allRefusals` in crates/reach/specs/Words.antt: all refusals in the order
+"""Checks that every table of the refusals is the one of the definitions, `all_refusals` in crates/reach/specs/Words.antt: all refusals in the order
 of their numbers, from 1 on, each with its word. The numbers of the definitions and of the code are proved; here are compared the enum with the words
 in its comments, the words that tools/rule and the scripts print, the table of the Rust crate, the constants of the C header, and the table of README.md.
 Each comparison is tried besides with other tables of the definitions: one renamed, two swapped, one left out, one more, each of which it must tell.
@@ -30,7 +30,7 @@ def part(path, begin, end):
 
 def refusals():
     """The table of the definitions: the cases of the enum and their words."""
-    return re.findall(r'\((\w+), "(\w+)"\)', part(WORDS, "\nallRefusals =\n", "[]"))
+    return re.findall(r'\((\w+), "(\w+)"\)', part(WORDS, "\nall_refusals =\n", "[]"))
 
 
 def words():

@@ -1,6 +1,6 @@
 """Runs the scripts ./reachlist, ./namelist and ./remburai.
 
-./reachlist and ./namelist are run with the programs as they stand in target/bin, which have to be current, on the rule files of
+./reachlist and ./namelist are run with the programs as they stand in the out/ of their crates, which have to be current, on the rule files of
 tests/reachlist: what they print, their exit status, and what they say on standard error; and with streams that are closed or full, by
 links, with texts, and with words that they do not know. What ./namelist is to print is worked out from what ./reachlist is.
 
@@ -19,6 +19,7 @@ import signal
 import subprocess
 import sys
 import time
+from glob import glob
 from tempfile import TemporaryDirectory
 
 sys.dont_write_bytecode = True
@@ -31,7 +32,7 @@ from rule_tool import build
 
 ROOT = os.path.dirname(os.path.dirname(os.path.abspath(__file__)))
 SCRIPT, NAMES = os.path.join(ROOT, "reachlist"), os.path.join(ROOT, "namelist")
-PROGRAMS = [os.path.join(ROOT, "target", "bin", name) for name in ("reachlist", "namelist")]
+PROGRAMS = [os.path.join(ROOT, "crates", name, "out", name) for name in ("reachlist", "namelist")]
 STORED = os.path.join(ROOT, "tests", "reachlist")
 SECONDS = 30  # after which a run is given up
 WORDS = words()
@@ -280,27 +281,30 @@ three: two one  # other
 reachlist: three io libc
 namelist: three io libc
 other: one
-remburai: two three
+remburai staticlib: two three
 """
 
+# It is called in a crate's folder: first for all that is below it, with what rt says there of a crate that is proved, that has not changed, that is
+# taken from another copy of the repository, and of the crate itself.
 RT = """#!/bin/sh
-echo "rt $*" >> "$CALLS"
-[ ! -e "$CALLS.fail" ] || { echo "rt: two NOT PROVED"; exit 1; }
+crate="${PWD##*/}"
+echo "rt $* in $crate" >> "$CALLS"
+[ ! -e "$CALLS.fail" ] || { cat "$CALLS.fail"; exit 1; }
 sleep 0.1
+mkdir -p out
 case "$1" in
-check)
-    echo "rt: one proved (1 s)"
-    echo "fn two::f: proved"
-    echo "rt: two proved (unchanged since it was last proved)" >&2
-    echo "rt: three proved (1 s)"
-    case "$2" in reachlist | namelist) ;; *) exit 0 ;; esac
-    echo "rt: $2 proved (1 s)"
-    mkdir -p target/bin
-    [ -e "target/bin/$2" ] || cp "$LISTING" "target/bin/$2" ;;
-staticlib)
-    for crate in one two three; do echo "rt: $crate proved (unchanged since it was last proved)" >&2; done
-    mkdir -p target/staticlib
-    [ -e target/staticlib/libremburai.a ] || : > target/staticlib/libremburai.a ;;
+all)
+    echo "only=0 proved=0"
+    printf '== one\\nfn one::f: proved\\nlogic=proved functions=1\\n== two\\n'
+    printf '== three\\nrt: three: begins with what a check kept elsewhere\\n' >&2
+    printf '== %s\\nfn %s::f: proved\\nlogic=proved functions=1\\n== summary\\none: ok\\n' "$crate" "$crate" ;;
+run)
+    echo "logic=proved functions=1" >&2
+    [ -e "out/$crate" ] || cp "$LISTING" "out/$crate"
+    "out/$crate" ;;
+lib)
+    echo "logic=proved functions=1"
+    [ -e out/libremburai.a ] || : > out/libremburai.a ;;
 esac
 """
 
@@ -321,11 +325,12 @@ class Copy:
 
     def __init__(self, folder):
         self.root, self.bin, self.calls = os.path.join(folder, "a root"), os.path.join(folder, "bin"), os.path.join(folder, "calls")
-        for name in ("reachlist", "namelist", "remburai", "tools/build.sh", "tools/listing.sh", "rust/src/bin/remburai/help"):
+        for name in ("reachlist", "namelist", "remburai", "tools/build.sh", "tools/listing.sh", "tools/prove", "rust/src/bin/remburai/help"):
             source, copy = os.path.join(ROOT, name), os.path.join(self.root, name)
             os.makedirs(os.path.dirname(copy), exist_ok=True)
             (shutil.copytree if os.path.isdir(source) else shutil.copy)(source, copy)
-        for name in ("crates/one/src/lib.rt", "rust/Cargo.toml", "rust/build.rs"):
+        crates = [f"crates/{name}/src/main.rt" for name in ("reachlist", "namelist")] + [f"crates/{name}/src/lib.rt" for name in ("one", "remburai")]
+        for name in (*crates, "rust/Cargo.toml", "rust/build.rs"):
             self.write(os.path.join(self.root, name), "")
         self.write(os.path.join(self.root, "crates.txt"), CRATES)
         for name, text in (("rt", RT), ("cargo", CARGO), ("listing", LISTING), ("command", COMMAND)):
@@ -344,12 +349,12 @@ class Copy:
         return run([os.path.join(self.root, name), *words], env=self.words, **how)
 
     def called(self):
-        """What the stand-ins were called for since this was asked last."""
+        """What the stand-ins were called for since this was asked last, whatever number of crates was to be proved at a time."""
         if not os.path.exists(self.calls):
             return []
         lines = read(self.calls).decode().splitlines()
         os.remove(self.calls)
-        return lines
+        return [re.sub(" --jobs [1-9][0-9]* ", " ", line) for line in lines]
 
     def change(self, name):
         time.sleep(0.02)
@@ -375,19 +380,20 @@ def says_how_long(what, said):
 
 
 FOUR = [f"{number} of 4 crates proved" for number in range(1, 5)]
+LISTED, NAMES_LISTED = [["rt all check in " + name, "rt run in " + name] for name in ("reachlist", "namelist")]
 
 
 @in_a_copy
 def test_first_use_of_reachlist(copy):
     status, printed, said = copy.run("reachlist", input=read(P))
-    same("first use", (status, printed, copy.called()), (1, "total 0 0 0 0 none\n", ["rt check reachlist"]))
+    same("first use", (status, printed, copy.called()), (1, "total 0 0 0 0 none\n", LISTED))
     same("what is shown", progress("reachlist", said), FOUR)
     says_how_long("proving and building the program", said)
     same("second use", (copy.run("reachlist", input=read(P))[2], copy.called()), ("reachlist: none within depth 4, 20 steps\n", []))
     for name in ("crates/one/src/lib.rt", "crates.txt"):
         copy.change(name)
         copy.run("reachlist", input=read(P))
-        same(f"after a change of {name}", copy.called(), ["rt check reachlist"])
+        same(f"after a change of {name}", copy.called(), LISTED)
         copy.run("reachlist", input=read(P))
         same(f"after that of {name}", copy.called(), [])
 
@@ -412,15 +418,15 @@ PRINTED = [
 def test_first_use_of_namelist(copy):
     copy.words["PRINTED"] = "201 195 137\\n\\n"
     status, printed, said = copy.run("namelist", input=NAMED)
-    same("first use", (status, printed, copy.called()), (0, "201 195 137\n\n", ["rt check namelist"]))
+    same("first use", (status, printed, copy.called()), (0, "201 195 137\n\n", NAMES_LISTED))
     same("what is shown", progress("namelist", said), FOUR)
     same("second use", (copy.run("namelist", input=NAMED)[2], copy.called()), ("namelist: 2 names within depth 4, 20 steps\n", []))
     copy.run("reachlist", input=NAMED)
-    same("first use of the other", copy.called(), ["rt check reachlist"])
+    same("first use of the other", copy.called(), LISTED)
     copy.change("crates.txt")
     copy.run("namelist", input=NAMED)
     copy.run("namelist", input=NAMED)
-    same("after a change", copy.called(), ["rt check namelist"])
+    same("after a change", copy.called(), NAMES_LISTED)
 
 
 @in_a_copy
@@ -447,7 +453,7 @@ def test_first_use_of_remburai(copy):
     printed = f"{tool}\n" + "".join(f"<{word}>\n" for word in given)
     build = [f"cargo build --quiet --release --offline --manifest-path {copy.root}/rust/Cargo.toml"
              f" --target-dir {copy.root}/rust/target --bin remburai"]
-    prove = ["rt check two three", "rt staticlib remburai"]
+    prove = ["rt all check in remburai", "rt lib in remburai"]
     copy.words["REMBURAI_STATICLIB"] = "elsewhere"
     got = copy.run("remburai", *given)
     same("first use", (got[:2], copy.called()), ((3, printed), prove + build))
@@ -480,18 +486,20 @@ def test_one_proof_at_a_time(copy):
     words = [os.path.join(copy.root, "reachlist"), P]
     both = [subprocess.Popen(words, env=copy.words, stdout=subprocess.PIPE, stderr=subprocess.DEVNULL) for _ in range(3)]
     same("all of them", [process.communicate(timeout=SECONDS)[0] for process in both], [b"total 0 0 0 0 none\n"] * 3)
-    same("proofs", copy.called(), ["rt check reachlist"])
+    same("proofs", copy.called(), LISTED)
 
 
 @in_a_copy
 def test_what_is_not_proved(copy):
-    copy.write(copy.calls + ".fail", "")
+    copy.write(copy.calls + ".fail", "== one\n== two\nsrc/lib.rt:1:1: error: `returns`\nlogic=not-proved\n== summary\none: ok\ntwo: failed (1)\n")
     log = os.path.join(copy.root, "target")
-    fault("reachlist", copy.run("reachlist", P), f"not proved; see {log}/reachlist.log")
+    got = copy.run("reachlist", P)
+    fault("reachlist", got, f"not proved; see {log}/reachlist.log")
+    same("what is shown", progress("reachlist", got[2]), FOUR[:1])
     fault("namelist", copy.run("namelist", P), f"not proved; see {log}/namelist.log")
     fault("remburai", copy.run("remburai", "list", P), f"not proved; see {log}/remburai.log")
-    same("what was tried", copy.called(), ["rt check reachlist", "rt check namelist", "rt check two three"])
-    same("the log", "rt: two NOT PROVED" in read(os.path.join(log, "remburai.log")).decode(), True)
+    same("what was tried", copy.called(), [LISTED[0], NAMES_LISTED[0], "rt all check in remburai"])
+    same("the log", "two: failed (1)" in read(os.path.join(log, "remburai.log")).decode(), True)
 
 
 @in_a_copy
@@ -500,8 +508,7 @@ def test_without_the_toolchain(copy):
     copy.words["PATH"] = ":".join(folder for folder in plain if not os.path.exists(os.path.join(folder, "cargo")))
     fault("reachlist", copy.run("reachlist", P), "'rt', the Rattle toolchain, is needed")
     fault("remburai", copy.run("remburai", "list", P), "'rt', the Rattle toolchain, is needed")
-    os.makedirs(os.path.join(copy.root, "target", "staticlib"))
-    copy.write(os.path.join(copy.root, "target", "staticlib", "libremburai.a"), "")
+    copy.write(os.path.join(copy.root, "crates", "remburai", "out", "libremburai.a"), "")
     fault("remburai", copy.run("remburai", "list", P), "'cargo' is needed")
 
 
@@ -549,7 +556,7 @@ def test_number_of_crates():
     for line in read(os.path.join(ROOT, "crates.txt")).decode().splitlines():
         crate, colon, words = line.split("#")[0].partition(":")
         if colon:
-            needs[crate.strip()] = words.split()
+            needs[crate.split()[0]] = words.split()
     for crate in ("reachlist", "namelist", "remburai"):
         below, new = set(), {crate}
         while new:
@@ -565,8 +572,8 @@ def current():
     if not all(map(os.path.exists, PROGRAMS)):
         return False
     built = min(times())
-    below = os.walk(os.path.join(ROOT, "crates"))
-    paths = [os.path.join(place, name) for place, folders, names in below for name in [".", *names]]
+    parts = [part for name in ("src", "specs", "proofs") for part in glob(os.path.join(ROOT, "crates", "*", name))]
+    paths = [os.path.join(place, name) for part in parts for place, folders, names in os.walk(part) for name in [".", *names]]
     return all(os.stat(path).st_mtime_ns <= built for path in [*paths, os.path.join(ROOT, "crates.txt")])
 
 
@@ -576,8 +583,8 @@ def times():
 
 def main():
     if not current():
-        sys.exit("scripts: target/bin/reachlist or target/bin/namelist is not there or older than a crate; 'rt check reachlist namelist' proves and "
-                 "builds them")
+        sys.exit("scripts: the program reachlist or namelist is not there, in the out/ of its crate, or older than a crate; "
+                 "'tools/prove reachlist namelist' proves and builds them")
     built = times()
     tests = [test for name, test in sorted(globals().items()) if name.startswith("test_")]
     wrong = 0

@@ -3,6 +3,12 @@
 
 log="$root/target/$name.log"
 
+# What programs and library are made from. What rt keeps beside it, in crates/CRATE/out, is none of it.
+crates=("$root/crates.txt")
+for part in "$root"/crates/*/{src,specs,proofs}; do
+    [ ! -d "$part" ] || crates+=("$part")
+done
+
 # What keeps the script from its work: a fault of use, of reading or of writing, or a program that cannot be built.
 fault() {
     echo "$name: $1" >&2
@@ -33,30 +39,35 @@ crates_for() { # CRATE
         END { visit(first); print count }' "$root/crates.txt"
 }
 
-# How many crates the log has as proved.
-proved() {
-    grep -oE '^rt: [a-z0-9_]+ proved \(' "$log" | sort -u | wc -l
+# Says how many of the crates are proved: in one line on a terminal, else in a line each time.
+show_count() { # NUMBER ALL
+    local end='\n'
+    [ ! -t 2 ] || end='\r'
+    printf "%s: %d of %d crates proved$end" "$name" "$1" "$2" >&2
 }
 
-# Keeps in the log what rt prints, and shows how many of the crates are proved: in one line on a terminal, else in a line each time.
+# Keeps in the log what rt prints, and shows how many of the crates are proved. Of a crate rt prints the name and then what it said of it, which
+# is nothing where nothing has changed, so that it counts when the next name comes. The last one is what is built, and counts once it is.
 show_proved() { # ALL
-    local line now shown end='\n'
-    shown="$(proved)"
-    [ ! -t 2 ] || end='\r'
+    local line count=0 state=
     while IFS= read -r line; do
         printf '%s\n' "$line" >> "$log"
-        [[ $line == "rt: "*" proved ("* ]] || continue
-        now="$(proved)"
-        [ "$now" = "$shown" ] || printf "%s: %d of %d crates proved$end" "$name" "$now" "$1" >&2
-        shown="$now"
+        case "$line" in
+        "== summary") state= ;;
+        "== "*)
+            case "$state" in silent | proved) show_count $((count += 1)) "$1" ;; esac
+            state=silent
+            ;;
+        "rt: "*) ;;
+        "logic=proved "*) state="${state:+proved}" ;;
+        *) state="${state/silent/open}" ;;
+        esac
     done
 }
 
-# Runs rt at the root of the repository, for a crate for which ALL crates are to be proved.
-prove() { # ALL WORDS...
-    local all="$1"
-    shift
-    (cd "$root" && rt "$@") 2>&1 < /dev/null | show_proved "$all" || fault "not proved; see $log"
+# Proves a crate, for which ALL crates are to be proved, and builds it.
+prove() { # ALL CRATE
+    "$root/tools/prove" "$2" 2>&1 < /dev/null | show_proved "$1" || fault "not proved; see $log"
 }
 
 # Takes turns with other scripts that build, up to the end of this one.

@@ -2,18 +2,20 @@
 # refusal. They source it, with `root` and `name` set, and define `help`; `name` is the script's own, and that of its crate and its program.
 
 source "$root/tools/build.sh"
-program="$root/target/bin/$name"
+program="$root/crates/$name/out/$name"
 
 current_program() {
-    current "$program" "$root/crates" "$root/crates.txt"
+    current "$program" "${crates[@]}"
 }
 
 build() {
+    local all
     begin_build
     current_program && return
     begin_proof "proving and building the program"
-    prove "$(crates_for "$name")" check "$name"
-    touch "$program"
+    all="$(crates_for "$name")"
+    prove "$all" "$name"
+    show_count "$all" "$all"
 }
 
 # The file that is named, in place of standard input.

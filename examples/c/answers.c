@@ -2,8 +2,9 @@
  * and what is read off it.
  * docs/FORMAT.md shows the lines and goes through the bytes. From the root of the repository:
  *
- *     rt staticlib remburai
- *     gcc -O2 -Wall -Wextra -I include -o target/answers examples/c/answers.c target/staticlib/libremburai.a
+ *     tools/prove remburai
+ *     mkdir -p target
+ *     gcc -O2 -Wall -Wextra -I include -o target/answers examples/c/answers.c crates/remburai/out/libremburai.a
  *     target/answers
  */
 #include <inttypes.h>

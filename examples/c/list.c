@@ -3,8 +3,9 @@
  *
  * From the root of the repository:
  *
- *     rt staticlib remburai
- *     gcc -O2 -Wall -Wextra -I include -o target/list examples/c/list.c target/staticlib/libremburai.a
+ *     tools/prove remburai
+ *     mkdir -p target
+ *     gcc -O2 -Wall -Wextra -I include -o target/list examples/c/list.c crates/remburai/out/libremburai.a
  *     target/list examples/p.rule
  *
  * The last line prints `entries 1, bytes 9, found within depth 4, 20 steps`.

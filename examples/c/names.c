@@ -1,8 +1,9 @@
 /* Prints the names in the list of the rule file on standard input, line for line as `namelist` does: for each entry and each parameter of
  * the named type the bytes of a name in Latin-1, then in UTF-8, in decimal. From the root of the repository:
  *
- *     rt staticlib remburai
- *     gcc -O2 -Wall -Wextra -I include -o target/names examples/c/names.c target/staticlib/libremburai.a
+ *     tools/prove remburai
+ *     mkdir -p target
+ *     gcc -O2 -Wall -Wextra -I include -o target/names examples/c/names.c crates/remburai/out/libremburai.a
  *     target/names < RULE
  *
  * where the rule file RULE has a record NA; without one there are no names. docs/FORMAT.md has such a file, whose one name is printed as

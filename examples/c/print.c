@@ -1,8 +1,9 @@
 /* Prints the list of the rule file on standard input, line for line as `reachlist` does, and takes the list apart itself for that;
  * text.c leaves that to the library. From the root of the repository:
  *
- *     rt staticlib remburai
- *     gcc -O2 -Wall -Wextra -I include -o target/print examples/c/print.c target/staticlib/libremburai.a
+ *     tools/prove remburai
+ *     mkdir -p target
+ *     gcc -O2 -Wall -Wextra -I include -o target/print examples/c/print.c crates/remburai/out/libremburai.a
  *     target/print < examples/p.rule
  *
  * The last line prints `reach 6 1 1 _` and `total 1 0 0 0 found`. The slices are as long as the library takes; with those of `reachlist`,

@@ -1,8 +1,9 @@
 /* Prints the list of the rule file on standard input as `reachlist` does, in the library's own text: its length first, then that much
  * memory, then the text. From the root of the repository:
  *
- *     rt staticlib remburai
- *     gcc -O2 -Wall -Wextra -I include -o target/text examples/c/text.c target/staticlib/libremburai.a
+ *     tools/prove remburai
+ *     mkdir -p target
+ *     gcc -O2 -Wall -Wextra -I include -o target/text examples/c/text.c crates/remburai/out/libremburai.a
  *     target/text < examples/p.rule
  *
  * The last line prints `reach 6 1 1 _` and `total 1 0 0 0 found`. The slices are as long as the library takes; with those of `reachlist`,

@@ -2,7 +2,7 @@
 //!
 //! From the root of the repository:
 //!
-//!     rt staticlib remburai
+//!     tools/prove remburai
 //!     cargo run --manifest-path rust/Cargo.toml --example list examples/p.rule
 //!
 //! The last line prints

@@ -11,5 +11,5 @@ fn main(rt: HostRuntime) -> io::Result<()> {
     let mut text = reporting::page();
     let got = read_bytes(&mut rt.stdin(), &mut file, INPUT);
     let size = program_text(&file, got, &mut text);
-    Print::write_all(&rt, &text[..size])
+    rt.write_all(&text[..size])
 }
