@@ -30,7 +30,6 @@ use Rattle.values.specs.Notes.{FollowsInput}
 use Rattle.values.proofs.Binding.{OpenStands, open_stands, bound_follows}
 use Rattle.registers.specs.declared.Registers.{Registers}
 use Rattle.registers.specs.declared.Next.{Next}
-use Rattle.registers.specs.declared.Next.TheVariants as Next
 use Rattle.machine.specs.Records.{no_case, part_in, OnlyTop}
 use Rattle.registers.specs.Stepping.{control_in, Standing, Follows, StepMeans, Stepped}
 use Rattle.choosing.specs.Entering.{AtBoundPart}

@@ -11,7 +11,6 @@ use Rattle.reach.proofs.Base.{clash}
 use Rattle.reach.proofs.Places.{bytes_length}
 use Rattle.lookups.specs.Fields.{fields_of, fields_in, FieldCount}
 use Rattle.lookups.specs.declared.Fields.{Fields}
-use Rattle.lookups.specs.declared.Fields.TheVariants as Fields
 use Rattle.machine.specs.Cells.{cell_word, Binds}
 use Rattle.values.specs.Notes.{noted_place, Noted}
 use Rattle.binding.specs.Underway.{noted_number, Bindable, BoundAs, BoundCell}

@@ -16,7 +16,6 @@ use Rattle.machine.specs.Cells.{cell_word, Binds, Cells}
 use Rattle.values.specs.Notes.{noted_place, Noted, FollowsInput}
 use Rattle.registers.specs.declared.Registers.{Registers}
 use Rattle.registers.specs.declared.Next.{Next}
-use Rattle.registers.specs.declared.Next.TheVariants as Next
 use Rattle.registers.specs.Stepping.{StandsFor, Stepped}
 use Rattle.loaded.specs.Beginning.{GivenFile}
 use Rattle.skipping.specs.Ends.{Ends}

@@ -23,7 +23,6 @@ use Rattle.lookups.specs.declared.Head as Looked
 use Rattle.lookups.specs.Heads.{head_of}
 use Rattle.lookups.proofs.Tables.{parameters_many}
 use Rattle.bodies.specs.declared.Judged.{Judged}
-use Rattle.bodies.specs.declared.Judged.TheVariants as Judged
 use Rattle.expressions.specs.Readers.{declared, expression_at, TablesSmall}
 use Rattle.expressions.proofs.Passing.{both_next}
 use Rattle.bodies.specs.Check.{body_at, BodyThere, bodies_of}

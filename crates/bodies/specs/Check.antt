@@ -9,7 +9,6 @@ use Rattle.typerecord.specs.declared.Passed.{Passed}
 use Rattle.typerecord.specs.declared.Passed.TheVariants.{Next, Refused}
 use Rattle.expressions.specs.Readers.{declared}
 use Rattle.bodies.specs.declared.Judged.{Judged}
-use Rattle.bodies.specs.declared.Judged.TheVariants as Judged
 
 -- the body of the record at a place ends inside the file
 abbrev pub BodyThere : List ℕ → ℕ → Type 0

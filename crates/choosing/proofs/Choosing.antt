@@ -2,7 +2,7 @@
 -- Rests on Kept, on machine's Records and Codes, and on reach's States.
 use Prim.Native.Nat.{ℕ, ◌+◌, ◌≤◌, ◌<◌}
 use mathlib.Core.Path.{◌≡◌, refl, sym, ◌∙◌, subst}
-use mathlib.Core.List.{List, [], ◌∷◌}
+use mathlib.Core.List.{List, ◌∷◌}
 use native.Mathlib.Omega.{arith}
 use lib.ListN.{get_or}
 use Rattle.reach.specs.Syntax.{construct, Exprs, Alternatives, Program}
@@ -17,7 +17,6 @@ use Rattle.machine.proofs.Codes.{chosen_at, code_construct}
 use Rattle.machine.proofs.Records.{count_word}
 use Rattle.registers.specs.declared.Registers.{Registers}
 use Rattle.registers.specs.declared.Alternative.{Alternative}
-use Rattle.registers.specs.declared.Alternative.TheVariants as Alternative
 use Rattle.registers.specs.declared.Next.TheVariants as Next
 use Rattle.lookups.specs.Fields.{FieldCount}
 use Rattle.registers.specs.Stepping.{declarations_of, control_in, FileOf, StandsFor, Standing, Ready, Follows, Stepped, StepMeans, Found, Chose, chose_none, chose_one, missing_kind, expression_kind}

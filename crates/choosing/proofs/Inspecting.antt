@@ -2,7 +2,7 @@
 -- Rests on Choosing, on machine's Cells and on reach's States.
 use Prim.Native.Nat.{ℕ, suc, ◌+◌, ◌-◌, ◌≤◌, ◌<◌}
 use mathlib.Core.Path.{◌≡◌, refl, sym, ◌∙◌, ap, subst}
-use mathlib.Core.List.{List, [], ◌∷◌}
+use mathlib.Core.List.{List, ◌∷◌}
 use native.Mathlib.Omega.{arith}
 use Rattle.reach.specs.Syntax.{Alternatives, Program}
 use Rattle.reach.specs.Parts.{Parts, Place, free, has, at, There}

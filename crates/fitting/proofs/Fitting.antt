@@ -14,7 +14,6 @@ use Rattle.reach.specs.Partial.{Value, ◌before◌, deep_of, slotted}
 use Rattle.reach.specs.Places.{type_at, bytes_at}
 use Rattle.lookups.proofs.Tables.{slots_more, slots_none}
 use Rattle.rows.specs.declared.Measured.{Measured}
-use Rattle.rows.specs.declared.Measured.TheVariants as Measured
 use Rattle.rows.specs.Values.{of_value, of_row, manner_of, value_at, slots_at}
 use Rattle.rows.specs.Stack.{joined}
 use Rattle.rows.proofs.Rows.{value_got, value_bad, joined_none}

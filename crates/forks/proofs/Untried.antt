@@ -16,7 +16,6 @@ use Rattle.reach.specs.Places.{bytes_at, type_at}
 use Rattle.reach.proofs.Places.{bytes_length}
 use Rattle.lookups.specs.Fields.{fields_of, fields_in}
 use Rattle.lookups.specs.declared.Fields.{Fields}
-use Rattle.lookups.specs.declared.Fields.TheVariants as Fields
 use Rattle.lookups.proofs.Tables.{constructor_missing}
 use Rattle.depths.specs.Table.{padded}
 use Rattle.depths.proofs.Padded.{padded_shallow}

@@ -7,7 +7,6 @@ use Rattle.reach.specs.Types.{Fork, forks_from}
 use Rattle.reach.specs.Places.{bytes_at, type_at}
 use Rattle.lookups.specs.Fields.{fields_in}
 use Rattle.forks.specs.declared.Candidate.{Candidate}
-use Rattle.forks.specs.declared.Candidate.TheVariants as Candidate
 
 -- of the constructors of type t, from number c on, those that a fork takes where the part may be so deep (01: "in number order, leaving out those
 -- with a field whose least depth exceeds the depth remaining below")

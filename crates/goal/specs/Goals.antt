@@ -6,7 +6,6 @@ use Rattle.reach.specs.Syntax.{Program}
 use Rattle.reach.specs.RuleFile as RuleFile
 use Rattle.goal.specs.declared.Goal.{Goal}
 use Rattle.goal.specs.declared.Named.{Named}
-use Rattle.goal.specs.declared.Named.TheVariants as Named
 
 abbrev pub goal_of : Goal → RuleFile.Goal
 goal_of g = record { source = g.source; label = g.label; depths = g.depths; steps = g.steps }

@@ -26,7 +26,6 @@ use Rattle.reach.specs.Places.{word_at, type_at, head_at}
 use Rattle.lists.proofs.ReadBack.{size_told}
 use Rattle.lists.proofs.HandedEntry.{headed}
 use Rattle.rows.specs.declared.Measured.{Measured}
-use Rattle.rows.specs.declared.Measured.TheVariants as Measured
 use Rattle.rows.specs.Values.{of_row, slots_at}
 use Rattle.rows.proofs.Rows.{manner_entries}
 use Rattle.handed.specs.Fits.{entry_at, Told}

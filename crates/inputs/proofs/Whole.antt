@@ -16,10 +16,8 @@ use Rattle.reach.specs.Partial.{in_inputs, slotted}
 use Rattle.reach.specs.Input.{input_by}
 use Rattle.reach.proofs.Base.{clash}
 use Rattle.rows.specs.declared.Measured.{Measured}
-use Rattle.rows.specs.declared.Measured.TheVariants as Measured
 use Rattle.rows.specs.Values.{of_row}
 use Rattle.inputs.specs.declared.Reading.{Reading}
-use Rattle.inputs.specs.declared.Reading.TheVariants as Reading
 use Rattle.inputs.specs.Depth.{reading_of}
 
 module _ (types : Types) (ss : List Slot) (input : List ℕ) {b : Measured} (told : b ≡ of_row (slotted types in_inputs depth_limit ss input 0)) where

@@ -8,7 +8,6 @@ use Rattle.reach.specs.Types.{slots}
 use Rattle.reach.specs.Input.{input_by}
 use Rattle.reach.specs.Places.{type_at, head_at}
 use Rattle.inputs.specs.declared.Reading.{Reading}
-use Rattle.inputs.specs.declared.Reading.TheVariants as Reading
 
 -- the input and its depth, each parameter of the source at most as deep as these depths say
 abbrev pub input_at : List ℕ → List ℕ → List ℕ → ℕ → List ℕ → List ℕ → Option (Parts × ℕ)

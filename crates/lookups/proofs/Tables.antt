@@ -16,7 +16,6 @@ use Rattle.reach.specs.Places.{bytes_at, constructors_at, type_at}
 use Rattle.reach.proofs.Places.{bytes_length}
 use Rattle.reach.proofs.Slots.{slots_from}
 use Rattle.lookups.specs.declared.Fields.{Fields}
-use Rattle.lookups.specs.declared.Fields.TheVariants as Fields
 use Rattle.lookups.specs.declared.Head.{Head}
 use Rattle.lookups.specs.declared.Constructors.{Constructors}
 use Rattle.lookups.specs.Fields.{Near, fields_of, fields_in, FieldCount}

@@ -5,7 +5,6 @@ use Rattle.std.proofs.Math.Option.{Option, none, some}
 use Rattle.reach.specs.Syntax.{field_types}
 use Rattle.reach.specs.Places.{bytes_at, type_at}
 use Rattle.lookups.specs.declared.Fields.{Fields}
-use Rattle.lookups.specs.declared.Fields.TheVariants as Fields
 
 -- the field types that were found
 abbrev pub fields_of : List ℕ → Fields → Option (List ℕ)

@@ -9,10 +9,8 @@ use native.Mathlib.Numerals.{add-one}
 use native.Mathlib.Omega.{arith}
 use Rattle.reach.specs.Places.{bytes_at}
 use Rattle.rows.specs.declared.Measured.{Measured}
-use Rattle.rows.specs.declared.Measured.TheVariants as Measured
 use Rattle.rows.specs.declared.Row.{Row}
 use Rattle.rows.specs.declared.First.{First}
-use Rattle.rows.specs.declared.First.TheVariants as First
 use Rattle.rows.specs.Values.{of_value, of_row, value_at, row_at}
 use Rattle.rows.specs.Stack.{joined, above, past_of, Low, of_rest, of_first, NearFirst}
 use Rattle.rows.proofs.Rows.{joined_twice, row_done, row_next, row_stops}

@@ -16,7 +16,6 @@ use Rattle.machine.proofs.Codes.{Coded, coded_known, code_kind}
 use Rattle.machine.proofs.Records.{env_kept, frames_kept, operands_added, waiting_added, fields_added}
 use Rattle.registers.specs.declared.Registers.{Registers}
 use Rattle.registers.specs.declared.Next.{Next}
-use Rattle.registers.specs.declared.Next.TheVariants as Next
 use Rattle.registers.specs.Stepping.{declarations_of, control_in, CountsSmall, StandsFor, Standing, Ready, StepMeans, Leads, Stepped}
 use Rattle.machine.proofs.Words.{records_same}
 use Rattle.registers.proofs.Words.{cells_same, few_more}

@@ -16,9 +16,7 @@ use Rattle.skipping.specs.Ends.{Ends}
 use Rattle.machine.specs.Walks.{Behind, OperandAt, ChosenAt, VariableAt, outside_of}
 use Rattle.registers.specs.declared.Registers.{Registers}
 use Rattle.registers.specs.declared.Alternative.{Alternative}
-use Rattle.registers.specs.declared.Alternative.TheVariants as Alternative
 use Rattle.registers.specs.declared.Next.{Next}
-use Rattle.registers.specs.declared.Next.TheVariants as Next
 
 -- what a file declares whose types and functions stand at these places
 abbrev pub declarations_of : List ℕ → List ℕ → List ℕ → Declarations

@@ -21,7 +21,6 @@ use Rattle.reach.specs.Places.{bytes_at}
 use Rattle.reach.proofs.Base.{clash}
 use Rattle.lookups.proofs.Tables.{bytes_more, bytes_none}
 use Rattle.rows.specs.declared.Measured.{Measured}
-use Rattle.rows.specs.declared.Measured.TheVariants as Measured
 use Rattle.rows.specs.Values.{of_value, of_open, of_row, manner_of, value_at, row_at}
 use Rattle.rows.specs.Stack.{joined, above}
 

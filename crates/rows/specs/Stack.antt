@@ -3,10 +3,8 @@
 use Rattle.std.specs.Prelude.{ℕ, suc, max, ◌+◌, ◌-◌, ◌≤◌, ◌<◌, ◌≡◌, List, length}
 use Rattle.reach.specs.Places.{bytes_at}
 use Rattle.rows.specs.declared.Measured.{Measured}
-use Rattle.rows.specs.declared.Measured.TheVariants as Measured
 use Rattle.rows.specs.declared.Row.{Row}
 use Rattle.rows.specs.declared.First.{First}
-use Rattle.rows.specs.declared.First.TheVariants as First
 use Rattle.rows.specs.Values.{of_row, row_at}
 
 -- what was read before is this deep

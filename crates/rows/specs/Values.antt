@@ -10,7 +10,6 @@ use Rattle.reach.specs.Partial.{Value, deep_of, values_by, Manner, in_inputs, va
 use Rattle.lists.specs.Handed.{in_entries}
 use Rattle.reach.specs.Places.{type_at}
 use Rattle.rows.specs.declared.Measured.{Measured}
-use Rattle.rows.specs.declared.Measured.TheVariants as Measured
 
 -- a reading, with its value and its reason forgotten
 abbrev pub of_value : Got Value → Measured

@@ -2,7 +2,7 @@
 -- Rests on reach's Stages for the order of the tests, and on Passes and Tabled for what the passes leave.
 use Prim.Native.Nat.{ℕ, ◌≤◌}
 use mathlib.Core.Path.{◌≡◌, refl, sym, ◌∙◌, ap}
-use mathlib.Core.Bool.{Bool, true, false, not}
+use mathlib.Core.Bool.{Bool, true, false}
 use mathlib.Core.List.{List, map}
 use lib.ListN.{length, take}
 use lib.Seq.{length-take-le}
@@ -20,12 +20,10 @@ use Rattle.goal.specs.Goals.{goal_of, named_of}
 use Rattle.outline.specs.declared.Outlined.{Outlined}
 use Rattle.outline.specs.Tables.{outlined_of, InLimits}
 use Rattle.bodies.specs.declared.Judged.{Judged}
-use Rattle.bodies.specs.declared.Judged.TheVariants as Judged
 use Rattle.bodies.specs.Check.{functions_at, bodies_of}
 use Rattle.depths.specs.Table.{padded}
 use Rattle.depths.proofs.Rounds.{least_front}
 use Rattle.results.specs.declared.CheckResult.{CheckResult}
-use Rattle.results.specs.declared.CheckResult.TheVariants as CheckResult
 use Rattle.rulefile.specs.declared.Loaded.{Loaded}
 use Rattle.results.specs.Results.{check_result}
 use Rattle.rulefile.specs.Loading.{types_in, functions_in, Outlines, AllPassed, source_shallow, names_spelled, LoadsAs}

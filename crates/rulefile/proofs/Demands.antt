@@ -28,7 +28,6 @@ use Rattle.reach.proofs.Base.{clash}
 use Rattle.reach.proofs.Refusals.{turned_back_by}
 use Rattle.reach.proofs.Conditions as Conditions
 use Rattle.results.specs.declared.CheckResult.{CheckResult}
-use Rattle.results.specs.declared.CheckResult.TheVariants as CheckResult
 use Rattle.results.specs.Results.{check_result}
 use Rattle.rulefile.specs.Answering.{CheckPromise}
 

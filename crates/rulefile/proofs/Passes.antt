@@ -18,7 +18,6 @@ use Rattle.codes.proofs.Encoding.{BodyInside, outline_inside}
 use Rattle.typerecord.specs.Passed.{passed_of}
 use Rattle.lookups.proofs.Tables.{found}
 use Rattle.bodies.specs.declared.Judged.{Judged}
-use Rattle.bodies.specs.declared.Judged.TheVariants as Judged
 use Rattle.expressions.specs.Readers.{TablesSmall}
 use Rattle.bodies.specs.Check.{BodiesThere, functions_at, bodies_of}
 

@@ -15,7 +15,6 @@ use Rattle.reach.specs.Names.{fieldless, is_half, is_letter, is_name, spells}
 use Rattle.reach.proofs.Places.{bytes_length}
 use Rattle.lookups.specs.declared.Constructors.{Constructors}
 use Rattle.lookups.specs.declared.Fields.{Fields}
-use Rattle.lookups.specs.declared.Fields.TheVariants as Fields
 use Rattle.lookups.specs.Fields.{fields_of, fields_in}
 use Rattle.spelling.specs.Letter.{has_letter}
 use Rattle.lookups.proofs.Tables.{entry, no_entry, constructors_more, constructors_length}

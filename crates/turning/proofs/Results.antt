@@ -11,7 +11,6 @@ use Rattle.lookups.specs.Fields.{FieldCount}
 use Rattle.machine.specs.Records.{no_case, part_in}
 use Rattle.registers.specs.declared.Registers.{Registers}
 use Rattle.registers.specs.declared.Next.{Next}
-use Rattle.registers.specs.declared.Next.TheVariants as Next
 use Rattle.registers.specs.Stepping.{expression_kind, control_in, Standing, Ready, Result, built, a_part, Stepped, StepMeans, Turned}
 use Rattle.registers.proofs.Which.{expression_control, part_control}
 use Rattle.registers.proofs.Kept.{inspected}

@@ -15,10 +15,8 @@ use Rattle.reach.proofs.Base.{clash}
 use Rattle.machine.specs.Cells.{cell_of}
 use Rattle.machine.specs.Records.{record_word, no_case, FrameBelow, Code, CodeAll, EnvAt, FramesAt, evaluating_at, OnlyTop}
 use Rattle.machine.proofs.Codes.{code_next, code_construct}
-use Rattle.machine.proofs.Words.{nothing_written}
 use Rattle.registers.specs.declared.Registers.{Registers}
 use Rattle.registers.specs.declared.Next.{Next}
-use Rattle.registers.specs.declared.Next.TheVariants as Next
 use Rattle.lookups.specs.Fields.{FieldCount}
 use Rattle.registers.specs.Stepping.{declarations_of, StandsFor, Standing, Ready, Follows, Stepped, StepMeans, Turned, to_last, to_next}
 use Rattle.turning.specs.Turning.{FieldsFit, FitWords, GoesOn, at_the_end, to_field}

@@ -5,7 +5,6 @@ use Rattle.machine.specs.Records.{record_word, no_case, FrameBelow, OnlyTop}
 use Rattle.skipping.specs.Ends.{Ends}
 use Rattle.registers.specs.declared.Registers.{Registers}
 use Rattle.registers.specs.declared.Next.{Next}
-use Rattle.registers.specs.declared.Next.TheVariants as Next
 use Rattle.lookups.specs.Fields.{FieldCount}
 use Rattle.registers.specs.Stepping.{expression_kind, Turned}
 

@@ -2,10 +2,9 @@
 -- Rests on reach's RuleFile and on the enum of src/lib.rt.
 use Rattle.std.specs.Prelude.{ℕ, pred, ◌<◌, List, [], ◌∷◌}
 use Rattle.reach.specs.Syntax.{Types}
-use Rattle.reach.specs.Reader.{Got, got, refused, Reader, ◌>>=◌, ◌>>◌, give}
+use Rattle.reach.specs.Reader.{Got, got, refused, Reader, ◌>>=◌, give}
 use Rattle.reach.specs.RuleFile.{TY, in_turn, mark, type_record, more_types, Head, function_record, more_functions}
 use Rattle.turns.specs.declared.Turn.{Turn}
-use Rattle.turns.specs.declared.Turn.TheVariants as Turn
 
 -- a type's record, then up to k more types, up to behind the mark of the first function
 unfoldable pub types_from : ℕ → Reader Types

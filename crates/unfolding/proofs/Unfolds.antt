@@ -24,7 +24,6 @@ use Rattle.machine.proofs.Codes.{code_call, code_let, code_one, code_case, code_
 use Rattle.machine.proofs.Records.{count_word}
 use Rattle.registers.specs.declared.Registers.{Registers}
 use Rattle.registers.specs.declared.Next.{Next}
-use Rattle.registers.specs.declared.Next.TheVariants as Next
 use Rattle.registers.specs.Stepping.{declarations_of, FileOf, StandsFor, Ready, Leads, Stepped, StepMeans, PassedOver, expression_kind}
 use Rattle.machine.proofs.Words.{nothing_written}
 use Rattle.registers.proofs.Which.{when_call, when_let, when_case, when_target}

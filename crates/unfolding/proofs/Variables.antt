@@ -17,7 +17,6 @@ use Rattle.machine.specs.Walks.{VariableAt, outside_of}
 use Rattle.machine.proofs.Records.{variable_at_law, variable_part, variable_operand}
 use Rattle.registers.specs.declared.Registers.{Registers}
 use Rattle.registers.specs.declared.Next.{Next}
-use Rattle.registers.specs.declared.Next.TheVariants as Next
 use Rattle.registers.specs.Stepping.{declarations_of, StandsFor, Standing, Ready, Leads, VariableThere, Group, OperandIn, part_kind, expression_kind}
 use Rattle.machine.proofs.Words.{nothing_written}
 use Rattle.registers.proofs.Which.{when_variable}

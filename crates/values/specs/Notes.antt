@@ -9,7 +9,6 @@ use Rattle.reach.specs.Partial.{OpenApart}
 use Rattle.reach.specs.Places.{type_at}
 use Rattle.machine.specs.Cells.{cell_word, cell_of, Cells}
 use Rattle.rows.specs.declared.Measured.{Measured}
-use Rattle.rows.specs.declared.Measured.TheVariants as Measured
 use Rattle.rows.specs.Values.{of_value, value_at}
 use Rattle.values.specs.Positions.{ClosedRowStands, byte_of}
 

@@ -1,9 +1,7 @@
 -- `bodies::bodies` meets its contract. The loop's invariant: the bodies from the present number on are what is left of all. The measure is their
 -- number. Rests on Functions.
-use Prim.Native.Nat.{◌-◌}
-use mathlib.Core.Path.{◌≡◌, refl, ◌∙◌}
-use lib.ListN.{length}
-use Rattle.bodies.proofs.Functions.{bodies_from, body_next, body_stops, bodies_done}
+use mathlib.Core.Path.{refl, ◌∙◌}
+use Rattle.bodies.proofs.Functions.{body_next, body_stops, bodies_done}
 use Rattle.bodies.proofs.bodies.Goals as goal
 
 pub loop-f-init : goal.loop-f-init

@@ -1,9 +1,9 @@
 -- `bodies::bodies` meets its contract. The loop's invariant: the bodies from the present number on are what is left of all. The measure is their
 -- number. Rests on Functions.
 use Prim.Native.Nat.{◌-◌}
-use mathlib.Core.Path.{◌≡◌, refl, ◌∙◌}
+use mathlib.Core.Path.{◌≡◌}
 use lib.ListN.{length}
-use Rattle.bodies.proofs.Functions.{bodies_from, body_next, body_stops, bodies_done}
+use Rattle.bodies.proofs.Functions.{bodies_from}
 use Rattle.bodies.proofs.bodies.Given as goal
 
 abbrev pub invariant-loop-f : goal.invariant-loop-f

@@ -1,11 +1,8 @@
 -- `cells::open_cells` meets its contract. The loop's invariant: the cells before the present one are open, with their types, and cell and place are as
 -- many on as cells are made. The measure is how many are left. Rests on Writing.
-use Prim.Native.Nat.{◌+◌, ◌-◌, ◌≤◌}
+use Prim.Native.Nat.{◌-◌}
 use mathlib.Core.Path.{◌≡◌}
 use native.Mathlib.Omega.{arith}
-use Rattle.reach.specs.Types.{even_slots}
-use Rattle.reach.specs.Places.{bytes_at}
-use Rattle.cells.specs.Writes.{Opens}
 use Rattle.cells.proofs.Writing.{opens_none, opens_next}
 use Rattle.cells.proofs.open_cells.Goals as goal
 

@@ -2,11 +2,9 @@
 -- many on as cells are made. The measure is how many are left. Rests on Writing.
 use Prim.Native.Nat.{◌+◌, ◌-◌, ◌≤◌}
 use mathlib.Core.Path.{◌≡◌}
-use native.Mathlib.Omega.{arith}
 use Rattle.reach.specs.Types.{even_slots}
 use Rattle.reach.specs.Places.{bytes_at}
 use Rattle.cells.specs.Writes.{Opens}
-use Rattle.cells.proofs.Writing.{opens_none, opens_next}
 use Rattle.cells.proofs.open_cells.Given as goal
 
 abbrev pub invariant-loop-more : goal.invariant-loop-more

@@ -1,12 +1,9 @@
 -- `depths::all_shallow` meets its contract. The loop's invariant: the types that are left are shallow if and only if all are, and place and number left add
 -- up to what they were. The measure is how many are left. Rests on lookups' Tables.
 use Prim.Native.Nat.{◌+◌}
-use native.Mathlib.Omega.{arith}
-use mathlib.Core.Path.{◌≡◌, refl}
-use borrow.Author.Tests.{le-ltb, lt-ltb, le-leb, lt-leb}
+use mathlib.Core.Path.{◌≡◌}
 use Rattle.reach.specs.Types.{shallow}
 use Rattle.reach.specs.Places.{bytes_at}
-use Rattle.lookups.proofs.Tables.{bytes_more, bytes_none}
 use Rattle.depths.proofs.all_shallow.Given as goal
 
 abbrev pub invariant-loop-more : goal.invariant-loop-more

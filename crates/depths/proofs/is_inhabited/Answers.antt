@@ -1,10 +1,8 @@
 -- `depths::is_inhabited` meets its contract. The loop's invariant: one of the constructors that are left has known fields if and only if one of all has;
 -- each takes at most 256 bytes, which bounds the place. The measure is how many are left. Rests on lookups' Tables.
-use Prim.Native.Nat.{◌+◌, ◌*◌, ◌≤◌}
 use native.Mathlib.Omega.{arith}
-use mathlib.Core.Path.{◌≡◌, refl}
+use mathlib.Core.Path.{refl}
 use Rattle.reach.specs.Types.{inhabited}
-use Rattle.reach.specs.Places.{constructors_at}
 use Rattle.lookups.proofs.Tables.{constructors_more, constructors_none}
 use Rattle.depths.proofs.is_inhabited.Goals as goal
 

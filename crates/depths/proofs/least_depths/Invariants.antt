@@ -1,12 +1,9 @@
 -- `depths::least_depths` meets its contract. The loop's invariant: the array is the one after the rounds made, which are no more than the types. The
 -- measure is how many more there may be. A round that changes nothing, or the last, leaves the least depths. Rests on Rounds.
 use Prim.Native.Nat.{◌-◌, ◌≤◌}
-use native.Mathlib.Omega.{arith}
-use mathlib.Core.Path.{◌≡◌, sym, ◌∙◌}
+use mathlib.Core.Path.{◌≡◌}
 use lib.ListN.{length}
-use borrow.Author.Tests.{not-true}
 use Rattle.depths.specs.Table.{array_after}
-use Rattle.depths.proofs.Rounds.{array_first, array_last, array_settled}
 use Rattle.depths.proofs.least_depths.Given as goal
 
 abbrev pub invariant-loop-made : goal.invariant-loop-made

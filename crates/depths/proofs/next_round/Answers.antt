@@ -1,12 +1,9 @@
 -- `depths::next_round` meets its contract. The loop's invariant: the numbers before type t are those after the round, the others as before, and while no
 -- change was noted the array is the old one. The measure is how many types are left. Rests on Rounds.
-use Prim.Native.Nat.{◌+◌, ◌-◌, ◌≤◌}
 use native.Mathlib.Omega.{arith}
-use mathlib.Core.Path.{◌≡◌, refl, sym}
-use mathlib.Core.Bool.{false, false≢true}
-use lib.ListN.{length}
-use Rattle.depths.specs.Table.{array_after}
-use Rattle.depths.proofs.Rounds.{written_to, round_next, round_done, kept_next}
+use mathlib.Core.Path.{refl, sym}
+use mathlib.Core.Bool.{false≢true}
+use Rattle.depths.proofs.Rounds.{round_next, round_done, kept_next}
 use Rattle.depths.proofs.next_round.Goals as goal
 
 pub loop-t-init : goal.loop-t-init

@@ -1,9 +1,8 @@
 -- `depths::none_empty` meets its contract. The loop's invariant: the test of the numbers from type t on is that of all. The measure is how many are left.
 -- Rests on Padded.
-use Prim.Native.Nat.{◌-◌}
 use native.Mathlib.Omega.{arith}
 use mathlib.Core.Path.{◌≡◌, refl}
-use lib.ListN.{length, take, drop, get_or}
+use lib.ListN.{length, get_or}
 use borrow.Author.Tests.{lt-ltb}
 use Rattle.reach.specs.RuleFile.{no_empty_type}
 use Rattle.depths.proofs.Padded.{front_more, front_done}

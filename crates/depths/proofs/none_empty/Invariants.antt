@@ -1,12 +1,9 @@
 -- `depths::none_empty` meets its contract. The loop's invariant: the test of the numbers from type t on is that of all. The measure is how many are left.
 -- Rests on Padded.
 use Prim.Native.Nat.{◌-◌}
-use native.Mathlib.Omega.{arith}
-use mathlib.Core.Path.{◌≡◌, refl}
-use lib.ListN.{length, take, drop, get_or}
-use borrow.Author.Tests.{lt-ltb}
+use mathlib.Core.Path.{◌≡◌}
+use lib.ListN.{take, drop}
 use Rattle.reach.specs.RuleFile.{no_empty_type}
-use Rattle.depths.proofs.Padded.{front_more, front_done}
 use Rattle.depths.proofs.none_empty.Given as goal
 
 abbrev pub invariant-loop-t : goal.invariant-loop-t

@@ -4,7 +4,7 @@
 use mathlib.Core.Path.{refl}
 use native.Mathlib.Omega.{arith}
 use Rattle.sizes.proofs.Standing.{stands_inside}
-use Rattle.entries.proofs.Walk.{Walked, walked_on, walked_to, walked_out}
+use Rattle.entries.proofs.Walk.{walked_on, walked_to, walked_out}
 use Rattle.entries.proofs.span_of.Goals as goal
 
 pub loop-more-init : goal.loop-more-init

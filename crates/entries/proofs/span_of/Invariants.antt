@@ -1,10 +1,7 @@
 -- `entries::span_of` meets its contract. The invariant is Walked: what is left of the walk gives what the whole gives, from a place inside
 -- the list. The measure is the number of entries still to pass.
 -- Rests on Walk and `size_at`.
-use mathlib.Core.Path.{refl}
-use native.Mathlib.Omega.{arith}
-use Rattle.sizes.proofs.Standing.{stands_inside}
-use Rattle.entries.proofs.Walk.{Walked, walked_on, walked_to, walked_out}
+use Rattle.entries.proofs.Walk.{Walked}
 use Rattle.entries.proofs.span_of.Given as goal
 
 abbrev pub invariant-loop-more : goal.invariant-loop-more

@@ -1,5 +1,5 @@
 -- `fitting::slots` meets its contract: each turn of the loop reads one value. Rests on Fitting and on rows' Rows.
-use Prim.Native.Nat.{◌+◌, ◌-◌, ◌≤◌, max}
+use Prim.Native.Nat.{◌+◌, ◌-◌, max}
 use mathlib.Core.Path.{◌≡◌, sym, ◌∙◌, ap}
 use native.Mathlib.Omega.{arith}
 use lib.ListN.{drop}

@@ -1,14 +1,10 @@
 -- `fitting::slots` meets its contract: each turn of the loop reads one value. Rests on Fitting and on rows' Rows.
-use Prim.Native.Nat.{◌+◌, ◌-◌, ◌≤◌, max}
-use mathlib.Core.Path.{◌≡◌, sym, ◌∙◌, ap}
-use native.Mathlib.Omega.{arith}
+use Prim.Native.Nat.{◌+◌, ◌-◌, ◌≤◌}
+use mathlib.Core.Path.{◌≡◌}
 use lib.ListN.{drop}
 use Rattle.reach.specs.Places.{bytes_at}
-use Rattle.rows.specs.declared.Measured.TheVariants as Measured
 use Rattle.rows.specs.Values.{of_row, slots_at}
 use Rattle.rows.specs.Stack.{joined}
-use Rattle.rows.proofs.Rows.{joined_twice}
-use Rattle.fitting.proofs.Fitting.{slots_whole, slots_done, slots_bad, slots_deep, slots_next}
 use Rattle.fitting.proofs.slots.Given as goal
 
 -- what is left of the row, from the place reached and this deep, comes to what all of it comes to

@@ -1,10 +1,8 @@
 -- `forks::next_fork` meets its contract. The loop's invariant: the constructors that a fork has yet to take from the first number on are those from number c
 -- on. The measure is how many numbers below 255 are left. Rests on Untried.
-use Prim.Native.Nat.{◌-◌, ◌≤◌}
-use mathlib.Core.Path.{◌≡◌, refl, ◌∙◌}
+use mathlib.Core.Path.{refl, ◌∙◌}
 use native.Mathlib.Omega.{arith}
 use Rattle.lookups.proofs.Tables.{near_at}
-use Rattle.forks.specs.Untried.{untried_in}
 use Rattle.forks.proofs.Untried.{untried_no_room, untried_end, found_none, found_fields, found_taken, found_left_out}
 use Rattle.forks.proofs.next_fork.Goals as goal
 

@@ -1,10 +1,9 @@
 -- `functionrecord::skip_function` meets its contract: the code goes through `function_record` in its order, and its end is `body_part`.
 -- Rests on typerecord's Answers, Counts and Tails, and on the answers of crate marks.
-use mathlib.Core.Path.{◌≡◌, sym, ◌∙◌}
+use mathlib.Core.Path.{sym, ◌∙◌}
 use native.Mathlib.Omega.{arith}
 use Rattle.reach.specs.Limits.{parameter_limit}
-use Rattle.reach.specs.Reader.{got}
-use Rattle.reach.specs.RuleFile.{counted, function_record}
+use Rattle.reach.specs.RuleFile.{function_record}
 use Rattle.marks.proofs.Answers.{byte_got, byte_short}
 use Rattle.typerecord.proofs.Answers.{bytes_got, bytes_refused}
 use Rattle.typerecord.proofs.Counts.{counted_got, counted_short, counted_over}

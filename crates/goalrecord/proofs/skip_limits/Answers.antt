@@ -1,11 +1,8 @@
 -- `goalrecord::skip_limits` meets its contract: the code goes through `limits_part` in its order.
 -- Rests on typerecord's Counts and on the answers of crate marks.
-use mathlib.Core.Path.{◌≡◌}
 use native.Mathlib.Omega.{arith}
 use borrow.Author.Tests.{le-leb, lt-leb}
 use Rattle.reach.specs.Limits.{depth_limit, step_limit}
-use Rattle.reach.specs.Reader.{got}
-use Rattle.reach.specs.RuleFile.{counted}
 use Rattle.typerecord.specs.Passed.{limits_part}
 use Rattle.marks.proofs.Answers.{byte_got, byte_short, word_got, word_short}
 use Rattle.typerecord.proofs.Counts.{counted_got, counted_short, counted_under, counted_over}

@@ -1,15 +1,12 @@
 -- `handed::list_fits` meets its contract: the entries one behind the other, up to the end of the list. Rests on Lists.
-use Prim.Native.Nat.{ℕ, ◌+◌, ◌≤◌}
+use Prim.Native.Nat.{ℕ, ◌+◌}
 use mathlib.Core.Path.{◌≡◌, refl, sym, ◌∙◌, ap, subst}
 use mathlib.Core.Bool.{true, false}
 use native.Mathlib.Omega.{arith}
 use lib.ListN.{length}
-use borrow.Author.Tests.{not-true, not-false}
-use Rattle.reach.specs.Syntax.{Program}
 use Rattle.lists.specs.Handed.{entry, entries_by}
 use Rattle.lists.proofs.ReadBack.{size_inside}
 use Rattle.sizes.specs.Sizes.{size_of}
-use Rattle.handed.specs.Fits.{AcceptedTables}
 use Rattle.handed.proofs.Lists.{found, all_read, too_long, at_last, over, none_there, unfit, fit}
 use Rattle.handed.proofs.list_fits.Goals as goal
 

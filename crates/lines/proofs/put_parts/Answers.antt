@@ -1,12 +1,9 @@
 -- `lines::put_parts` meets its contract. The invariant: what is left of the parameters gives what all of them give, and no byte takes more
 -- than 257 bytes of text.
 -- Rests on Writing and Lines.
-use Prim.Native.Nat.{◌+◌, ◌*◌, ◌-◌, ◌≤◌}
-use mathlib.Core.List.{map}
 use native.Mathlib.Omega.{arith}
-use lib.ListN.{length, get_or, drop}
-use Rattle.lists.specs.Text.{spaced, part_word}
-use Rattle.writing.proofs.Writing.{Left, left_whole, puts_length}
+use lib.ListN.{get_or}
+use Rattle.writing.proofs.Writing.{left_whole, puts_length}
 use Rattle.lines.proofs.Lines.{parts_next, parts_done, part_end}
 use Rattle.lines.proofs.put_parts.Goals as goal
 

@@ -3,11 +3,9 @@
 -- Rests on Writing and Lines.
 use Prim.Native.Nat.{◌+◌, ◌*◌, ◌-◌, ◌≤◌}
 use mathlib.Core.List.{map}
-use native.Mathlib.Omega.{arith}
-use lib.ListN.{length, get_or, drop}
+use lib.ListN.{length, drop}
 use Rattle.lists.specs.Text.{spaced, part_word}
-use Rattle.writing.proofs.Writing.{Left, left_whole, puts_length}
-use Rattle.lines.proofs.Lines.{parts_next, parts_done, part_end}
+use Rattle.writing.proofs.Writing.{Left}
 use Rattle.lines.proofs.put_parts.Given as goal
 
 abbrev pub invariant-loop-i : goal.invariant-loop-i

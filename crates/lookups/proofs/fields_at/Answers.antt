@@ -1,11 +1,9 @@
 -- `lookups::fields_at` meets its contract. The loop's invariant: constructor number `more` of those that begin at the place is the one that is
 -- looked for, and the place has passed at most 256 bytes for each constructor. The measure is what is left.
 -- Rests on Tables.
-use Prim.Native.Nat.{◌+◌, ◌-◌, ◌*◌, ◌≤◌}
+use Prim.Native.Nat.{◌+◌, ◌-◌}
 use mathlib.Core.Path.{◌≡◌, sym, ◌∙◌}
-use lib.ListN.{get_elem?}
 use native.Mathlib.Omega.{arith}
-use Rattle.reach.specs.Places.{constructors_at}
 use Rattle.lookups.proofs.Tables.{constructor_first, constructor_later, constructor_missing}
 use Rattle.lookups.proofs.fields_at.Goals as goal
 

@@ -2,11 +2,9 @@
 -- looked for, and the place has passed at most 256 bytes for each constructor. The measure is what is left.
 -- Rests on Tables.
 use Prim.Native.Nat.{◌+◌, ◌-◌, ◌*◌, ◌≤◌}
-use mathlib.Core.Path.{◌≡◌, sym, ◌∙◌}
+use mathlib.Core.Path.{◌≡◌}
 use lib.ListN.{get_elem?}
-use native.Mathlib.Omega.{arith}
 use Rattle.reach.specs.Places.{constructors_at}
-use Rattle.lookups.proofs.Tables.{constructor_first, constructor_later, constructor_missing}
 use Rattle.lookups.proofs.fields_at.Given as goal
 
 abbrev pub invariant-loop-more : goal.invariant-loop-more

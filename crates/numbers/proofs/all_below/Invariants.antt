@@ -1,12 +1,9 @@
 -- `numbers::all_below` meets its contract. The loop's invariant: the bytes that are left are all below the limit if and only if all are, and place and
 -- number left add up to what they were. The measure is how many are left. Rests on the tables of lookups.
 use Prim.Native.Nat.{◌+◌}
-use native.Mathlib.Omega.{arith}
-use mathlib.Core.Path.{◌≡◌, refl}
-use borrow.Author.Tests.{le-ltb, lt-ltb}
+use mathlib.Core.Path.{◌≡◌}
 use Rattle.reach.specs.RuleFile.{all_below}
 use Rattle.reach.specs.Places.{bytes_at}
-use Rattle.lookups.proofs.Tables.{bytes_more, bytes_none}
 use Rattle.numbers.proofs.all_below.Given as goal
 
 abbrev pub invariant-loop-more : goal.invariant-loop-more

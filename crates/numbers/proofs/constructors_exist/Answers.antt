@@ -1,11 +1,8 @@
 -- `numbers::constructors_exist` meets its contract. The loop's invariant: the test of the constructors that are left is that of all; each takes at most
 -- 256 bytes, which bounds the place. The measure is how many are left. Rests on the tables of lookups.
-use Prim.Native.Nat.{◌+◌, ◌*◌, ◌≤◌}
 use native.Mathlib.Omega.{arith}
-use mathlib.Core.Path.{◌≡◌, refl}
-use borrow.Author.Tests.{not-true, not-false}
+use mathlib.Core.Path.{refl}
 use Rattle.reach.specs.RuleFile.{constructors_exist}
-use Rattle.reach.specs.Places.{constructors_at}
 use Rattle.lookups.proofs.Tables.{constructors_more, constructors_none}
 use Rattle.numbers.proofs.constructors_exist.Goals as goal
 

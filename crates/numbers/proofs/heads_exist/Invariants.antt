@@ -1,14 +1,11 @@
 -- `numbers::heads_exist` meets its contract. The loop's invariant: the test of the functions from number f on is that of all. The measure is how many
 -- are left. Rests on the tables of lookups.
 use Prim.Native.Nat.{◌-◌}
-use native.Mathlib.Omega.{arith}
-use mathlib.Core.Path.{◌≡◌, refl}
+use mathlib.Core.Path.{◌≡◌}
 use mathlib.Core.List.{map}
 use lib.ListN.{length, drop}
-use borrow.Author.Tests.{not-true, not-false, le-ltb, lt-ltb}
 use Rattle.reach.specs.RuleFile.{heads_exist}
 use Rattle.reach.specs.Places.{head_at}
-use Rattle.lookups.proofs.Tables.{places_more, places_none}
 use Rattle.numbers.proofs.heads_exist.Given as goal
 
 abbrev pub invariant-loop-f : goal.invariant-loop-f

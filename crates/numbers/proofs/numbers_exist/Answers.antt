@@ -1,6 +1,5 @@
 -- `numbers::numbers_exist` meets its contract: the outline has as many types and functions as there are places. Rests on what the four tests ensure.
 use lib.ListN.{length-map}
-use borrow.Author.Tests.{not-true, not-false}
 use Rattle.reach.specs.RuleFile.{numbers_exist}
 use Rattle.reach.specs.Places.{type_at, head_at, declarations_at, outline_at}
 use Rattle.numbers.proofs.numbers_exist.Goals as goal

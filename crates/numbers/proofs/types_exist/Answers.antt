@@ -1,13 +1,8 @@
 -- `numbers::types_exist` meets its contract. The loop's invariant: the test of the types from number t on is that of all. The measure is how many are
 -- left. Rests on the tables of lookups.
-use Prim.Native.Nat.{◌-◌}
 use native.Mathlib.Omega.{arith}
-use mathlib.Core.Path.{◌≡◌, refl}
-use mathlib.Core.List.{map}
-use lib.ListN.{length, drop}
-use borrow.Author.Tests.{not-true, not-false}
+use mathlib.Core.Path.{refl}
 use Rattle.reach.specs.RuleFile.{types_exist}
-use Rattle.reach.specs.Places.{type_at}
 use Rattle.lookups.proofs.Tables.{places_more, places_none}
 use Rattle.numbers.proofs.types_exist.Goals as goal
 

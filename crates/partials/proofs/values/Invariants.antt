@@ -1,11 +1,9 @@
 -- `partials::values` meets its contract: the loop's invariant is Frames' Reading, that the row and the stack come to what the whole row comes to.
 -- The measure: each turn takes a byte of the list, or takes a row off the stack. Rests on Frames.
 use Prim.Native.Nat.{◌+◌, ◌-◌, ◌*◌}
-use mathlib.Core.Path.{refl, sym}
 use lib.ListN.{length}
-use native.Mathlib.Omega.{arith}
 use Rattle.rows.specs.Stack.{of_rest}
-use Rattle.partials.proofs.Frames.{Reading, begun, last_waits, ended, popped, stopped, passed, pushed, part_near, node_near}
+use Rattle.partials.proofs.Frames.{Reading}
 use Rattle.partials.proofs.values.Given as goal
 
 abbrev pub invariant-loop-top : goal.invariant-loop-top

@@ -1,15 +1,12 @@
 -- `printing::put_list` meets its contract. The invariant: what is left of the text, from a place inside the list and with the counts so far,
 -- gives what the whole gives.
 -- Rests on Walk, on writing's Writing and on sizes' Standing.
-use Prim.Native.Nat.{◌*◌, ◌≤◌}
 use native.Mathlib.Omega.{arith}
 use lib.ListN.{length}
 use Rattle.reach.specs.Lists.{decoded_from}
-use Rattle.lists.specs.Text.{text_of}
 use Rattle.sizes.proofs.Standing.{stands_inside}
-use Rattle.lines.specs.Counting.{Few}
-use Rattle.writing.proofs.Writing.{Left, left_whole, puts_length}
-use Rattle.printing.proofs.Walk.{text_from, text_whole, few_more, size_some, part_least, part_most, line_next, last_no_entry, last_over}
+use Rattle.writing.proofs.Writing.{left_whole, puts_length}
+use Rattle.printing.proofs.Walk.{text_whole, few_more, size_some, part_least, part_most, line_next, last_no_entry, last_over}
 use Rattle.printing.proofs.put_list.Goals as goal
 
 pub loop-more-init : goal.loop-more-init

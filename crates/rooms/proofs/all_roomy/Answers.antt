@@ -1,11 +1,7 @@
 -- `rooms::all_roomy` meets its contract: each turn of the loop tests one parameter. The loop's invariant: the parameters that are left pass if and only if
 -- all do. Rests on Rooms.
-use Prim.Native.Nat.{◌+◌, ◌-◌, ◌≤◌}
-use mathlib.Core.Path.{◌≡◌, ◌∙◌}
+use mathlib.Core.Path.{◌∙◌}
 use native.Mathlib.Omega.{arith}
-use lib.ListN.{drop}
-use Rattle.reach.specs.Types.{slots, roomy}
-use Rattle.reach.specs.Places.{bytes_at}
 use Rattle.rooms.proofs.Rooms.{roomy_whole, roomy_fails, roomy_next, roomy_done}
 use Rattle.rooms.proofs.all_roomy.Goals as goal
 

@@ -1,12 +1,10 @@
 -- `rooms::all_roomy` meets its contract: each turn of the loop tests one parameter. The loop's invariant: the parameters that are left pass if and only if
 -- all do. Rests on Rooms.
 use Prim.Native.Nat.{◌+◌, ◌-◌, ◌≤◌}
-use mathlib.Core.Path.{◌≡◌, ◌∙◌}
-use native.Mathlib.Omega.{arith}
+use mathlib.Core.Path.{◌≡◌}
 use lib.ListN.{drop}
 use Rattle.reach.specs.Types.{slots, roomy}
 use Rattle.reach.specs.Places.{bytes_at}
-use Rattle.rooms.proofs.Rooms.{roomy_whole, roomy_fails, roomy_next, roomy_done}
 use Rattle.rooms.proofs.all_roomy.Given as goal
 
 abbrev pub invariant-loop-i : goal.invariant-loop-i

@@ -4,7 +4,7 @@
 use Prim.Native.Nat.{◌+◌}
 use native.Mathlib.Omega.{arith}
 use lib.ListN.{length}
-use borrow.Author.Tests.{le-leb, lt-leb, not-true, not-false}
+use borrow.Author.Tests.{le-leb, lt-leb}
 use Rattle.reach.specs.Lists.{entry_size}
 use Rattle.sizes.proofs.size_at.Goals as goal
 

@@ -1,10 +1,9 @@
 -- `skipping::fill_ends` meets its contract. The loop's invariant: the entries from the place on are filled, the place is one of the file, and the table
 -- keeps its length. The measure is the place. Rests on Filling.
-use Prim.Native.Nat.{◌+◌, ◌-◌, ◌≤◌}
+use Prim.Native.Nat.{◌+◌, ◌-◌}
 use mathlib.Core.Path.{◌≡◌, refl, ◌∙◌}
-use lib.ListN.{length, length-set}
+use lib.ListN.{length-set}
 use native.Mathlib.Omega.{arith}
-use Rattle.skipping.specs.Ends.{EndsFrom}
 use Rattle.skipping.proofs.Filling.{none_filled, one_filled, all_filled}
 use Rattle.skipping.proofs.fill_ends.Goals as goal
 

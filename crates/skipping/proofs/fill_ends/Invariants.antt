@@ -1,11 +1,9 @@
 -- `skipping::fill_ends` meets its contract. The loop's invariant: the entries from the place on are filled, the place is one of the file, and the table
 -- keeps its length. The measure is the place. Rests on Filling.
-use Prim.Native.Nat.{◌+◌, ◌-◌, ◌≤◌}
-use mathlib.Core.Path.{◌≡◌, refl, ◌∙◌}
-use lib.ListN.{length, length-set}
-use native.Mathlib.Omega.{arith}
+use Prim.Native.Nat.{◌≤◌}
+use mathlib.Core.Path.{◌≡◌}
+use lib.ListN.{length}
 use Rattle.skipping.specs.Ends.{EndsFrom}
-use Rattle.skipping.proofs.Filling.{none_filled, one_filled, all_filled}
 use Rattle.skipping.proofs.fill_ends.Given as goal
 
 abbrev pub invariant-loop-at : goal.invariant-loop-at

@@ -1,10 +1,8 @@
 -- `skipping::pass_alternatives` meets its contract. The loop's invariant: what is left to pass over leads where the whole does, and the place is at most
 -- one higher for each alternative passed than the start or the highest entry. The measure is what is left.
 -- Rests on Finding.
-use Prim.Native.Nat.{max, ◌+◌, ◌≤◌}
-use mathlib.Core.Path.{◌≡◌, refl, sym, ◌∙◌}
+use mathlib.Core.Path.{refl, sym, ◌∙◌}
 use native.Mathlib.Omega.{arith}
-use Rattle.skipping.specs.Ends.{passed_alternatives}
 use Rattle.skipping.proofs.Finding.{alternatives_none, alternatives_more}
 use Rattle.skipping.proofs.pass_alternatives.Goals as goal
 

@@ -2,10 +2,8 @@
 -- one higher for each alternative passed than the start or the highest entry. The measure is what is left.
 -- Rests on Finding.
 use Prim.Native.Nat.{max, ◌+◌, ◌≤◌}
-use mathlib.Core.Path.{◌≡◌, refl, sym, ◌∙◌}
-use native.Mathlib.Omega.{arith}
+use mathlib.Core.Path.{◌≡◌}
 use Rattle.skipping.specs.Ends.{passed_alternatives}
-use Rattle.skipping.proofs.Finding.{alternatives_none, alternatives_more}
 use Rattle.skipping.proofs.pass_alternatives.Given as goal
 
 abbrev pub invariant-loop-left : goal.invariant-loop-left

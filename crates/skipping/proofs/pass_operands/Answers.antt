@@ -1,7 +1,6 @@
 -- `skipping::pass_operands` meets its contract. The loop's invariant: what is left to pass over leads where the whole does. The measure is what is left.
 -- Rests on Finding.
-use mathlib.Core.Path.{◌≡◌, refl, sym, ◌∙◌}
-use Rattle.skipping.specs.Ends.{passed_operands}
+use mathlib.Core.Path.{refl, sym, ◌∙◌}
 use Rattle.skipping.proofs.Finding.{operands_none, operands_more}
 use Rattle.skipping.proofs.pass_operands.Goals as goal
 

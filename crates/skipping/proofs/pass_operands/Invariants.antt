@@ -1,8 +1,7 @@
 -- `skipping::pass_operands` meets its contract. The loop's invariant: what is left to pass over leads where the whole does. The measure is what is left.
 -- Rests on Finding.
-use mathlib.Core.Path.{◌≡◌, refl, sym, ◌∙◌}
+use mathlib.Core.Path.{◌≡◌}
 use Rattle.skipping.specs.Ends.{passed_operands}
-use Rattle.skipping.proofs.Finding.{operands_none, operands_more}
 use Rattle.skipping.proofs.pass_operands.Given as goal
 
 abbrev pub invariant-loop-more : goal.invariant-loop-more

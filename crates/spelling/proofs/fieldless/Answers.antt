@@ -1,10 +1,8 @@
 -- `spelling::fieldless` meets its contract. The loop's invariant: the test of the constructors that are left is that of all, and place and number left
 -- add up to what they were, since none that was passed has a field. The measure is how many are left. Rests on Forms.
-use Prim.Native.Nat.{◌+◌}
 use native.Mathlib.Omega.{arith}
-use mathlib.Core.Path.{◌≡◌, refl, sym, ◌∙◌}
+use mathlib.Core.Path.{refl, sym, ◌∙◌}
 use Rattle.reach.specs.Names.{fieldless}
-use Rattle.reach.specs.Places.{constructors_at}
 use Rattle.lookups.proofs.Tables.{constructors_none}
 use Rattle.spelling.proofs.Forms.{field_here, none_here}
 use Rattle.spelling.proofs.fieldless.Goals as goal

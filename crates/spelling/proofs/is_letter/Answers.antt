@@ -1,7 +1,6 @@
 -- `spelling::is_letter` meets its contract: the fields of constructor 1 are looked up, and each is held to what a letter has there. Rests on Forms.
 use mathlib.Core.Path.{sym}
 use native.Mathlib.Omega.{arith}
-use borrow.Author.Tests.{not-true, not-false}
 use Rattle.lookups.proofs.Tables.{near_at}
 use Rattle.spelling.proofs.Forms.{no_letter, not_three, three}
 use Rattle.spelling.proofs.is_letter.Goals as goal

@@ -1,7 +1,6 @@
 -- `turning::own_fields` meets its contract: a result that is an expression is a construction, and stands in the file. Rests on Results.
 use Prim.Native.Nat.{◌<◌}
 use native.Mathlib.Omega.{arith}
-use Rattle.reach.proofs.Base.{clash}
 use Rattle.turning.proofs.Results.{by_result}
 use Rattle.turning.proofs.own_fields.Goals as goal
 

@@ -1,9 +1,7 @@
 -- `typerecord::skip_constructors` meets its contract. The loop's invariant: the constructors that are left, read from the place reached, come to what
 -- all of them come to. The measure is how many are left. Rests on Passing.
-use mathlib.Core.Path.{◌≡◌, refl, sym, ◌∙◌}
-use Rattle.reach.specs.Reader.{times}
+use mathlib.Core.Path.{refl, sym, ◌∙◌}
 use Rattle.reach.specs.RuleFile.{constructor_record}
-use Rattle.typerecord.specs.Passed.{passed_of}
 use Rattle.typerecord.proofs.Passing.{times_done, times_next, times_stops}
 use Rattle.typerecord.proofs.skip_constructors.Goals as goal
 

@@ -1,8 +1,6 @@
 -- `unfolding::group_of` meets its contract. The loop's invariant: the group is on the walk outward, and no later a record than where the walk began. The
 -- measure is the group's record: the one outside it is earlier. Rests on Walks.
-use Prim.Native.Nat.{◌≤◌}
 use native.Mathlib.Omega.{arith}
-use Rattle.registers.specs.Stepping.{Outward}
 use Rattle.registers.proofs.Walks.{walk_here, walk_outward, walk_less}
 use Rattle.unfolding.proofs.group_of.Goals as goal
 

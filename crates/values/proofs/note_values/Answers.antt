@@ -1,13 +1,12 @@
 -- `values::note_values` meets its contract. The loop's invariant: the places of the values before the present one are noted, where the row is read and
 -- one is left the present one stands at `place`, and cell and field are as many on as places are noted. The measure is how many are left. Rests on Noting.
-use Prim.Native.Nat.{◌+◌, ◌-◌, ◌≤◌, ◌<◌}
+use Prim.Native.Nat.{◌-◌}
 use mathlib.Core.Path.{◌≡◌}
 use native.Mathlib.Omega.{arith}
 use lib.ListN.{length}
 use Rattle.reach.specs.Places.{bytes_at}
 use Rattle.reach.proofs.Places.{bytes_length}
-use Rattle.values.specs.Notes.{NotedFirst}
-use Rattle.values.proofs.Noting.{Reached, reached_first, noted_none, noted_next, reached_more}
+use Rattle.values.proofs.Noting.{reached_first, noted_none, noted_next, reached_more}
 use Rattle.values.proofs.note_values.Goals as goal
 
 pub loop-more-init : goal.loop-more-init

@@ -2,12 +2,9 @@
 -- one is left the present one stands at `place`, and cell and field are as many on as places are noted. The measure is how many are left. Rests on Noting.
 use Prim.Native.Nat.{◌+◌, ◌-◌, ◌≤◌, ◌<◌}
 use mathlib.Core.Path.{◌≡◌}
-use native.Mathlib.Omega.{arith}
-use lib.ListN.{length}
 use Rattle.reach.specs.Places.{bytes_at}
-use Rattle.reach.proofs.Places.{bytes_length}
 use Rattle.values.specs.Notes.{NotedFirst}
-use Rattle.values.proofs.Noting.{Reached, reached_first, noted_none, noted_next, reached_more}
+use Rattle.values.proofs.Noting.{Reached}
 use Rattle.values.proofs.note_values.Given as goal
 
 abbrev pub invariant-loop-more : goal.invariant-loop-more
