@@ -21,10 +21,8 @@ use Rattle.reach.proofs.Base.{clash}
 use Rattle.readings.proofs.Demands as Readings
 use Rattle.reach.proofs.Limits.{within_limit}
 use Rattle.inputs.specs.declared.Reading.{Reading}
-use Rattle.inputs.specs.declared.Reading.TheVariants as Reading
 use Rattle.inputs.specs.Depth.{input_at, reading_of}
 use Rattle.results.specs.declared.CheckResult.{CheckResult}
-use Rattle.results.specs.declared.CheckResult.TheVariants as CheckResult
 use Rattle.rulefile.specs.declared.Loaded.{Loaded}
 use Rattle.rulefile.specs.Loading.{type_places, function_places, Tabled, Loads}
 use Rattle.rulefile.proofs.Tabled.{program_goal}
@@ -37,7 +35,6 @@ use Rattle.results.specs.Results.{run_result}
 use Rattle.closed.specs.Answering.{Leaves, RunPromise, HasRun}
 use Rattle.closed.specs.Evaluating.{Runnable, RunsAs}
 use Rattle.results.specs.declared.RunResult.{RunResult}
-use Rattle.results.specs.declared.RunResult.TheVariants as RunResult
 
 -- what a call promises of its own answer holds of the definition's
 pub run_so : {file input work work' : List ℕ} {r : RunResult} → RunPromise file input work work' r → HasRun file input work work'

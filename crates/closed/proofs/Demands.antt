@@ -34,7 +34,6 @@ use Rattle.readings.proofs.Demands as Readings
 use Rattle.reach.proofs.Refusals.{turned_back_by}
 use Rattle.running.specs.Looked.{LookedAt}
 use Rattle.results.specs.declared.RunResult.{RunResult}
-use Rattle.results.specs.declared.RunResult.TheVariants as RunResult
 use Rattle.results.specs.Results.{run_result}
 use Rattle.closed.specs.Answering.{Unchanged, Leaves, RunPromise, IsInput}
 

@@ -10,7 +10,6 @@ use Rattle.reach.specs.Input.{input_of}
 use Rattle.reach.specs.Answers.{check, accepted, run_answer}
 use Rattle.running.specs.Looked.{LookedAt}
 use Rattle.results.specs.declared.RunResult.{RunResult}
-use Rattle.results.specs.declared.RunResult.TheVariants as RunResult
 use Rattle.results.specs.Results.{run_result}
 
 -- A refusal changes no word, and a run none behind its first 64 S + 1,024 words.

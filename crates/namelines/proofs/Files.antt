@@ -13,7 +13,7 @@ use Rattle.reach.specs.Parts.{Parts, end, opened, bound}
 use Rattle.reach.specs.Types.{Slot, slots, even_slots, slot_types, source_slots}
 use Rattle.reach.specs.Partial.{Keeps}
 use Rattle.reach.specs.Search.{Entry}
-use Rattle.reach.specs.Names.{Spells, spells}
+use Rattle.reach.specs.Names.{Spells}
 use Rattle.reach.specs.Answers.{check, accepted}
 use Rattle.lists.specs.Handed.{Fitting, IsList}
 use Rattle.reach.specs.Places.{type_at, head_at}
@@ -33,7 +33,6 @@ use Rattle.goal.specs.Goals.{named_of}
 use Rattle.lookups.specs.declared.Head.{Head}
 use Rattle.lookups.specs.Heads.{head_of, NearHead}
 use Rattle.results.specs.declared.CheckResult.{CheckResult}
-use Rattle.results.specs.declared.CheckResult.TheVariants as CheckResult
 use Rattle.rulefile.specs.declared.Loaded.{Loaded}
 use Rattle.rulefile.specs.Loading.{type_places, function_places, Tabled, LoadsAs, Loads}
 use Rattle.rulefile.proofs.Tabled.{program_types, types_many, program_goal, program_named, program_source_types, program_least}

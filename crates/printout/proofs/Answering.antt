@@ -23,7 +23,6 @@ use Rattle.reach.proofs.Base.{clash}
 use Rattle.lists.proofs.Handed.{handed_exactly, handed_text}
 use Rattle.lists.proofs.Printouts.{printout_bytes}
 use Rattle.results.specs.declared.CheckResult.{CheckResult}
-use Rattle.results.specs.declared.CheckResult.TheVariants as CheckResult
 use Rattle.rulefile.specs.declared.Loaded.{Loaded}
 use Rattle.rulefile.specs.Loading.{type_places, function_places, Tabled, Loads}
 use Rattle.rulefile.proofs.Tabled.{program_types, program_goal, program_source_types, program_least}
@@ -31,7 +30,6 @@ use Rattle.loaded.proofs.Loaded.{loaded_accepted, loaded_refused}
 use Rattle.handed.specs.Fits.{AcceptedTables, FitsList}
 use Rattle.writing.specs.Writing.{fronted, Fronts}
 use Rattle.results.specs.declared.TextResult.{TextResult}
-use Rattle.results.specs.declared.TextResult.TheVariants as TextResult
 use Rattle.results.specs.Results.{text_result}
 use Rattle.printout.specs.Answering.{judged_of, Judges, LengthPromise, WritePromise}
 

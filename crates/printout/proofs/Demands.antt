@@ -27,7 +27,6 @@ use Rattle.lists.proofs.Total.{text_shares, text_share}
 use Rattle.printing.specs.Bound.{text_bound}
 use Rattle.printing.proofs.Lengths.{text_short}
 use Rattle.results.specs.declared.TextResult.{TextResult}
-use Rattle.results.specs.declared.TextResult.TheVariants as TextResult
 use Rattle.results.specs.Results.{text_result}
 use Rattle.printout.specs.Answering.{LengthPromise, WritePromise}
 

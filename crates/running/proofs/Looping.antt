@@ -5,7 +5,6 @@ use mathlib.Core.Path.{◌≡◌, sym, ◌∙◌, ap, subst}
 use mathlib.Core.List.{List}
 use native.Mathlib.Omega.{arith}
 use Rattle.reach.specs.declared.Outcome.{Outcome}
-use Rattle.reach.specs.declared.Outcome.TheVariants as Outcome
 use Rattle.reach.specs.Syntax.{Program}
 use Rattle.reach.specs.Parts.{Parts, ◌⊑◌}
 use Rattle.reach.specs.Eval.{State, start, eval}
@@ -14,9 +13,7 @@ use Rattle.reach.specs.States.{Steps}
 use Rattle.reach.specs.Answers.{outcome_of}
 use Rattle.registers.specs.declared.Registers.{Registers}
 use Rattle.registers.specs.declared.Next.{Next}
-use Rattle.registers.specs.declared.Next.TheVariants as Next
 use Rattle.steps.specs.declared.Halt.{Halt}
-use Rattle.steps.specs.declared.Halt.TheVariants as Halt
 use Rattle.steps.specs.declared.Ran.{Ran}
 use Rattle.registers.specs.Stepping.{Standing, Stepped}
 use Rattle.steps.specs.Running.{StepsTo, no_step, one_more, Onward, ComesToHalt, RunsOn}

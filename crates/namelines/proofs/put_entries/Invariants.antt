@@ -1,20 +1,12 @@
 -- `namelines::put_entries` meets its contract: each turn of the loop writes the lines of one entry, and goes on behind it.
 -- Rests on Entries.
-use Prim.Native.Nat.{ℕ, ◌-◌, ◌≤◌}
-use mathlib.Core.Path.{◌≡◌, sym, ◌∙◌, ap}
-use mathlib.Core.List.{List, map}
-use mathlib.Core.Option.{some, some-injective, none-ne-some}
-use native.Mathlib.Omega.{arith}
+use Prim.Native.Nat.{◌-◌, ◌≤◌}
+use mathlib.Core.List.{map}
 use lib.ListN.{length}
 use Rattle.reach.specs.Places.{type_at}
-use Rattle.reach.specs.Lists.{entry_size}
-use Rattle.writing.proofs.Writing.{puts_length}
-use Rattle.sizes.specs.declared.Size.{Size}
-use Rattle.sizes.specs.declared.Size.TheVariants as Size
-use Rattle.sizes.specs.Sizes.{size_of}
 use Rattle.namelines.specs.Rows.{types_asked}
 use Rattle.namelines.specs.Lists.{list_names}
-use Rattle.namelines.proofs.Entries.{NamesLeft, going_whole, going_end, going_more, going_done}
+use Rattle.namelines.proofs.Entries.{NamesLeft}
 use Rattle.namelines.proofs.put_entries.Given as goal
 
 -- the rest of the list stands from the place reached on, and its names are still to be written

@@ -1,15 +1,11 @@
 -- `namelines::put_entry` meets its contract: each turn of the loop writes the line of one parameter, if it is a name, and passes over it.
 -- Rests on Onward.
 use Prim.Native.Nat.{◌+◌}
-use mathlib.Core.Path.{◌≡◌, refl, sym, ◌∙◌}
+use mathlib.Core.Path.{◌≡◌}
 use mathlib.Core.List.{map}
-use native.Mathlib.Omega.{arith}
 use Rattle.reach.specs.Places.{bytes_at, type_at}
-use Rattle.reach.proofs.Base.{clash}
-use Rattle.writing.proofs.Writing.{puts_length}
-use Rattle.lookups.proofs.Tables.{bytes_none}
 use Rattle.namelines.specs.Rows.{row_names, row_read, types_asked}
-use Rattle.namelines.proofs.Onward.{Onward, onward_whole, next_place, place_inside, spelt_there, onward_next, onward_done, onward_end, row_length, turned}
+use Rattle.namelines.proofs.Onward.{Onward}
 use Rattle.namelines.proofs.put_entry.Given as goal
 
 -- the rest of the row stands from the place reached on, and its names are still to be written; the types of the rest stand in the file from `field` on

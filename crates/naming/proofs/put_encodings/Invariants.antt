@@ -1,6 +1,6 @@
 -- The loop of `naming::put_encodings`: the encodings of the letters that are left give what those of all give. The measure is what is left of the list.
 -- Rests on Letters, Lines and crate writing's Writing.
-use Prim.Native.Nat.{◌+◌, ◌-◌, ◌≤◌, ◌<◌}
+use Prim.Native.Nat.{◌-◌, ◌≤◌}
 use mathlib.Core.List.{flat_map}
 use lib.ListN.{length, drop}
 use Rattle.names.specs.NameList.{utf8}

@@ -1,6 +1,6 @@
 -- The loop of `naming::put_letters`: what is left of the letters gives what all of them give. The measure is what is left of the list.
 -- Rests on Letters, Lines and crate writing's Writing.
-use Prim.Native.Nat.{◌+◌, ◌-◌, ◌≤◌, ◌<◌}
+use Prim.Native.Nat.{◌-◌, ◌≤◌}
 use lib.ListN.{length, drop}
 use Rattle.writing.proofs.Writing.{Left}
 use Rattle.naming.specs.Letters.{letters, Spelt}

@@ -5,7 +5,6 @@ use mathlib.Core.Path.{◌≡◌, sym, ◌∙◌}
 use mathlib.Core.Bool.{true}
 use native.Mathlib.Omega.{arith}
 use lib.ListN.{length}
-use borrow.Author.Tests.{not-true, not-false}
 use Rattle.writing.proofs.Digits.{decimal_few}
 use Rattle.naming.specs.Letters.{letter_here}
 use Rattle.naming.proofs.Letters.{letter_room, spelt_next}

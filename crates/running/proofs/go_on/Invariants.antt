@@ -1,11 +1,9 @@
 -- `running::go_on` meets its contract. The invariant: from the beginning the run came to here. The measure is the steps left: each turn makes at least one.
 -- Rests on Looping.
 use Prim.Native.Nat.{◌≤◌, ◌-◌}
-use mathlib.Core.Path.{◌≡◌, refl}
-use native.Mathlib.Omega.{arith}
+use mathlib.Core.Path.{◌≡◌}
 use lib.ListN.{length}
 use Rattle.running.specs.Running.{LedTo}
-use Rattle.running.proofs.Looping.{came_first, came_onward, halt_demands, halt_stops, halt_spent, halt_lacks, halt_waits, halt_enters, halt_last}
 use Rattle.running.proofs.go_on.Given as goal
 
 abbrev pub invariant-loop-x : goal.invariant-loop-x
