@@ -22,7 +22,6 @@ use Rattle.machine.specs.Cells.{cell_of}
 use Rattle.machine.proofs.Cells.{kept_cells}
 use Rattle.registers.specs.declared.Registers.{Registers}
 use Rattle.registers.specs.declared.Next.{Next}
-use Rattle.registers.specs.declared.Next.TheVariants as Next
 use Rattle.registers.specs.Stepping.{Standing, StepMeans, Stepped}
 use Rattle.steps.specs.Running.{StepsTo, no_step, one_more}
 use Rattle.points.specs.Points.{Pushes}
@@ -33,7 +32,6 @@ use Rattle.choices.proofs.Pushing.{new_choice, choices_pushed}
 use Rattle.choices.proofs.Taking.{step_kept, path_stays, path_goes}
 use Rattle.choices.proofs.Weights.{power_positive, power_more, weight_kept, weight_pushed}
 use Rattle.choices.proofs.Returning.{limit_few}
-use Rattle.arriving.specs.declared.Walk.{Walk}
 use Rattle.arriving.specs.declared.Moved.{Moved}
 use Rattle.arriving.specs.Moving.{ended_walk, UnderWay, EntryIn, PathLists, Makes}
 

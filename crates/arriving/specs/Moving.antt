@@ -20,7 +20,6 @@ use Rattle.choices.specs.Choices.{Setting, Given, Path, ChoicesAt}
 use Rattle.choices.specs.Weights.{power, weight}
 use Rattle.choices.specs.Returning.{setting, NextAt}
 use Rattle.arriving.specs.declared.Position.{Position}
-use Rattle.arriving.specs.declared.Position.TheVariants as Position
 use Rattle.arriving.specs.declared.Walk.{Walk}
 use Rattle.arriving.specs.declared.Moved.{Moved}
 

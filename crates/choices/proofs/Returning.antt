@@ -14,7 +14,6 @@ use Rattle.reach.specs.Moves.{Choice, behind, take_fork, return}
 use Rattle.reach.proofs.Limits.{accepted_keeps}
 use Rattle.machine.specs.Cells.{cell_word}
 use Rattle.forks.specs.declared.Candidate.{Candidate}
-use Rattle.forks.specs.declared.Candidate.TheVariants as Candidate
 use Rattle.forks.specs.Untried.{untried}
 use Rattle.forks.proofs.Untried.{untried_padded}
 use Rattle.choices.specs.declared.Return.TheVariants as Return

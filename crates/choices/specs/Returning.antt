@@ -11,7 +11,6 @@ use Rattle.machine.specs.Cells.{cell_word}
 use Rattle.forks.specs.Untried.{untried}
 use Rattle.points.specs.Points.{choice_word, reopened}
 use Rattle.choices.specs.declared.Return.{Return}
-use Rattle.choices.specs.declared.Return.TheVariants as Return
 use Rattle.choices.specs.Choices.{Setting, Given, ChoiceAt, ChoicesAt}
 use Rattle.choices.specs.Weights.{weight}
 

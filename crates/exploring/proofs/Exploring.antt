@@ -10,7 +10,6 @@ use lib.ListN.{length}
 use lib.Dec.{ltb}
 use borrow.Author.Tests.{ltb-true, ltb-false}
 use Rattle.reach.specs.declared.Verdict.{Verdict}
-use Rattle.reach.specs.declared.Verdict.TheVariants as Verdict
 use Rattle.reach.specs.Syntax.{Program}
 use Rattle.reach.specs.Parts.{Parts, prefix}
 use Rattle.reach.specs.Types.{source_slots, least_depths}
@@ -34,7 +33,6 @@ use Rattle.arriving.specs.declared.Walk.{Walk}
 use Rattle.arriving.specs.declared.Moved.{Moved}
 use Rattle.arriving.specs.Moving.{position_of, PositionAt, StandsAs, EntryIn, PathLists, walk_weight, Makes, ActiveAt, Active, SearchStands, Moves}
 use Rattle.listing.specs.declared.Written.{Written}
-use Rattle.listing.specs.declared.Written.TheVariants as Written
 use Rattle.listing.specs.Entry.{InputIn, Listable, entry_for, WroteFor, WroteEntry}
 use Rattle.headers.proofs.Bytes.{entry_length}
 use Rattle.results.specs.declared.SearchResult.TheVariants as SearchResult

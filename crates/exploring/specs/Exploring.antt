@@ -16,10 +16,8 @@ use Rattle.choices.specs.Returning.{setting}
 use Rattle.arriving.specs.declared.Walk.{Walk}
 use Rattle.arriving.specs.Moving.{UnderWay, Active}
 use Rattle.listing.specs.declared.Written.{Written}
-use Rattle.listing.specs.declared.Written.TheVariants as Written
 use Rattle.listing.specs.Entry.{Listable, WroteEntry}
 use Rattle.results.specs.declared.SearchResult.{SearchResult}
-use Rattle.results.specs.declared.SearchResult.TheVariants as SearchResult
 
 -- the walk at the beginning
 abbrev pub first_walk : ℕ → Registers → Walk

@@ -25,7 +25,6 @@ use Rattle.lookups.specs.Fields.{fields_in, FieldCount}
 use Rattle.cells.proofs.Rooms.{cell_room}
 use Rattle.registers.specs.declared.Registers.{Registers}
 use Rattle.registers.specs.declared.Next.{Next}
-use Rattle.registers.specs.declared.Next.TheVariants as Next
 use Rattle.registers.specs.Stepping.{part_kind, StepMeans, Stepped}
 use Rattle.choosing.specs.Entering.{AtBoundPart}
 use Rattle.registers.proofs.Waiting.{waits_control}

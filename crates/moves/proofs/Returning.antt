@@ -15,13 +15,11 @@ use Rattle.reach.specs.Moves as Model
 use Rattle.reach.specs.Moves.{Choice, move_from, return}
 use Rattle.registers.specs.declared.Registers.{Registers}
 use Rattle.choices.specs.declared.Return.{Return}
-use Rattle.choices.specs.declared.Return.TheVariants as Return
 use Rattle.choices.specs.Choices.{Given, ChoicesAt}
 use Rattle.choices.specs.Weights.{power, weight}
 use Rattle.choices.specs.Returning.{setting, ReturnMeans, Returns, SomeChoices}
 use Rattle.choices.proofs.Weights.{weight_some}
 use Rattle.arriving.specs.declared.Position.{Position}
-use Rattle.arriving.specs.declared.Position.TheVariants as Position
 use Rattle.arriving.specs.declared.Walk.{Walk}
 use Rattle.arriving.specs.declared.Moved.{Moved}
 use Rattle.arriving.specs.Moving.{position_of, ended_walk, PositionAt, StandsAs, position_weight, walk_weight, OnPath, ResumesAt, SomeUnderWay, Arrives, SomeForking, Takes, ActiveAt, Active, Resumable, Resumes, SearchStands, Moves}

@@ -11,10 +11,8 @@ use Rattle.lists.specs.Printouts.{no_text, of_length}
 use Rattle.reach.proofs.Base.{clash}
 use Rattle.results.specs.declared.CheckResult.TheVariants as CheckResult
 use Rattle.results.specs.declared.SearchResult.{SearchResult}
-use Rattle.results.specs.declared.SearchResult.TheVariants as SearchResult
 use Rattle.results.specs.declared.RunResult.TheVariants as RunResult
 use Rattle.results.specs.declared.TextResult.{TextResult}
-use Rattle.results.specs.declared.TextResult.TheVariants as TextResult
 use Rattle.results.specs.Results.{check_result, search_result, list_length_in, run_result, text_result, text_length_in}
 use Rattle.packing.specs.Packing.{verdict_number, outcome_number, check_number, search_number, run_number, text_number, Numbers}
 

@@ -23,7 +23,6 @@ use Rattle.rulefile.proofs.Tabled.{program_goal}
 use Rattle.loaded.proofs.Files.{given_file}
 use Rattle.loaded.proofs.Loaded.{loaded_accepted, loaded_refused, behind_kept}
 use Rattle.results.specs.declared.SearchResult.{SearchResult}
-use Rattle.results.specs.declared.SearchResult.TheVariants as SearchResult
 use Rattle.search.specs.Answering.{SearchPromise}
 use Rattle.exploring.specs.Exploring.{WholeList, FirstEntries, Explored}
 use Rattle.search.specs.Searching.{Searchable, setting_of}

@@ -26,7 +26,6 @@ use Rattle.reach.proofs.Base.{clash}
 use Rattle.reach.proofs.Answers.{Means, search_means, search_turned_back}
 use Rattle.reach.proofs.Refusals.{turned_back_by}
 use Rattle.results.specs.declared.SearchResult.{SearchResult}
-use Rattle.results.specs.declared.SearchResult.TheVariants as SearchResult
 use Rattle.results.specs.Results.{search_result, list_length_in, refusal_in, verdict_in}
 use Rattle.search.specs.Answering.{SearchPromise, Searched}
 use Rattle.exploring.proofs.Cutting.{size_more, answer_complete, answer_full, answer_short, answer_refused}

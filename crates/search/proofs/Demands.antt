@@ -39,7 +39,6 @@ use Rattle.lists.proofs.ReadBack.{listed_fits, written_read_back}
 use Rattle.reach.proofs.Before.{search_before, same_search}
 use Rattle.reach.proofs.Demands as Reach
 use Rattle.results.specs.declared.SearchResult.{SearchResult}
-use Rattle.results.specs.declared.SearchResult.TheVariants as SearchResult
 use Rattle.results.specs.Results.{search_result, list_length_in, refusal_in, verdict_in}
 use Rattle.search.specs.Answering.{WordsAfter, SearchPromise, ReadsAs}
 use Rattle.exploring.proofs.Cutting.{size_more, written_none, written_length}

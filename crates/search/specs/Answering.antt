@@ -10,7 +10,6 @@ use Rattle.reach.specs.Lists.{list_bytes, written, entry_part, saying_of, decode
 use Rattle.reach.specs.Answers.{check, accepted, search_answer, listed}
 use Rattle.machine.specs.Cells.{Cells}
 use Rattle.results.specs.declared.SearchResult.{SearchResult}
-use Rattle.results.specs.declared.SearchResult.TheVariants as SearchResult
 use Rattle.results.specs.Results.{search_result}
 
 -- A refusal but 12 changes no word, and a search none behind its first 64 S + 1,024 words. Those first words are its own: where the list is complete,

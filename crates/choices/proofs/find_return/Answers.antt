@@ -1,8 +1,6 @@
 -- `choices::find_return` meets its contract. The invariant: from the beginning the return came to here. The measure is the height. Rests on Returning.
-use Prim.Native.Nat.{◌≤◌}
-use mathlib.Core.Path.{◌≡◌, refl, ◌∙◌}
-use lib.ListN.{length}
-use Rattle.choices.proofs.Returning.{CameTo, came_first, came_bounds, came_nowhere, drops, leads}
+use mathlib.Core.Path.{refl, ◌∙◌}
+use Rattle.choices.proofs.Returning.{came_first, came_bounds, came_nowhere, drops, leads}
 use native.Mathlib.Omega.{arith}
 use Rattle.choices.proofs.find_return.Goals as goal
 

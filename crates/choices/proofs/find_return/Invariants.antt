@@ -1,9 +1,8 @@
 -- `choices::find_return` meets its contract. The invariant: from the beginning the return came to here. The measure is the height. Rests on Returning.
 use Prim.Native.Nat.{◌≤◌}
-use mathlib.Core.Path.{◌≡◌, refl, ◌∙◌}
+use mathlib.Core.Path.{◌≡◌}
 use lib.ListN.{length}
-use Rattle.choices.proofs.Returning.{CameTo, came_first, came_bounds, came_nowhere, drops, leads}
-use native.Mathlib.Omega.{arith}
+use Rattle.choices.proofs.Returning.{CameTo}
 use Rattle.choices.proofs.find_return.Given as goal
 
 abbrev pub invariant-loop-h : goal.invariant-loop-h

@@ -1,11 +1,9 @@
 -- `exploring::explore` meets its contract. The invariant: from the beginning the search came to here, and the entries listed and still to come are the
 -- program's list. The measure is the weight of where it stands. Rests on Exploring.
-use mathlib.Core.Path.{◌≡◌, refl, ◌∙◌, subst}
+use mathlib.Core.Path.{◌≡◌}
 use lib.ListN.{length}
 use Rattle.arriving.specs.Moving.{walk_weight}
-use Rattle.exploring.specs.Exploring.{GoesOn}
-use Rattle.exploring.proofs.Exploring.{CameFrom, came_begin, came_standing, same_room, came_over, move_lighter, move_length, move_listable, came_on, came_full}
-use native.Mathlib.Omega.{arith}
+use Rattle.exploring.proofs.Exploring.{CameFrom}
 use Rattle.exploring.proofs.explore.Given as goal
 
 abbrev pub invariant-loop-least : goal.invariant-loop-least
