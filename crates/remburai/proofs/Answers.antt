@@ -11,7 +11,6 @@ use Rattle.reach.specs.Lists.{room_of}
 use Rattle.reach.specs.Answers.{search_answer}
 use Rattle.results.specs.declared.SearchResult.{SearchResult}
 use Rattle.results.specs.declared.TextResult.{TextResult}
-use Rattle.results.specs.declared.TextResult.TheVariants as TextResult
 use Rattle.results.specs.Results.{search_result, list_length_in, text_length_in}
 use Rattle.search.proofs.Called.{length_is, listed_room}
 use Rattle.printing.specs.Bound.{text_bound}
