@@ -46,7 +46,7 @@ SAID = [  # what a check says, its exit status; how many errors are shown, the e
     (MADE, 1, ["note: crates/c/src/lib.rt:7:1: it is not proved"], 0),
     (UNFIT, 1, ["crates/c/proofs/one/Proof.antt:2:5: error: `returns`: record `After` has no field `two`"], 1),
     (UNFIT.split("logic")[0] + MADE, 1, ["crates/c/proofs/one/Proof.antt:2:5: error: `returns`: record `After` has no field `two`",
-                                         "note: crates/c/src/lib.rt:7:1: it is not proved"], 0),
+                                         "note: crates/c/src/lib.rt:7:1: it is not proved"], 1),
     ("logic=proved functions=1\n", 0, [], 1),
     ("/room/crates/c/src/lib.rt:1:1: error[unexpected-token]: a\n", 1, ["crates/c/src/lib.rt:1:1: error[unexpected-token]: a"], 2),
     ("rt: no\n", 2, [], 2),

@@ -1,6 +1,6 @@
 -- `sizes::size_at` meets its contract: the code tries the three tests of the definition in its order, a whole header, a known mark, and a
 -- length inside the list.
--- Rests on `known_mark` and `word_call`.
+-- Rests on `known_mark` and `word_at`.
 use Prim.Native.Nat.{◌+◌}
 use native.Mathlib.Omega.{arith}
 use lib.ListN.{length}
