@@ -6,6 +6,7 @@ use native.Mathlib.Omega.{arith}
 use Rattle.search.proofs.Called.{searched_so}
 use Rattle.reporting.proofs.Reports.{refusal_reported, complete_answer, full_answer, list_inside}
 use Rattle.report.proofs.Answers.{text_refuses, list_reported}
+use Rattle.std.proofs.Common.{rules}
 use Rattle.report.proofs.report.Goals as goal
 
 pub returns-in-Refused : goal.returns-in-Refused
@@ -21,7 +22,7 @@ slice_bounds-list_text-end-in-Complete c = sym (length-take-le _ _ (omega (arith
 
 pub returns-in-Complete : goal.returns-in-Complete
 returns-in-Complete c =
-    list_reported (searched_so c.search.ensures) (complete_answer (searched_so c.search.ensures) c.in-Complete.n (sym c.in-Complete.is ∙ c.search.ensures.answer_is)) (λ i. omega (arith, c.slice_known-5-1.given i))
+    list_reported (searched_so c.search.ensures) (complete_answer (searched_so c.search.ensures) c.in-Complete.n (sym c.in-Complete.is ∙ c.search.ensures.answer_is)) (λ i. search rules)
     c.search.auto.list c.list_text.ensures
 
 pub slice_bounds-list_text-end-in-Full : goal.slice_bounds-list_text-end-in-Full
@@ -33,5 +34,5 @@ slice_bounds-list_text-end-in-Full-2 c = sym (length-take-le _ _ (omega (arith, 
 
 pub returns-in-Full : goal.returns-in-Full
 returns-in-Full c =
-    list_reported (searched_so c.search.ensures) (full_answer (searched_so c.search.ensures) c.in-Full.n (sym c.in-Full.is ∙ c.search.ensures.answer_is)) (λ i. omega (arith, c.slice_known-5-1.given i))
+    list_reported (searched_so c.search.ensures) (full_answer (searched_so c.search.ensures) c.in-Full.n (sym c.in-Full.is ∙ c.search.ensures.answer_is)) (λ i. search rules)
     c.search.auto.list c.list_text-in-Full.ensures
