@@ -10,10 +10,9 @@ use Rattle.reach.specs.Parts.{Parts, at, There}
 use Rattle.reach.specs.Types.{least_depths}
 use Rattle.reach.specs.Eval as Eval
 use Rattle.reach.specs.Eval.{State, Question}
+use Rattle.std.specs.Prelude.{Option, Some, None}
 use Rattle.reach.specs.declared.Kind.{Kind}
 use Rattle.reach.specs.declared.Kind.TheVariants.{RE, UN, MI}
-use Rattle.reach.specs.declared.PathEnd.{PathEnd}
-use Rattle.reach.specs.declared.PathEnd.TheVariants.{Unlisted, Listed}
 use Rattle.reach.specs.Search.{Entry, listing, branches}
 use Rattle.reach.specs.Moves as Model
 use Rattle.reach.specs.Moves.{Choice}
@@ -39,7 +38,7 @@ use Rattle.arriving.specs.Moving.{ended_walk, UnderWay, EntryIn, PathLists, Make
 module _ (p : Program) (table : List ℕ) (left n : ℕ) (e : Parts) (s : State) (cs : List Choice) (es : List Entry) where
   -- at an end it is over with what that lists, however many steps are left
   ends :
-      (N : Eval.Next) (end : PathEnd)
+      (N : Eval.Next) (end : Option Kind)
       → ((go : State → Model.Walk) (fork : Question → Model.Walk) → Model.settle go fork n e cs es N ≡ Model.behind cs (es ++ listing end n e))
       → Eval.next p e s ≡ N → Model.arrive p table left n e s cs es ≡ Model.behind cs (es ++ listing end n e)
   unfolding Model.arrive
@@ -49,17 +48,17 @@ module _ (p : Program) (table : List ℕ) (left n : ℕ) (e : Parts) (s : State)
       by_left zero = rw next (settles _ _)
       by_left (suc l) = rw next (settles _ _)
 
-  demanded : Eval.next p e s ≡ Eval.demands → Model.arrive p table left n e s cs es ≡ Model.behind cs (es ++ listing (Listed RE) n e)
+  demanded : Eval.next p e s ≡ Eval.demands → Model.arrive p table left n e s cs es ≡ Model.behind cs (es ++ listing (Some RE) n e)
   unfolding Model.settle
-  demanded = ends Eval.demands (Listed RE) (λ go fork. refl)
+  demanded = ends Eval.demands (Some RE) (λ go fork. refl)
 
-  lacked : Eval.next p e s ≡ Eval.lacks → Model.arrive p table left n e s cs es ≡ Model.behind cs (es ++ listing (Listed MI) n e)
+  lacked : Eval.next p e s ≡ Eval.lacks → Model.arrive p table left n e s cs es ≡ Model.behind cs (es ++ listing (Some MI) n e)
   unfolding Model.settle
-  lacked = ends Eval.lacks (Listed MI) (λ go fork. refl)
+  lacked = ends Eval.lacks (Some MI) (λ go fork. refl)
 
-  stopped : (why : Eval.Stop) → Eval.next p e s ≡ Eval.stops why → Model.arrive p table left n e s cs es ≡ Model.behind cs (es ++ listing Unlisted n e)
+  stopped : (why : Eval.Stop) → Eval.next p e s ≡ Eval.stops why → Model.arrive p table left n e s cs es ≡ Model.behind cs (es ++ listing None n e)
   unfolding Model.settle
-  stopped why = ends (Eval.stops why) Unlisted (λ go fork. refl)
+  stopped why = ends (Eval.stops why) None (λ go fork. refl)
 
   gone_on :
       (l : ℕ) (s' : State) → left ≡ suc l → Eval.next p e s ≡ Eval.goes s'
@@ -84,7 +83,7 @@ module _ (p : Program) (table : List ℕ) (left n : ℕ) (e : Parts) (s : State)
   spent_waiting q none next = rw (none, next)
 
 -- what `over` answers
-abbrev pub ended : ℕ → ℕ → ℕ → PathEnd → Moved
+abbrev pub ended : ℕ → ℕ → ℕ → Option Kind → Moved
 ended cells done height listing = record { walk = ended_walk cells done height; listing = listing }
 
 -- what stands for a path under way is what a step asks
@@ -150,7 +149,7 @@ module _
 
     -- behind the end of the path
     behind :
-        (listing : PathEnd) (new : List Entry) → ((es : List Entry) → model es ≡ Model.behind cs (es ++ new))
+        (listing : Option Kind) (new : List Entry) → ((es : List Entry) → model es ≡ Model.behind cs (es ++ new))
         → PathLists g w' (ended cells done height listing).walk listing new → Makes g w₀ w' bound (ended cells done height listing) first
     behind listing new model_is lists = record {
       position = Model.over;
@@ -164,36 +163,36 @@ module _
       same_length = stepped.only_top.same_length ∙ led.same_length;
     }
 
-    entry_in : (kind : Kind) → EntryIn g w' (ended cells done height Unlisted).walk kind (record { kind = kind; steps = done; input = e } ∷ [])
+    entry_in : (kind : Kind) → EntryIn g w' (ended cells done height None).walk kind (record { kind = kind; steps = done; input = e } ∷ [])
     entry_in kind = (e, refl, path_now.stands.input, path_now.typed)
 
-    pub arrive_demands : n ≡ Next.Demands → Makes g w₀ w' bound (ended cells done height (Listed RE)) first
+    pub arrive_demands : n ≡ Next.Demands → Makes g w₀ w' bound (ended cells done height (Some RE)) first
     arrive_demands is =
-        behind (Listed RE) _ (λ es. demanded g.program _ (g.limit - done) done e s cs es (means Next.Demands is)) (entry_in RE)
+        behind (Some RE) _ (λ es. demanded g.program _ (g.limit - done) done e s cs es (means Next.Demands is)) (entry_in RE)
 
-    pub arrive_lacks : n ≡ Next.Lacks → Makes g w₀ w' bound (ended cells done height (Listed MI)) first
+    pub arrive_lacks : n ≡ Next.Lacks → Makes g w₀ w' bound (ended cells done height (Some MI)) first
     arrive_lacks is =
-        behind (Listed MI) _ (λ es. lacked g.program _ (g.limit - done) done e s cs es (means Next.Lacks is)) (entry_in MI)
+        behind (Some MI) _ (λ es. lacked g.program _ (g.limit - done) done e s cs es (means Next.Lacks is)) (entry_in MI)
 
-    pub arrive_stops : n ≡ Next.Stops → Makes g w₀ w' bound (ended cells done height Unlisted) first
+    pub arrive_stops : n ≡ Next.Stops → Makes g w₀ w' bound (ended cells done height None) first
     arrive_stops is =
         let (why, next) = means Next.Stops is in
-        behind Unlisted [] (λ es. stopped g.program _ (g.limit - done) done e s cs es why next) refl
+        behind None [] (λ es. stopped g.program _ (g.limit - done) done e s cs es why next) refl
 
     -- the steps are used up
     module _ (late : g.limit ≤ done) where
       none : g.limit - done ≡ zero
       none = omega arith
 
-      pub arrive_spent_going : {to : Registers} → n ≡ Next.Goes to → Makes g w₀ w' bound (ended cells done height (Listed UN)) first
+      pub arrive_spent_going : {to : Registers} → n ≡ Next.Goes to → Makes g w₀ w' bound (ended cells done height (Some UN)) first
       arrive_spent_going {to} is =
           let (s', next, follows) = means (Next.Goes to) is in
-          behind (Listed UN) _ (λ es. spent_going g.program _ (g.limit - done) done e s cs es s' none next) (entry_in UN)
+          behind (Some UN) _ (λ es. spent_going g.program _ (g.limit - done) done e s cs es s' none next) (entry_in UN)
 
-      pub arrive_spent_waiting : {x : ℕ} → n ≡ Next.Waits x → Makes g w₀ w' bound (ended cells done height (Listed UN)) first
+      pub arrive_spent_waiting : {x : ℕ} → n ≡ Next.Waits x → Makes g w₀ w' bound (ended cells done height (Some UN)) first
       arrive_spent_waiting {x} is =
           let (q, next, cell) = means (Next.Waits x) is in
-          behind (Listed UN) _ (λ es. spent_waiting g.program _ (g.limit - done) done e s cs es q none next) (entry_in UN)
+          behind (Some UN) _ (λ es. spent_waiting g.program _ (g.limit - done) done e s cs es q none next) (entry_in UN)
 
     -- or not
     module _ (in_time : done < g.limit) where
@@ -260,7 +259,7 @@ module _
 
         pub arrive_waits :
             {w'' : List ℕ} → Pushes g.stack w' w'' height x r.frame r.records cells done
-            → Makes g w₀ w'' bound (ended cells done (height + 1) Unlisted) first
+            → Makes g w₀ w'' bound (ended cells done (height + 1) None) first
         arrive_waits {w''} pushes =
             let one : height + 1 ≡ suc height = omega arith in
             let high = choices_pushed given path_now in_time now.no_higher asked.1 cell_now pushes choices_stay in

@@ -3,52 +3,36 @@
 #![tactic(auto)]
 
 ghost use Rattle.std.specs.Prelude.{◌≡◌};
-ghost use Rattle.skipping.specs.Ends.{Ends};
-ghost use Rattle.arriving.specs.Moving.{ended_walk, SomeUnderWay, Arrives};
+ghost use Rattle.arriving.specs.Moving.{ended_walk, SomeUnderWayIn, ArrivesIn};
 
-use points::push_choice;
-use reach::{Kind, PathEnd};
-use registers::{MISSING, Registers};
+use points::{ChoicePoint, Search};
+use reach::Kind;
+use registers::Registers;
 use steps::{Halt, run_on};
 
-// Where the search stands: on a path, whose registers these are, or behind the end of one.
-#[derive(Clone, Copy)]
-pub enum Position {
-    On(Registers),
-    Over,
-}
-
-// The search between two moves: whether it stands on a path or behind the end of one, the registers of the path, the cells in use,
-// the steps done, and how many choice points there are.
+// The search between two moves: the registers of the path on which it stands, or none behind the end of one; the cells in use, the
+// steps done, and how many choice points there are.
 #[derive(Clone, Copy)]
 pub struct Walk {
-    pub going: bool,
-    pub registers: Registers,
+    pub registers: Option<Registers>,
     pub cells: usize,
     pub done: usize,
     pub height: usize,
 }
 
-// The search after the moves of a path, and what the path lists of the input in the cells at its end.
+// The search after the moves of a path, and what the path lists of the input in the cells at its end: nothing, or an entry of this kind.
 #[derive(Clone, Copy)]
 pub struct Moved {
     pub walk: Walk,
-    pub listing: PathEnd,
+    pub listing: Option<Kind>,
 }
 
-// The walk behind the end of a path, whose registers say nothing.
+// The walk behind the end of a path. (Three numbers, here and in `over`, and no walk: steps and height are others than those of the walk that ends.)
 pub fn ended(cells: usize, done: usize, height: usize) -> Walk
     ensures { result ≡ ended_walk cells done height }
 {
     Walk {
-        going: false,
-        registers: Registers {
-            kind: MISSING,
-            place: 0,
-            env: 0,
-            frame: 0,
-            records: 0,
-        },
+        registers: None,
         cells,
         done,
         height,
@@ -56,7 +40,7 @@ pub fn ended(cells: usize, done: usize, height: usize) -> Walk
 }
 
 // Behind the end of a path, with what it lists.
-pub fn over(cells: usize, done: usize, height: usize, listing: PathEnd) -> Moved
+pub fn over(cells: usize, done: usize, height: usize, listing: Option<Kind>) -> Moved
     ensures { result ≡ record { walk = ended_walk cells done height; listing = listing } }
 {
     Moved {
@@ -65,51 +49,32 @@ pub fn over(cells: usize, done: usize, height: usize, listing: PathEnd) -> Moved
     }
 }
 
-// The path arrives at its state and goes on to its end, or to a choice point where a case waits.
-pub fn arrive<'a>(
-    file: &'a [u8],
-    types: &'a [u16],
-    functions: &'a [u16],
-    ends: &'a [u16],
-    label: usize,
-    work: &mut [u32],
-    limit: usize,
-    base: usize,
-    stack: usize,
-    cells: usize,
-    done: usize,
-    height: usize,
-    r: Registers,
-) -> Moved
-    requires some_under_way { SomeUnderWay file.now types.now functions.now label work.old limit base stack cells done height r }
-    requires ends { Ends file.now types.now functions.now ends.now }
-    ensures { Arrives file.now types.now functions.now label work.old work.new limit base stack cells done height r result }
+// The path of a walk, with these registers, arrives at its state and goes on to its end, or to a choice point where a case waits.
+pub fn arrive(search: &Search, work: &mut [u32], walk: Walk, r: Registers) -> Moved
+    requires { SomeUnderWayIn search.now work.old walk r }
+    ensures { ArrivesIn search.now work.old work.new walk r result }
 {
-    let ran = run_on(
-        file,
-        types,
-        functions,
-        ends,
-        label,
-        work,
-        base,
-        r,
-        limit - done,
-    );
-    let halt = ran.halt;
-    let at = ran.registers;
-    let total = done + ran.steps;
-    match halt {
-        Halt::Demands => return over(cells, total, height, PathEnd::Listed(Kind::RE)),
-        Halt::Stops => return over(cells, total, height, PathEnd::Unlisted),
-        Halt::Spent => return over(cells, total, height, PathEnd::Listed(Kind::UN)),
-        Halt::Lacks => return over(cells, total, height, PathEnd::Listed(Kind::MI)),
-        Halt::Waits(x) => {
-            if limit <= total {
-                return over(cells, total, height, PathEnd::Listed(Kind::UN));
-            }
-            push_choice(work, stack, height, x, at.frame, at.records, cells, total);
-            return over(cells, total, height + 1, PathEnd::Unlisted);
+    let ran = run_on(&search.run, work, r, search.limit - walk.done);
+    let cells = walk.cells;
+    let total = walk.done + ran.steps;
+    let height = walk.height;
+    match ran.halt {
+        Halt::Demands => over(cells, total, height, Some(Kind::RE)),
+        Halt::Stops => over(cells, total, height, None),
+        Halt::Spent => over(cells, total, height, Some(Kind::UN)),
+        Halt::Lacks => over(cells, total, height, Some(Kind::MI)),
+        Halt::Waits(_) if search.limit <= total => over(cells, total, height, Some(Kind::UN)),
+        Halt::Waits(cell) => {
+            let Registers { frame, records, .. } = ran.registers;
+            let choice = ChoicePoint {
+                cell,
+                frame,
+                records,
+                cells,
+                done: total,
+            };
+            search.stack.push_choice(work, height, choice);
+            over(cells, total, height + 1, None)
         }
     }
 }

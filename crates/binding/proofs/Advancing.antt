@@ -24,7 +24,7 @@ use Rattle.reach.proofs.Places.{bytes_length}
 use Rattle.reach.proofs.WellTyped.{open_apart}
 use Rattle.lookups.specs.Fields.{fields_in, FieldCount}
 use Rattle.machine.specs.Cells.{cell_word, cell_of, Cells, Unmoved}
-use Rattle.machine.proofs.Cells.{kept_cells}
+use Rattle.machine.proofs.Cells.{free_there, kept_cells}
 use Rattle.cells.proofs.Rooms.{cell_room}
 use Rattle.values.specs.Notes.{FollowsInput}
 use Rattle.values.proofs.Binding.{OpenStands, open_stands, bound_follows}
@@ -56,7 +56,7 @@ module _
       cells = all_kept.1;
       below = follows.below;
       notes = λ r h.
-          let there : There (at e r) = subst There (sym h) tt in
+          let there : There (at e r) = free_there h in
           let used = follows.cells.in_use r there in
           rw (all_kept.0 r there, kept (5 * cell_of w r + 4) (omega arith), kept (5 * cell_of w r + 1) (omega arith)) (follows.notes r h);
     }
@@ -134,7 +134,7 @@ module _ {file types functions input : List ℕ} {p : Program} {j : Parts} (give
       unbound = waits_free p now.input s q on
 
       there : There (at now.input q.place)
-      there = subst There (sym unbound) tt
+      there = free_there unbound
 
       value : OpenStands (map (type_at file) types) (source_slots p) input w now.input j q.place
       value = open_stands file types given.of_file.checked given.of_file.file_of.types_there input given.reads q.place now.follows unbound

@@ -1,51 +1,26 @@
--- A cell bound as `bind_asked` does it, from what its callees ensure, and what its words are then.
+-- How many fields the constructor at a cell's noted place has at most, and what the words of the cell are once `bind_asked` has bound it.
 -- Rests on specs/Underway, lookups' Fields, machine's Cells and values' Notes.
 use Prim.Native.Nat.{ℕ, suc, ◌+◌, ◌*◌, ◌-◌, ◌≤◌, ◌<◌}
-use mathlib.Core.Path.{◌≡◌, refl, sym, ◌∙◌, ap}
+use mathlib.Core.Path.{◌≡◌, sym, ◌∙◌, ap}
 use mathlib.Core.List.{List}
 use mathlib.Core.Option.{some, some-injective}
 use native.Mathlib.Omega.{arith}
 use lib.ListN.{length, get_or}
 use Rattle.reach.specs.Places.{bytes_at}
-use Rattle.reach.proofs.Base.{clash}
 use Rattle.reach.proofs.Places.{bytes_length}
-use Rattle.lookups.specs.Fields.{fields_of, fields_in, FieldCount}
-use Rattle.lookups.specs.declared.Fields.{Fields}
-use Rattle.machine.specs.Cells.{cell_word, Binds}
-use Rattle.values.specs.Notes.{noted_place, Noted}
+use Rattle.lookups.specs.Fields.{fields_in, FieldCount}
+use Rattle.lookups.specs.declared.FieldTypes.{FieldTypes}
+use Rattle.machine.specs.Cells.{cell_word}
+use Rattle.values.specs.Notes.{noted_place}
 use Rattle.binding.specs.Underway.{noted_number, Bindable, BoundAs, BoundCell}
 
-module _
-    (file types input w : List ℕ) (cells x : ℕ) {place c t : ℕ} (a : Fields) (place_is : place ≡ noted_place w x) (c-is : c ≡ get_or input place 0)
-    (t-is : t ≡ cell_word w x 2) (looked : fields_of file a ≡ fields_in file types t c)
-  where
-    -- the lookup is that of the constructor at the noted place
-    asked : fields_of file a ≡ fields_in file types (cell_word w x 2) (noted_number input w x)
-    asked = rw (← place_is, ← c-is, ← t-is) looked
-
-    -- an unknown constructor was not asked for
-    pub bound_unknown : {w' : List ℕ} → a ≡ Fields.Unknown → BoundAs file types input w w' cells x cells
-    bound_unknown is us known = let no = ap (fields_of file) (sym is) ∙ asked ∙ known in absurd (clash (cc))
-
-    module _ {fields k : ℕ} (is : a ≡ Fields.At fields k) where
-      these : fields_in file types (cell_word w x 2) (noted_number input w x) ≡ some (bytes_at file fields k)
-      these = sym asked ∙ ap (fields_of file) is
-
-      -- there are no more than 6
-      pub fields_few : Bindable file types input w cells x → k ≤ 6
-      fields_few bindable = omega (arith, bindable.few (bytes_at file fields k) these, bytes_length file fields k)
-
-      pub bound_known :
-          {v w' : List ℕ} → Binds w v x c cells k (bytes_at file fields k) (cell_word w x 3 - 1)
-          → Noted file types input v w' cells (bytes_at file fields k) (place + 1) → BoundAs file types input w w' cells x (cells + k)
-      bound_known {v} binds noted us known =
-          let number : c ≡ noted_number input w x = c-is ∙ ap (λ i. get_or input i 0) place_is in (
-            fields,
-            k,
-            some-injective _ _ (sym known ∙ these),
-            refl,
-            record { between = v; binds = rw number at binds; noted = rw place_is at noted },
-          )
+-- the constructor at the noted place has no more than 6 fields
+pub fields_few :
+    {file types input w : List ℕ} {cells x place c t : ℕ} → Bindable file types input w cells x → place ≡ noted_place w x → c ≡ get_or input place 0
+    → t ≡ cell_word w x 2 → (fields : FieldTypes) → some (bytes_at file fields.at fields.count) ≡ fields_in file types t c → fields.count ≤ 6
+fields_few {file} bindable place_is c-is t-is fields looked =
+    let these = rw (c-is, t-is, place_is) at looked in
+    omega (arith, bindable.few (bytes_at file fields.at fields.count) (sym these), bytes_length file fields.at fields.count)
 
 -- The words of a cell that was bound to the constructor at its noted place, whose fields have these types.
 module _

@@ -3,6 +3,7 @@
 use Prim.Native.Nat.{ℕ, suc, ◌+◌, ◌≤◌, ◌<◌}
 use mathlib.Core.Path.{◌≡◌, refl, sym, ◌∙◌, ap}
 use mathlib.Core.List.{List, [], ◌∷◌, map}
+use Rattle.std.specs.Prelude.{Result, Ok, Err}
 use lib.ListN.{length, get_or, take, drop, drop_of_length-le}
 use lib.Seq.{length-take-le, drop-cons}
 use native.Mathlib.Omega.{arith}
@@ -15,15 +16,13 @@ use Rattle.reach.specs.Syntax.{Expr, Function}
 use Rattle.reach.specs.Reader.{Got, at_end}
 use Rattle.reach.specs.RuleFile.{Head, Declarations, body_of, functions_of}
 use Rattle.reach.specs.Places.{bytes_at, head_at}
-use Rattle.typerecord.specs.declared.Passed.{Passed}
-use Rattle.typerecord.specs.declared.Passed.TheVariants.{Next, Refused}
 use Rattle.typerecord.specs.Passed.{passed_of}
 use Rattle.typerecord.proofs.Answers.{step_got, step_refused}
 use Rattle.lookups.specs.declared.Head as Looked
 use Rattle.lookups.specs.Heads.{head_of}
 use Rattle.lookups.proofs.Tables.{parameters_many}
-use Rattle.bodies.specs.declared.Judged.{Judged}
-use Rattle.expressions.specs.Readers.{declared, expression_at, TablesSmall}
+use Rattle.expressions.specs.Tables.{TablesSmall}
+use Rattle.expressions.specs.Readers.{declared, expression_at}
 use Rattle.expressions.proofs.Passing.{both_next}
 use Rattle.bodies.specs.Check.{body_at, BodyThere, bodies_of}
 
@@ -44,36 +43,39 @@ module _ (file : List ℕ) (place : ℕ) (h : Looked.Head) (is : head_of file h 
   pub body_length : h.body + h.size ≡ length (take (h.body + h.size) file)
   body_length = sym (length-take-le (h.body + h.size) file (omega (arith, end_is)))
 
-  module _ (types functions view : List ℕ) (v : view ≡ bytes_at file h.parameters h.count) {step : Passed}
-      (told : step ≡ passed_of (expression_at file types functions 32 view h.result (take (h.body + h.size) file) h.body)) where
-    body_told : step ≡ passed_of (inside file types functions (head_at file place))
-    body_told = rw (← is, ← v) told
+  module _ (types functions view : List ℕ) (v : view ≡ bytes_at file h.parameters.at h.parameters.count) where
+    -- what the code reads of the expression
+    abbrev told : Result ℕ Refusal
+    told = passed_of (expression_at file types functions 32 view h.result (take (h.body + h.size) file) h.body)
 
-    pub body_refused : {why : Refusal} → step ≡ Refused why → step ≡ passed_of (body_at file types functions place)
+    body_told : told ≡ passed_of (inside file types functions (head_at file place))
+    body_told = rw (← is, ← v)
+
+    pub body_refused : {why : Refusal} → Err why ≡ told → Err why ≡ passed_of (body_at file types functions place)
     unfolding body_of
-    body_refused e = e ∙ rw (step_refused (inside file types functions (head_at file place)) (sym body_told ∙ e))
+    body_refused e = rw (step_refused (inside file types functions (head_at file place)) (sym (e ∙ body_told)))
 
-    module _ {behind : ℕ} (e : step ≡ Next behind) where
-      pub body_trailing : behind < h.body + h.size → Refused TrailingBytes ≡ passed_of (body_at file types functions place)
+    module _ {behind : ℕ} (e : Ok behind ≡ told) where
+      pub body_trailing : behind < h.body + h.size → Err TrailingBytes ≡ passed_of (body_at file types functions place)
       unfolding body_of at_end
       body_trailing b =
-          rw ((step_got (inside file types functions (head_at file place)) (sym body_told ∙ e)).1, length-take-le (end_of (head_at file place)) file there)
+          rw ((step_got (inside file types functions (head_at file place)) (sym (e ∙ body_told))).1, length-take-le (end_of (head_at file place)) file there)
           (rw (lt-ltb behind (end_of (head_at file place)) (omega (arith, end_is))) refl)
 
-      pub body_ends : h.body + h.size ≤ behind → Next behind ≡ passed_of (body_at file types functions place)
+      pub body_ends : h.body + h.size ≤ behind → Ok behind ≡ passed_of (body_at file types functions place)
       unfolding body_of at_end
       body_ends b =
-          rw ((step_got (inside file types functions (head_at file place)) (sym body_told ∙ e)).1, length-take-le (end_of (head_at file place)) file there)
+          rw ((step_got (inside file types functions (head_at file place)) (sym (e ∙ body_told))).1, length-take-le (end_of (head_at file place)) file there)
           (rw (le-ltb behind (end_of (head_at file place)) (omega (arith, end_is))) refl)
 
 -- a function of the table has few parameters
 pub few_parameters :
     {file types functions : List ℕ} {f : ℕ} → TablesSmall file types functions → f < length functions
-    → (h : Looked.Head) → head_of file h ≡ head_at file (get_or functions f 0) → h.count ≤ 8
+    → (h : Looked.Head) → head_of file h ≡ head_at file (get_or functions f 0) → h.parameters.count ≤ 8
 few_parameters {file} {f = f} small more h is = omega (arith, parameters_many file h is, small.parameters_limit f more)
 
 -- the bodies from number f on; the place behind them is left out
-abbrev pub bodies_from : List ℕ → List ℕ → List ℕ → ℕ → Judged
+abbrev pub bodies_from : List ℕ → List ℕ → List ℕ → ℕ → Result (Unit {0}) Refusal
 bodies_from file types functions f =
     bodies_of (passed_of (functions_of (declared file types functions) (map (head_at file) (drop f functions)) file 0))
 
@@ -94,22 +96,22 @@ module _ (file types functions : List ℕ) (f : ℕ) where
   abbrev others : List Head
   others = map (head_at file) (drop (suc f) functions)
 
-  module _ (more : f < length functions) {step : Passed} (told : step ≡ passed_of (body_of d first file)) where
-    pub body_next : {next : ℕ} → step ≡ Next next → bodies_from file types functions (f + 1) ≡ bodies_from file types functions f
+  module _ (more : f < length functions) where
+    pub body_next : {next : ℕ} → Ok next ≡ passed_of (body_of d first file) → bodies_from file types functions (f + 1) ≡ bodies_from file types functions f
     unfolding functions_of
-    body_next {next} e =
+    body_next {next} told =
         rw (add-one, drop-cons functions f 0 more)
         (anywhere d file others 0 next
         ∙ ap bodies_of
         (sym
         (both_next {C = List Function} (λ s here. body_of d first s) (functions_of d others)
         (λ x fs. record { parameters = first.parameters; result = first.result; body = x } ∷ fs)
-        file 0 (sym told ∙ e))))
+        file 0 (sym told))))
 
-    pub body_stops : {why : Refusal} → step ≡ Refused why → Judged.Refused why ≡ bodies_from file types functions f
+    pub body_stops : {why : Refusal} → Err why ≡ passed_of (body_of d first file) → Err why ≡ bodies_from file types functions f
     unfolding functions_of
-    body_stops e = rw (drop-cons functions f 0 more, step_refused (body_of d first file) (sym told ∙ e))
+    body_stops told = rw (drop-cons functions f 0 more, step_refused (body_of d first file) (sym told))
 
-  pub bodies_done : length functions ≤ f → Judged.Fit ≡ bodies_from file types functions f
+  pub bodies_done : length functions ≤ f → Ok tt ≡ bodies_from file types functions f
   unfolding functions_of
   bodies_done h = rw (drop_of_length-le functions h)

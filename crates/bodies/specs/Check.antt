@@ -1,14 +1,12 @@
 -- The third pass as its functions see it: the bodies, each inside its own length, by the readers of crate reach over what the places declare.
--- Rests on reach's RuleFile and Places, on expressions' Readers and on the enum of src/lib.rt.
-use Rattle.std.specs.Prelude.{ℕ, ◌+◌, ◌≤◌, ◌<◌, List, map, length, get_or}
+-- Rests on reach's RuleFile and Places and on expressions' Readers.
+use Rattle.std.specs.Prelude.{ℕ, ◌+◌, ◌≤◌, ◌<◌, List, map, length, get_or, Result, Ok, Err}
+use Rattle.reach.specs.declared.Refusal.{Refusal}
 use Rattle.reach.specs.Syntax.{Expr, Function}
 use Rattle.reach.specs.Reader.{Got}
 use Rattle.reach.specs.RuleFile.{body_of, functions_of}
 use Rattle.reach.specs.Places.{head_at}
-use Rattle.typerecord.specs.declared.Passed.{Passed}
-use Rattle.typerecord.specs.declared.Passed.TheVariants.{Next, Refused}
 use Rattle.expressions.specs.Readers.{declared}
-use Rattle.bodies.specs.declared.Judged.{Judged}
 
 -- the body of the record at a place ends inside the file
 abbrev pub BodyThere : List ℕ → ℕ → Type 0
@@ -27,6 +25,6 @@ module _ (file types functions : List ℕ) where
   functions_at = functions_of (declared file types functions) (map (head_at file) functions) file 0
 
 -- whether all was read, the place apart
-abbrev pub bodies_of : Passed → Judged
-bodies_of (Next next) = Judged.Fit
-bodies_of (Refused why) = Judged.Refused why
+abbrev pub bodies_of : Result ℕ Refusal → Result (Unit {0}) Refusal
+bodies_of (Ok next) = Ok tt
+bodies_of (Err why) = Err why

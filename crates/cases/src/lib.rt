@@ -2,9 +2,10 @@
 // A container is cases, one behind the other. A read that fails ends the input, and a write that fails is handed back. Rests on crates reach and refusals.
 #![tactic(auto)]
 
-ghost use Rattle.std.specs.Prelude.{◌≡◌, ◌≤◌, length, take, drop};
+ghost use Rattle.std.specs.Prelude.{◌≡◌, ◌≤◌, length, take, drop, IfSome};
 
-use reach::{Refusal, Verdict};
+use reach::Refusal;
+use std::fmt;
 use std::io::{self, Read};
 
 // How many cases a program runs at most.
@@ -18,13 +19,6 @@ pub const BYTES: usize = 1048576;
 // The bytes of a buffer for a part, which hold every length.
 pub const PART: usize = 65536;
 
-// What is read for a byte, for a part and for a number where the container has ended: one more than the largest.
-pub const NO_BYTE: usize = 256;
-
-pub const NO_PART: usize = 65536;
-
-pub const NO_NUMBER: usize = 16777216;
-
 // As many words, each of them `word`.
 pub fn words(word: u32) -> [u32; WORDS] {
     [word; WORDS]
@@ -35,26 +29,11 @@ pub fn bytes(byte: u8) -> [u8; BYTES] {
     [byte; BYTES]
 }
 
-// A byte as a count.
-fn wide(x: u8) -> usize
-    ensures { result ≤ 255 }
-{
-    x as usize
-}
-
 // A number of two bytes, low byte first.
 pub fn low_first(a: u8, b: u8) -> usize
     ensures { result ≤ 65535 }
 {
-    wide(a) + 256 * wide(b)
-}
-
-// The smaller of two counts.
-pub fn least(a: usize, b: usize) -> usize
-    ensures upper_bound { result ≤ a }
-    ensures upper_bound_2 { result ≤ b }
-{
-    if a < b { a } else { b }
+    usize::from(u16::from_le_bytes([a, b]))
 }
 
 // Reads once. How many bytes there were at the front of the buffer: none where the input has ended, or a read failed.
@@ -62,10 +41,7 @@ fn read_some<R: Read>(input: &mut R, part: &mut [u8]) -> usize
     ensures upper_bound { result ≤ length part.new }
     ensures front { result ≡ length (take result part.new) }
 {
-    match input.read(part) {
-        Ok(n) => n,
-        Err(_) => 0,
-    }
+    input.read(part).unwrap_or(0)
 }
 
 // Reads until a buffer is full or the input has ended. How many bytes there were.
@@ -74,6 +50,7 @@ fn read_full<R: Read>(input: &mut R, part: &mut [u8]) -> usize
     ensures front { result ≡ length (take result part.new) }
 {
     let mut done = 0;
+    // (A `while`: a read says how far it came.)
     while done < part.len() {
         let n = read_some(input, &mut part[done..]);
         if n == 0 {
@@ -84,37 +61,42 @@ fn read_full<R: Read>(input: &mut R, part: &mut [u8]) -> usize
     done
 }
 
-// Reads a byte.
-pub fn read_byte<R: Read>(input: &mut R) -> usize
-    ensures { result ≤ 256 }
-{
-    let mut byte = [0u8; 1];
-    if read_full(input, &mut byte) < 1 {
-        return NO_BYTE;
+// Reads so many bytes, if there are as many.
+fn read_array<R: Read, const N: usize>(input: &mut R) -> Option<[u8; N]> {
+    let mut bytes = [0u8; N];
+    if read_full(input, &mut bytes) < N {
+        return None;
     }
-    wide(byte[0])
+    Some(bytes)
+}
+
+// Reads a byte; none where the container has ended, and so below.
+pub fn read_byte<R: Read>(input: &mut R) -> Option<u8> {
+    let [byte]: [u8; 1] = read_array(input)?;
+    Some(byte)
 }
 
 // Reads a length of two bytes, low byte first.
-fn read_length<R: Read>(input: &mut R) -> usize
-    ensures { result ≤ 65536 }
+fn read_length<R: Read>(input: &mut R) -> Option<usize>
+    ensures { IfSome result (λ n. n ≤ 65535) }
 {
-    let mut bytes = [0u8; 2];
-    if read_full(input, &mut bytes) < 2 {
-        return NO_PART;
-    }
-    low_first(bytes[0], bytes[1])
+    let [low, high]: [u8; 2] = read_array(input)?;
+    Some(low_first(low, high))
 }
 
-// Reads a number of three bytes, low byte first.
-pub fn read_number<R: Read>(input: &mut R) -> usize
-    ensures { result ≤ 16777216 }
+// Reads a number of three bytes, low byte first. (By hand: no type of numbers has three bytes.)
+pub fn read_number<R: Read>(input: &mut R) -> Option<usize>
+    ensures { IfSome result (λ n. n ≤ 16777215) }
 {
-    let mut bytes = [0u8; 3];
-    if read_full(input, &mut bytes) < 3 {
-        return NO_NUMBER;
-    }
-    low_first(bytes[0], bytes[1]) + 65536 * wide(bytes[2])
+    let [low, middle, high]: [u8; 3] = read_array(input)?;
+    Some(low_first(low, middle) + 65536 * usize::from(high))
+}
+
+// Reads such a number; `most` where it is larger, or where the container has ended.
+pub fn read_within<R: Read>(input: &mut R, most: usize) -> usize
+    ensures { result ≤ most }
+{
+    read_number(input).unwrap_or(most).min(most)
 }
 
 // Reads as many bytes to the front of a slice, which has them. How many there were. Which they are, nothing can tell; those behind are as before.
@@ -123,20 +105,52 @@ pub fn read_bytes<R: Read>(input: &mut R, part: &mut [u8], n: usize) -> usize
     ensures upper_bound { result ≤ n }
     ensures kept { drop n part.new ≡ drop n part.old }
 {
-    least(read_full(input, &mut part[..n]), n)
+    read_full(input, &mut part[..n]).min(n)
 }
 
 // Reads a part behind its two-byte length to the front of a buffer, which has room for every length, and gives the length.
-pub fn read_part<R: Read>(input: &mut R, part: &mut [u8]) -> usize
+pub fn read_part<R: Read>(input: &mut R, part: &mut [u8]) -> Option<usize>
     requires { 65536 ≤ length part.old }
-    ensures upper_bound { result ≤ length part.new }
-    ensures front { result ≡ length (take result part.new) }
+    ensures upper_bound { IfSome result (λ n. n ≤ length part.new) }
+    ensures front { IfSome result (λ n. n ≡ length (take n part.new)) }
 {
-    let n = read_length(input);
-    if n == NO_PART {
-        return NO_PART;
+    let n = read_length(input)?;
+    Some(read_bytes(input, part, n))
+}
+
+// Runs case after case until the container has ended, each from where the one before has read to: `read` reads what a case begins with, `run_case` the rest.
+pub fn each_case<R: Read, T, P: Fn(&mut R) -> Option<T>, F: Fn(&mut R, T) -> io::Result<()>>(
+    input: &mut R,
+    read: P,
+    run_case: F,
+) -> io::Result<()>
+    requires read { P.IsAlwaysCallable read }
+    requires run { F.IsAlwaysCallable run_case }
+{
+    for _ in 0..CASES {
+        let Some(first) = read(input) else {
+            break;
+        };
+        run_case(input, first)?;
     }
-    read_bytes(input, part, n)
+    Ok(())
+}
+
+// The same of cases that begin with a rule file, which is a part and is lent to each. (Not by `each_case`: the one buffer is read into and lent on in turn.)
+pub fn each_file<R: Read, F: Fn(&mut R, &[u8]) -> io::Result<()>>(
+    input: &mut R,
+    run_case: F,
+) -> io::Result<()>
+    requires { F.IsAlwaysCallable run_case }
+{
+    let mut file = [0u8; PART];
+    for _ in 0..CASES {
+        let Some(n) = read_part(input, &mut file) else {
+            break;
+        };
+        run_case(input, &file[..n])?;
+    }
+    Ok(())
 }
 
 // Prints bytes as they are.
@@ -144,83 +158,42 @@ pub fn print(rt: &impl Print, text: &[u8]) -> io::Result<()> {
     rt.write_all(text)
 }
 
-// Prints the first n bytes of a text.
-pub fn print_text(rt: &impl Print, text: &[u8], n: usize) -> io::Result<()> {
-    if text.len() < n {
-        return print(rt, b"the text is longer than its slice\n");
-    }
-    print(rt, &text[..n])
-}
+// A refusal as a line shows it: `refused` and the number.
+#[derive(Drop)]
+pub struct Refused(pub Refusal);
 
-// Prints a number behind a word.
-pub fn print_number(rt: &impl Print, word: &[u8], n: u64) -> io::Result<()> {
-    print(rt, word)?;
-    rt.print(n)
-}
-
-// Prints `refused` and the number.
-pub fn print_refused(rt: &impl Print, why: Refusal) -> io::Result<()> {
-    print_number(rt, b"refused ", refusals::number(why))
-}
-
-// Prints a verdict, and behind it the bytes of the list that it is said of.
-pub fn print_verdict(rt: &impl Print, verdict: Verdict, count: usize) -> io::Result<()> {
-    let n = count as u64;
-    match verdict {
-        Verdict::Found => print_number(rt, b"found ", n),
-        Verdict::Undecided => print_number(rt, b"undecided ", n),
-        Verdict::None => print_number(rt, b"none ", n),
+impl fmt::Display for Refused {
+    fn fmt<W: fmt::Write>(&self, f: &mut fmt::Formatter<W>) -> fmt::Result {
+        write!(f, "refused {}", refusals::number(self.0))
     }
 }
 
-// Prints a byte in decimal, and a space.
-fn print_byte(rt: &impl Print, x: u8) -> io::Result<()> {
-    rt.print(x)?;
-    print(rt, b" ")
-}
+// An answer as a line shows it: the refusal, or what is shown of an answer that is none.
+#[derive(Drop)]
+pub struct Answer<T>(pub Result<T, Refusal>);
 
-// Prints so many bytes of a slice, or all where there are fewer.
-pub fn print_bytes(rt: &impl Print, list: &[u8], count: usize) -> io::Result<()> {
-    let mut at: usize = 0;
-    while at < list.len() {
-        if count <= at {
-            return Ok(());
+impl<T: fmt::Display> fmt::Display for Answer<T> {
+    fn fmt<W: fmt::Write>(&self, f: &mut fmt::Formatter<W>) -> fmt::Result {
+        match &self.0 {
+            Ok(answer) => write!(f, "{answer}"),
+            Err(why) => write!(f, "{}", Refused(*why)),
         }
-        print_byte(rt, list[at])?;
-        at += 1;
+    }
+}
+
+// Prints each byte of a slice in decimal, and a space behind it.
+pub fn print_bytes(rt: &impl Print, list: &[u8]) -> io::Result<()> {
+    for x in list {
+        print!(rt; "{x} ")?;
     }
     Ok(())
 }
 
-// Whether every word from `from` on is still `word`.
-pub fn words_kept(work: &[u32], from: usize, word: u32) -> bool {
-    let mut at = from;
-    while at < work.len() {
-        if work[at] != word {
-            return false;
-        }
-        at += 1;
-    }
-    true
-}
-
-// Whether every byte from `from` on is still `byte`.
-pub fn bytes_kept(list: &[u8], from: usize, byte: u8) -> bool {
-    let mut at = from;
-    while at < list.len() {
-        if list[at] != byte {
-            return false;
-        }
-        at += 1;
-    }
-    true
-}
-
-// Prints whether a slice was kept as it was.
-pub fn print_kept(rt: &impl Print, kept: bool) -> io::Result<()> {
-    if kept {
-        print(rt, b"kept")
+// The word for whether every item is still `value`.
+pub fn kept<T: Copy + PartialEq>(items: &[T], value: T) -> &'static str {
+    if items.iter().all(|x| *x == value) {
+        "kept"
     } else {
-        print(rt, b"changed")
+        "changed"
     }
 }

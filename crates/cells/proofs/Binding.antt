@@ -2,7 +2,7 @@
 -- every part open, a bind for the input with that part bound, and a part opened again for the input before.
 -- Rests on specs/Writes and on machine's laws of cells.
 use Prim.Native.Nat.{ℕ, suc, ◌+◌, ◌*◌, ◌-◌, ◌≤◌, ◌<◌}
-use mathlib.Core.Path.{◌≡◌, sym, ◌∙◌, ap, subst}
+use mathlib.Core.Path.{◌≡◌, sym, ◌∙◌, ap}
 use mathlib.Core.List.{List}
 use mathlib.Core.Logic.{◌≢◌}
 use mathlib.Core.Option.{some}
@@ -11,20 +11,13 @@ use native.Mathlib.Omega.{arith}
 use lib.ListN.{length, get_or, set, length-set}
 use lib.Seq.{get_or-set_same, get_or-set_other}
 use Rattle.reach.specs.Syntax.{Types, field_types}
-use Rattle.reach.specs.Parts.{Parts, Place, Seen, free, has, at, bind_at, There}
+use Rattle.reach.specs.Parts.{Parts, Place, free, has, at, bind_at, There}
 use Rattle.reach.specs.Types.{Slot, slot_at}
 use Rattle.reach.specs.Places.{bytes_at}
 use Rattle.reach.proofs.Order.{free_unbound, bind_refines, ⊑-there}
 use Rattle.machine.specs.Cells.{cell_word, cell_of, Cells, Binds, KeptBut, Unmoved}
-use Rattle.machine.proofs.Cells.{field, walk_kept, bind_elsewhere, bind_slot, bind_length_exact, bind_keeps, bind_walks, bind_cells, start_cells, open_cells}
+use Rattle.machine.proofs.Cells.{field, free_there, has_there, walk_kept, bind_elsewhere, bind_slot, bind_length_exact, bind_keeps, bind_walks, bind_cells, start_cells, open_cells}
 use Rattle.cells.specs.Writes.{Opens, Starts}
-
--- a part that is open, or bound, is there
-open_there : {s : Seen} → s ≡ free → There s
-open_there h = subst There (sym h) tt
-
-bound_there : {s : Seen} {c k : ℕ} → s ≡ has c k → There s
-bound_there h = subst There (sym h) tt
 
 -- a row of cells opened from cell 0 on stands for the input with every parameter open
 pub starts :
@@ -44,7 +37,7 @@ pub bound_cells :
     → Binds w w' (cell_of w q) c top k (bytes_at file fields k) (cell_word w (cell_of w q) 3 - 1)
     → Cells types ss w' (top + k) (bind_at q c k e) × Unmoved w w' e × ((j : ℕ) → cell_of w' (field q j) ≡ top + j)
 bound_cells {w = w} {s = s} file fields q cells unbound known deep typed same fits binds =
-    let room : cell_word w (cell_of w q) 3 ≡ s.room = (cells.slot q s (open_there unbound) known).1 in
+    let room : cell_word w (cell_of w q) 3 ≡ s.room = (cells.slot q s (free_there unbound) known).1 in
     let walks = bind_walks q cells unbound binds in
     (bind_cells q cells unbound known (omega arith) (rw same at typed) fits binds, walks.0, walks.1)
 
@@ -60,8 +53,8 @@ reopened {types} {ss} {w} {v} {w'} {top} {high} {e} q c k before unbound after k
     counted = before.counted;
     in_use = λ r t. rw (moved r t) (before.in_use r t);
     apart = λ r r' t t' h. before.apart r r' t t' (sym (moved r t) ∙ h ∙ moved r' t');
-    head_free = λ r h. rw (moved r (open_there h)) (free_head r h (ℕ_discrete (cell_of w r) (cell_of w q)));
-    head_bound = λ r d m h. rw (moved r (bound_there h)) (bound_head r d m h);
+    head_free = λ r h. rw (moved r (free_there h)) (free_head r h (ℕ_discrete (cell_of w r) (cell_of w q)));
+    head_bound = λ r d m h. rw (moved r (has_there h)) (bound_head r d m h);
     slot = slot_of;
   },
 )
@@ -79,17 +72,17 @@ reopened {types} {ss} {w} {v} {w'} {top} {high} {e} q c k before unbound after k
     free_head : (r : Place) → at e r ≡ free → Dec (cell_of w r ≡ cell_of w q) → cell_word w' (cell_of w r) 0 ≡ 0
     free_head r h (yes same) =
         let z : 5 * cell_of w q + 0 ≡ 5 * cell_of w q = omega arith in
-        rw (same, z, written) (get_or-set_same v (5 * cell_of w q) 0 0 (omega (arith, after.fits, higher, before.in_use q (open_there unbound))))
+        rw (same, z, written) (get_or-set_same v (5 * cell_of w q) 0 0 (omega (arith, after.fits, higher, before.in_use q (free_there unbound))))
     free_head r h (no apart) =
-        let here : at (bind_at q c k e) r ≡ free = bind_elsewhere q c k e r (open_there h) (λ equal. apart (ap (cell_of w) equal)) ∙ h in
-        other (5 * cell_of w r + 0) (omega arith) ∙ rw (kept r (open_there h)) at (after.head_free r here)
+        let here : at (bind_at q c k e) r ≡ free = bind_elsewhere q c k e r (free_there h) (λ equal. apart (ap (cell_of w) equal)) ∙ h in
+        other (5 * cell_of w r + 0) (omega arith) ∙ rw (kept r (free_there h)) at (after.head_free r here)
 
     bound_head : (r : Place) (d m : ℕ) → at e r ≡ has d m → cell_word w' (cell_of w r) 0 ≡ suc d
     bound_head r d m h =
         let another : r ≢ q = λ equal. free_unbound (sym unbound ∙ ap (at e) (sym equal) ∙ h) in
-        let apart : cell_of w r ≢ cell_of w q = λ same. another (before.apart r q (bound_there h) (open_there unbound) same) in
-        let here : at (bind_at q c k e) r ≡ has d m = bind_elsewhere q c k e r (bound_there h) another ∙ h in
-        other (5 * cell_of w r + 0) (omega arith) ∙ rw (kept r (bound_there h)) at (after.head_bound r d m here)
+        let apart : cell_of w r ≢ cell_of w q = λ same. another (before.apart r q (has_there h) (free_there unbound) same) in
+        let here : at (bind_at q c k e) r ≡ has d m = bind_elsewhere q c k e r (has_there h) another ∙ h in
+        other (5 * cell_of w r + 0) (omega arith) ∙ rw (kept r (has_there h)) at (after.head_bound r d m here)
 
     slot_of : (r : Place) (s : Slot) → There (at e r) → slot_at types e r ss ≡ some s
         → (cell_word w' (cell_of w' r) 2 ≡ s.type) × (cell_word w' (cell_of w' r) 3 ≡ s.room)
@@ -117,4 +110,4 @@ reopened_at_once {w = w} {v} {w'} {top = top} q cells unbound binds written =
     cleared : cell_word w' (cell_of w q) 0 ≡ 0
     cleared =
         let z : 5 * cell_of w q + 0 ≡ 5 * cell_of w q = omega arith in
-        rw (z, written) (get_or-set_same v (5 * cell_of w q) 0 0 (omega (arith, binds.same_length, cells.fits, cells.in_use q (open_there unbound))))
+        rw (z, written) (get_or-set_same v (5 * cell_of w q) 0 0 (omega (arith, binds.same_length, cells.fits, cells.in_use q (free_there unbound))))

@@ -1,6 +1,6 @@
 -- What is written to open a cell, a row of cells, and the cells of a bound part's fields: the words after it.
 -- Rests on specs/Writes, machine's Cells and reach's Places and Slots.
-use Prim.Native.Nat.{ℕ, zero, suc, ◌+◌, ◌*◌, ◌-◌, ◌≤◌, ◌<◌}
+use Prim.Native.Nat.{ℕ, zero, suc, ◌+◌, ◌*◌, ◌≤◌, ◌<◌}
 use mathlib.Core.Path.{◌≡◌, refl, sym, ◌∙◌, ap}
 use mathlib.Core.List.{List}
 use mathlib.Core.Logic.{◌≢◌}
@@ -98,19 +98,15 @@ opens_more {w} {v} {ss} {b} {n} s made slot fits = record {
     new : (z : Slot) → get_elem? ss n ≡ some z → SlotIn (open_cell v (b + n) s.type s.room) (b + n) z
     new z is = rw (← some-injective _ _ (sym slot ∙ is)) (open_type v _ _ _ fits, open_room v _ _ _ fits)
 
--- the same for a row of one depth whose types are bytes of the file, of which `more` are left: the next cell has the byte at the next place
+-- the same for a row of one depth whose types are bytes of the file
 pub opens_next :
-    {w v v' : List ℕ} {first k more t : ℕ} (file : List ℕ) (fields cell place room : ℕ) → Opens w v first (k - more) (even_slots (bytes_at file fields k) room)
-    → 5 * (first + k) ≤ length w → 0 < more → more ≤ k → cell + more ≡ first + k → place + more ≡ fields + k → t ≡ get_or file place 0
-    → v' ≡ open_cell v cell t room → Opens w v' first (k - (more - 1)) (even_slots (bytes_at file fields k) room)
-opens_next {first = first} {k} {more} file fields cell place room made fits some_left few here there read written =
-    let n = k - more in
-    let count : k - (more - 1) ≡ n + 1 = omega arith in
-    let number : cell ≡ first + n = omega arith in
-    let spot : place ≡ fields + n = omega arith in
+    {w v v' : List ℕ} {first n t : ℕ} (file : List ℕ) (fields k room : ℕ) → Opens w v first n (even_slots (bytes_at file fields k) room)
+    → 5 * (first + k) ≤ length w → n < k → t ≡ get_or file (fields + n) 0 → v' ≡ open_cell v (first + n) t room
+    → Opens w v' first (n + 1) (even_slots (bytes_at file fields k) room)
+opens_next {n = n} file fields k room made fits some_left read written =
     let typed : get_or (bytes_at file fields k) n 0 ≡ get_or file (fields + n) 0 = bytes_nth file fields k n (omega arith) in
     let slot = even_nth (bytes_at file fields k) room n (omega (arith, bytes_length file fields k)) in
-    rw (written, count, number, read, spot, ← typed) (opens_more _ made slot (omega (arith, made.same_length)))
+    rw (written, read, ← typed) (opens_more _ made slot (omega (arith, made.same_length)))
 
 -- the same for the parameters, of which n are made: each has a depth of its own
 pub starts_next :

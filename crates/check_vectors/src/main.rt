@@ -2,35 +2,14 @@
 // `refused` and the number. tests/make_boundary.py makes the container and the lines. Rests on crates cases and rulefile.
 #![tactic(auto)]
 
-use cases::{CASES, NO_PART, PART, print, print_refused, read_part};
-use results::CheckResult;
-use std::io::{self, Read};
+use cases::{Answer, each_file};
+use std::io;
 
-fn print_answer(rt: &impl Print, answer: CheckResult) -> io::Result<()> {
-    match answer {
-        CheckResult::Accepted => print(rt, b"accepted")?,
-        CheckResult::Refused(why) => print_refused(rt, why)?,
-    }
-    print(rt, b"\n")
-}
-
-// Reads one file and prints its line; false where the container has ended.
-fn run_case<R: Read>(rt: &impl Print, input: &mut R) -> io::Result<bool> {
-    let mut file = [0u8; PART];
-    let n = read_part(input, &mut file);
-    if n == NO_PART {
-        return Ok(false);
-    }
-    print_answer(rt, rulefile::check(&file[..n]))?;
-    Ok(true)
+// Checks one file and prints its line.
+fn check_file(rt: &impl Print, file: &[u8]) -> io::Result<()> {
+    rt.println(Answer(rulefile::check(file).map(|()| "accepted")))
 }
 
 fn main(rt: HostRuntime) -> io::Result<()> {
-    let mut input = rt.stdin();
-    for _ in 0..CASES {
-        if !run_case(&rt, &mut input)? {
-            break;
-        }
-    }
-    Ok(())
+    each_file(&mut rt.stdin(), |_, file| check_file(&rt, file))
 }

@@ -13,10 +13,10 @@ use Rattle.reach.specs.Search.{Entry}
 use Rattle.reach.specs.Moves.{Choice, behind, take_fork, return}
 use Rattle.reach.proofs.Limits.{accepted_keeps}
 use Rattle.machine.specs.Cells.{cell_word}
+use Rattle.std.specs.Prelude.{Option, Some, None}
 use Rattle.forks.specs.declared.Candidate.{Candidate}
 use Rattle.forks.specs.Untried.{untried}
 use Rattle.forks.proofs.Untried.{untried_padded}
-use Rattle.choices.specs.declared.Return.TheVariants as Return
 use Rattle.points.specs.Points.{choice_word, reopened, NextForkAt}
 use Rattle.choices.specs.Choices.{Setting, Given, ChoiceAt, ChoicesAt, no_choice, one_choice}
 use Rattle.choices.specs.Weights.{weight}
@@ -48,9 +48,6 @@ module _ {g : Setting} (given : Given g) where
   pub limit_few : g.limit ≤ 4096
   limit_few = omega (arith, given.limit_is, (accepted_keeps g.file g.program given.checked).steps_limit)
 
-  pub stack_small : g.stack ≤ 1000000
-  stack_small = omega (arith, given.stack_is, limit_few)
-
   module _ {w : List ℕ} {h : ℕ} {c : Choice} (at-h : ChoiceAt g w h c) where
     pub height_small : h ≤ 4096
     height_small = omega (arith, at-h.no_higher, at-h.in_time, limit_few)
@@ -74,21 +71,21 @@ module _ {g : Setting} (given : Given g) where
 
     -- a choice point without a constructor left
     pub exhausted :
-        NextForkAt g.file g.types g.least g.stack w h Candidate.NoMore
+        NextForkAt g.file g.types g.least g.stack w h None
         → c.untried ≡ []
     exhausted none = sym left_are ∙ none
 
     -- one with a constructor left
     pub next_found :
-        (n i k : ℕ)
-        → NextForkAt g.file g.types g.least g.stack w h (Candidate.Take n i k)
-        → NextAt g w c h n i k
-    next_found n i k (untried_is, known, deep, from, near, few, small) = record {
+        (next : Candidate)
+        → NextForkAt g.file g.types g.least g.stack w h (Some next)
+        → NextAt g w c h next.number next.fields.at next.fields.count
+    next_found next (untried_is, known, deep, from, near, few, small) = record {
       choice_at = at-h;
-      rest = untried g.program.types (least_depths g.program.types) (cell_word w (choice_word g.stack w h 0) 2) (cell_word w (choice_word g.stack w h 0) 3) (suc n);
+      rest = untried g.program.types (least_depths g.program.types) (cell_word w (choice_word g.stack w h 0) 2) (cell_word w (choice_word g.stack w h 0) 3) (suc next.number);
       untried_is =
           sym left_are ∙ untried_is
-          ∙ ap (λ fs. record { constructor = n; fields = k } ∷ fs)
+          ∙ ap (λ fs. record { constructor = next.number; fields = next.fields.count } ∷ fs)
           (rw (← given.file_of.types_there, given.least_are) (untried_padded (least_depths g.program.types) g.program.types _ _ _));
       rest_is = refl;
       known = rw given.file_of.types_there known;
@@ -144,14 +141,14 @@ module _ (file types least w₀ : List ℕ) (stack height : ℕ) where
     -- the numbers of the last choice point are small
     pub came_bounds :
         SomeChoices file types least w₀ stack height → 0 < h
-        → (stack ≤ 1000000) × (h - 1 ≤ 1000000) × (choice_word stack w (h - 1) 0 ≤ 1000000) × (5 * choice_word stack w (h - 1) 0 + 1 < length w)
+        → (h - 1 ≤ 1000000) × (choice_word stack w (h - 1) 0 ≤ 1000000) × (5 * choice_word stack w (h - 1) 0 + 1 < length w)
     came_bounds (functions, p, limit, base, cells, records, cs, given, at_first) higher =
         let last = last_choice (came functions p limit base cells records cs given at_first).choices_at_law higher in
-        (stack_small given, omega (arith, height_small given last.choice_at), cell_small given last.choice_at, cell_fits last.choice_at)
+        (omega (arith, height_small given last.choice_at), cell_small given last.choice_at, cell_fits last.choice_at)
 
     -- the last choice point has no constructor left, and is dropped
     came_back :
-        NextForkAt file types least stack w (h - 1) Candidate.NoMore
+        NextForkAt file types least stack w (h - 1) None
         → 0 < h → CameTo (reopened stack w (h - 1)) (h - 1)
     came_back none higher functions p limit base cells records cs given at_first =
         let now = came functions p limit base cells records cs given at_first in
@@ -169,13 +166,13 @@ module _ (file types least w₀ : List ℕ) (stack height : ℕ) where
 
     -- or it has, and is the one that the return leads to
     came_to :
-        (n i k : ℕ)
-        → NextForkAt file types least stack w (h - 1) (Candidate.Take n i k)
-        → 0 < h → length w ≡ length w₀ → Returns file types least w₀ w stack height (Return.To (h - 1) n i k)
-    came_to n i k found higher same_length functions p limit base cells records cs given at_first =
+        (found : Candidate)
+        → NextForkAt file types least stack w (h - 1) (Some found)
+        → 0 < h → length w ≡ length w₀ → Returns file types least w₀ w stack height (Some (record { to = h - 1; next = found }))
+    came_to found told higher same_length functions p limit base cells records cs given at_first =
         let now = came functions p limit base cells records cs given at_first in
         let last = last_choice now.choices_at_law higher in
-        let next = next_found given last.choice_at n i k found in
+        let next = next_found given last.choice_at found told in
         let one : suc (h - 1) ≡ h = omega arith in (
           same_length,
           record {
@@ -184,13 +181,13 @@ module _ (file types least w₀ : List ℕ) (stack height : ℕ) where
             before = last.before;
             next_at = next;
             before_at = last.before_at;
-            returns = λ es. now.returns es ∙ ap (λ ds. return p (least_depths p.types) ds es) last.choices_are ∙ (return_here p (least_depths p.types) last.choice (record { constructor = n; fields = k }) next.rest last.before es next.untried_is);
+            returns = λ es. now.returns es ∙ ap (λ ds. return p (least_depths p.types) ds es) last.choices_are ∙ (return_here p (least_depths p.types) last.choice (record { constructor = found.number; fields = found.fields.count }) next.rest last.before es next.untried_is);
             no_heavier = omega (arith, ap (weight stack limit w) one, now.no_heavier);
           },
         )
 
     -- or there is none
-    pub came_nowhere : h ≤ 0 → length w ≡ length w₀ → Returns file types least w₀ w stack height Return.Nowhere
+    pub came_nowhere : h ≤ 0 → length w ≡ length w₀ → Returns file types least w₀ w stack height None
     came_nowhere lowest same_length functions p limit base cells records cs given at_first =
         let now = came functions p limit base cells records cs given at_first in
         let none = none_left now.choices_at_law lowest in
@@ -200,9 +197,9 @@ module _ (file types least w₀ : List ℕ) (stack height : ℕ) where
         (same_length, (λ es. now.returns es ∙ ap (λ ds. return p (least_depths p.types) ds es) none.0 ∙ return_none p (least_depths p.types) es, (now.cells, now.records, at_none)))
 
     -- the same by what `candidate` answers
-    module _ {a : Candidate} (answer : NextForkAt file types least stack w (h - 1) a) (higher : 0 < h) where
-      pub drops : {w' : List ℕ} → a ≡ Candidate.NoMore → w' ≡ reopened stack w (h - 1) → CameTo w' (h - 1)
+    module _ {a : Option Candidate} (answer : NextForkAt file types least stack w (h - 1) a) (higher : 0 < h) where
+      pub drops : {w' : List ℕ} → a ≡ None → w' ≡ reopened stack w (h - 1) → CameTo w' (h - 1)
       drops is written = rw written (came_back (subst (NextForkAt file types least stack w (h - 1)) is answer) higher)
 
-      pub leads : {n i k : ℕ} → a ≡ Candidate.Take n i k → length w ≡ length w₀ → Returns file types least w₀ w stack height (Return.To (h - 1) n i k)
-      leads {n} {i} {k} is same_length = came_to n i k (subst (NextForkAt file types least stack w (h - 1)) is answer) higher same_length
+      pub leads : {next : Candidate} → a ≡ Some next → length w ≡ length w₀ → Returns file types least w₀ w stack height (Some (record { to = h - 1; next = next }))
+      leads {next} is same_length = came_to next (subst (NextForkAt file types least stack w (h - 1)) is answer) higher same_length

@@ -1,6 +1,6 @@
 -- What a return finds: the last choice point with a constructor left, the choice points behind it having been dropped and their cells opened again.
--- Rests on Choices and Weights, on reach's Moves and on the enum of src/lib.rt.
-use Rattle.std.specs.Prelude.{ℕ, suc, ◌≤◌, ◌<◌, ◌≡◌, List, [], ◌∷◌, length}
+-- Rests on Choices and Weights, on reach's Moves, on points' Points and on the struct of src/lib.rt.
+use Rattle.std.specs.Prelude.{ℕ, suc, ◌≤◌, ◌<◌, ◌≡◌, List, [], ◌∷◌, length, Option, Some, None}
 use Rattle.std.proofs.Math.Option.{some}
 use Rattle.reach.specs.Syntax.{Program, field_types}
 use Rattle.reach.specs.Types.{Fork, least_depths}
@@ -45,14 +45,14 @@ pub record ReturnsTo (g : Setting) (w w' : List ℕ) (height : ℕ) (cs : List C
   pub no_heavier : weight g.stack g.limit w' (suc h) ≤ weight g.stack g.limit w height
 
 -- or there is none, and the search is over, every parameter being open again
-abbrev pub ReturnMeans : Setting → List ℕ → List ℕ → ℕ → List Choice → Return → Type 0
-ReturnMeans g w w' height cs (Return.To h n i k) = ReturnsTo g w w' height cs h n i k
-ReturnMeans g w w' height cs Return.Nowhere =
+abbrev pub ReturnMeans : Setting → List ℕ → List ℕ → ℕ → List Choice → Option Return → Type 0
+ReturnMeans g w w' height cs (Some r) = ReturnsTo g w w' height cs r.to r.next.number r.next.fields.at r.next.fields.count
+ReturnMeans g w w' height cs None =
     ((es : List Entry) → return g.program (least_depths g.program.types) cs es ≡ behind [] es)
     × ((cells records : ℕ) × ChoicesAt g w' 0 cells records [])
 
 -- so it is for every program and all choice points that the words stand for
-abbrev pub Returns : List ℕ → List ℕ → List ℕ → List ℕ → List ℕ → ℕ → ℕ → Return → Type 0
+abbrev pub Returns : List ℕ → List ℕ → List ℕ → List ℕ → List ℕ → ℕ → ℕ → Option Return → Type 0
 Returns file types least w w' stack height r =
     (functions : List ℕ) (p : Program) (limit base cells records : ℕ) (cs : List Choice) → Given (setting file types functions least p limit base stack)
     → ChoicesAt (setting file types functions least p limit base stack) w height cells records cs → length w' ≡ length w × ReturnMeans (setting file types functions least p limit base stack) w w' height cs r

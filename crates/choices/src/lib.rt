@@ -1,41 +1,38 @@
-// The return to the last choice point with a constructor left: those behind it are dropped, their cells open again. Rests on crates depths, forks and
-// points; the definitions also on machine, cells and registers.
+// The return to the last choice point with a constructor left: those behind it are dropped, their cells open again. Rests on crates lookups, depths,
+// forks and points; the definitions also on machine and registers.
 #![tactic(auto)]
 
 ghost use Rattle.choices.specs.Returning.{Returns, SomeChoices};
 
 use depths::Depths;
 use forks::Candidate;
-use points::{candidate, reopen};
+use lookups::Rules;
+use points::Stack;
 
-// Where a return leads: to a choice point, whose next constructor has this number, this place of its fields' types and this many
-// of them; or nowhere, no choice point having a constructor left.
+// Where a return leads: to a choice point, and to the constructor that it takes next.
 #[derive(Clone, Copy)]
-pub enum Return {
-    To(usize, usize, usize, usize),
-    Nowhere,
+pub struct Return {
+    pub to: usize,
+    pub next: Candidate,
 }
 
-// The return to the last choice point with a constructor left: those behind it are dropped.
-pub fn find_return<'a>(
-    file: &'a [u8],
-    types: &'a [u16],
+// The return to the last choice point with a constructor left, if there is one: those behind it are dropped. (Parts of a `Search`, and not the whole, which
+// asks that the table of ends is filled: none is read here.)
+pub fn find_return(
+    rules: &Rules,
     least: Depths,
+    stack: Stack,
     work: &mut [u32],
-    stack: usize,
     height: usize,
-) -> Return
-    requires { SomeChoices file.now types.now least.of work.old stack height }
-    ensures { Returns file.now types.now least.of work.old work.new stack height result }
+) -> Option<Return>
+    requires { SomeChoices rules.now.file.now rules.now.types.now least.of work.old stack.at height }
+    ensures { Returns rules.now.file.now rules.now.types.now least.of work.old work.new stack.at height result }
 {
-    let mut h = height;
-    while 0 < h {
-        let next = candidate(file, types, least, work, stack, h - 1);
-        if let Candidate::Take(c, i, k) = next {
-            return Return::To(h - 1, c, i, k);
+    for h in (0..height).rev() {
+        if let Some(next) = stack.candidate(rules, least, work, h) {
+            return Some(Return { to: h, next });
         }
-        reopen(work, stack, h - 1);
-        h -= 1;
+        stack.reopen(work, h);
     }
-    Return::Nowhere
+    None
 }

@@ -16,7 +16,7 @@ use Rattle.machine.specs.Walks.{ChosenAt}
 use Rattle.machine.proofs.Codes.{chosen_at, code_construct}
 use Rattle.machine.proofs.Records.{count_word}
 use Rattle.registers.specs.declared.Registers.{Registers}
-use Rattle.registers.specs.declared.Alternative.{Alternative}
+use Rattle.std.specs.Prelude.{Option, Some, None}
 use Rattle.registers.specs.declared.Next.TheVariants as Next
 use Rattle.lookups.specs.Fields.{FieldCount}
 use Rattle.registers.specs.Stepping.{declarations_of, control_in, FileOf, StandsFor, Standing, Ready, Follows, Stepped, StepMeans, Found, Chose, chose_none, chose_one, missing_kind, expression_kind}
@@ -62,22 +62,22 @@ chose_only (chose_one i wrote found) = wrote.only_top
 
 -- what is chosen, by the alternative that was found and the words of the case's record
 module _
-    (file types functions w : List ℕ) {base c k first inner i : ℕ} {r : Registers} {a : Alternative}
+    (file types functions w : List ℕ) {base c k first inner i : ℕ} {r : Registers} {a : Option ℕ}
     (is-i : i ≡ record_word w base r.frame 0) (found : Found file types functions i c a)
   where
     pub chose_absent :
-        a ≡ Alternative.Absent → Chose file types functions w w base r c k first inner (record { kind = missing_kind; place = 0; env = 0; frame = 0; records = r.records })
-    chose_absent is = chose_none (nothing_written w base r.records) (subst (λ (x : Alternative). Found file types functions (record_word w base r.frame 0) c x) is (subst (λ (j : ℕ). Found file types functions j c a) is-i found))
+        a ≡ None → Chose file types functions w w base r c k first inner (record { kind = missing_kind; place = 0; env = 0; frame = 0; records = r.records })
+    chose_absent is = chose_none (nothing_written w base r.records) (subst (λ (x : Option ℕ). Found file types functions (record_word w base r.frame 0) c x) is (subst (λ (j : ℕ). Found file types functions j c a) is-i found))
 
     pub chose_present :
         {w' : List ℕ} {place env seen next' : ℕ} → env ≡ record_word w base r.frame 2 → seen ≡ record_word w base env 1 → next' ≡ record_word w base r.frame 3
-        → a ≡ Alternative.Present place → Wrote w w' base r.records env (seen + k) first inner
+        → a ≡ Some place → Wrote w w' base r.records env (seen + k) first inner
         → Chose file types functions w w' base r c k first inner (record { kind = expression_kind; place = place; env = r.records; frame = next'; records = r.records + 1 })
     chose_present {w'} {place} {env} {seen} is-env is_seen is-next is wrote =
         rw is-next
         (chose_one place
         (subst (λ (j : ℕ). Wrote w w' base r.records j (record_word w base j 1 + k) first inner) is-env (subst (λ (j : ℕ). Wrote w w' base r.records env (j + k) first inner) is_seen wrote))
-        (subst (λ (x : Alternative). Found file types functions (record_word w base r.frame 0) c x) is (subst (λ (j : ℕ). Found file types functions j c a) is-i found)))
+        (subst (λ (x : Option ℕ). Found file types functions (record_word w base r.frame 0) c x) is (subst (λ (j : ℕ). Found file types functions j c a) is-i found)))
 
 -- Once an alternative is chosen, the words stand for the state that the case goes on to, if the new record stands for its environment.
 module _

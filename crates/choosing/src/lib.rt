@@ -1,5 +1,5 @@
 // The steps in which a waiting case has its value, a construction or a part of the input, and its alternative is chosen. With no case waiting that value is a
-// result, which crate turning goes on behind. Rests on crates machine, skipping, lookups and registers.
+// result, which crate turning goes on behind. Rests on crates marks, machine, skipping, lookups and registers.
 #![tactic(auto)]
 
 ghost use Rattle.std.specs.Prelude.{◌≡◌, List, ℕ, ◌≤◌, ◌<◌};
@@ -8,48 +8,50 @@ ghost use Rattle.skipping.specs.Ends.{Ends};
 ghost use Rattle.registers.specs.Stepping.{control_in, Space, Standing, Ready, LookedBy, Found, ChoseBy};
 ghost use Rattle.choosing.specs.Entering.{AtBoundPart, EntersBy};
 
-use lookups::field_count;
-use machine::{cell_word, put_record, record_word};
+use machine::cell_word;
 use marks::byte_or_zero;
-use registers::{Alternative, EXPRESSION, MISSING, NO_CASE, Next, Registers};
-use skipping::pass_alternatives;
+use registers::{EXPRESSION, Evaluation, MISSING, NO_CASE, Next, Registers};
+use skipping::Program;
 
-// The alternative for constructor c of those that begin at a place.
-fn alternative_at<'a>(file: &'a [u8], ends: &'a [u16], at: usize, c: usize) -> Alternative
+// The place of the alternative for constructor c of those that begin at a place, or none where it is missing.
+fn alternative_at(program: &Program, at: usize, c: usize) -> Option<usize>
     requires { (at < 4294967296) × (c < 4294967296) }
-    ensures { (types functions : List ℕ) → Ends file.now types functions ends.now → Found file.now types functions at c result }
+    ensures { let file = program.now.rules.file.now in
+        (types functions : List ℕ) → Ends file types functions program.now.ends.now → Found file types functions at c result }
 {
-    let place = pass_alternatives(file, ends, at, c);
-    if byte_or_zero(file, place) == 0 {
-        Alternative::Absent
+    let place = program.pass_alternatives(at, c);
+    if byte_or_zero(program.rules.file, place) == 0 {
+        None
     } else {
-        Alternative::Present(place + 1)
+        Some(place + 1)
     }
 }
 
-// The alternative for constructor c is chosen for the innermost waiting case; its k fields begin at `first` and stand in `inner`.
-fn choose<'a>(
-    file: &'a [u8],
-    ends: &'a [u16],
-    work: &mut [u32],
-    base: usize,
-    r: Registers,
-    c: usize,
-    k: usize,
+// A value that a waiting case looks at: the number of its constructor, how many fields it has, where they begin, and in which environment they stand: 0 for
+// cells of the input, or 1 more than its record. (A number: it is what the record that is made holds.)
+#[derive(Clone, Copy)]
+struct Value {
+    constructor: usize,
+    fields: usize,
     first: usize,
     inner: usize,
-) -> Registers
-    requires space { Space work.old base r }
-    requires c_bound { (c < 4294967296) × (record_word work.old base r.frame 2 < r.records) × (k ≤ 255) × (first < 4294967296) × (inner < 4294967296) }
-    ensures { ChoseBy file.now ends.now work.old work.new base r c k first inner result }
+    ghost small: { (constructor < 4294967296) × (fields ≤ 255) × (first < 4294967296) × (inner < 4294967296) },
+}
+
+// The alternative for the constructor of a value is chosen for the innermost waiting case.
+fn choose(run: &Evaluation, work: &mut [u32], r: Registers, value: Value) -> Registers
+    requires space { Space work.old run.now.store.at r }
+    requires frame { record_word work.old run.now.store.at r.frame 2 < r.records }
+    ensures { let p = run.now.program in
+        ChoseBy p.rules.file.now p.ends.now work.old work.new run.now.store.at r value.constructor value.fields value.first value.inner result }
 {
-    let frame = r.frame;
+    let store = run.store;
     let top = r.records;
-    let alternatives = record_word(work, base, frame, 0);
-    let env = record_word(work, base, frame, 2);
-    let next = record_word(work, base, frame, 3);
-    let seen = record_word(work, base, env, 1);
-    let Alternative::Present(place) = alternative_at(file, ends, alternatives, c) else {
+    let alternatives = store.word(work, r.frame, 0);
+    let env = store.word(work, r.frame, 2);
+    let next = store.word(work, r.frame, 3);
+    let seen = store.word(work, env, 1);
+    let Some(place) = alternative_at(&run.program, alternatives, value.constructor) else {
         return Registers {
             kind: MISSING,
             place: 0,
@@ -58,7 +60,14 @@ fn choose<'a>(
             records: top,
         };
     };
-    put_record(work, base, top, env, seen + k, first, inner);
+    store.put(
+        work,
+        top,
+        env,
+        seen + value.fields,
+        value.first,
+        value.inner,
+    );
     Registers {
         kind: EXPRESSION,
         place,
@@ -69,83 +78,83 @@ fn choose<'a>(
 }
 
 // A construction is the value that a waiting case looks at. A result is left alone.
-pub fn step_construct<'a>(
-    file: &'a [u8],
-    types: &'a [u16],
-    ends: &'a [u16],
-    work: &mut [u32],
-    base: usize,
-    at: usize,
-    env: usize,
-    r: Registers,
-) -> Next
-    requires { ((functions : List ℕ) × Standing file.now types.now functions work.old base r) × Ready file.now work.old base r 2 at env }
-    ensures { LookedBy file.now types.now ends.now work.old work.new base r result }
+pub fn step_construct(run: &Evaluation, work: &mut [u32], r: Registers) -> Next
+    requires { let rules = run.now.program.rules in
+        ((functions : List ℕ) × Standing rules.file.now rules.types.now functions work.old run.now.store.at r)
+        × Ready rules.file.now work.old run.now.store.at r 2 r.place r.env }
+    ensures { let p = run.now.program in LookedBy p.rules.file.now p.rules.types.now p.ends.now work.old work.new run.now.store.at r result }
 {
     if NO_CASE <= r.frame {
         return Next::Stops;
     }
-    let t = byte_or_zero(file, at + 1);
-    let c = byte_or_zero(file, at + 2);
-    let k = field_count(file, types, t, c);
-    Next::Goes(choose(file, ends, work, base, r, c, k, at + 3, env + 1))
+    let rules = &run.program.rules;
+    let t = byte_or_zero(rules.file, r.place + 1);
+    let c = byte_or_zero(rules.file, r.place + 2);
+    let k = rules.field_count(t, c);
+    let value = Value {
+        constructor: c,
+        fields: k,
+        first: r.place + 3,
+        inner: r.env + 1,
+    };
+    Next::Goes(choose(run, work, r, value))
 }
 
-// A case goes on with the part of the input that it looks at, which is bound to constructor c with its k fields in the cells from `first` on.
-pub fn enter_part<'a>(
-    file: &'a [u8],
-    ends: &'a [u16],
+// A case goes on with the part of the input that it looks at, which is bound to constructor c with its k fields in the cells from `first` on. (Numbers, and no
+// `Value`: docs/DECISIONS.md names this function, and a caller would have to prove the bounds of the value.)
+pub fn enter_part(
+    run: &Evaluation,
     work: &mut [u32],
-    base: usize,
     r: Registers,
     c: usize,
     k: usize,
     first: usize,
 ) -> Registers
-    requires { (types functions : List ℕ) × (cell : ℕ) × AtBoundPart file.now types functions work.old base cell r c k first }
-    ensures { EntersBy file.now ends.now work.old work.new base r c k first result }
+    requires { let file = run.now.program.rules.file.now in
+        (types functions : List ℕ) × (cell : ℕ) × AtBoundPart file types functions work.old run.now.store.at cell r c k first }
+    ensures { let p = run.now.program in EntersBy p.rules.file.now p.ends.now work.old work.new run.now.store.at r c k first result }
 {
-    choose(file, ends, work, base, r, c, k, first, 0)
+    let bound = Value {
+        constructor: c,
+        fields: k,
+        first,
+        inner: 0,
+    };
+    choose(run, work, r, bound)
 }
 
 // A part of the input is the value that the innermost waiting case looks at; the case waits where the part is open.
-fn inspect<'a>(
-    file: &'a [u8],
-    types: &'a [u16],
-    ends: &'a [u16],
-    work: &mut [u32],
-    base: usize,
-    cell: usize,
-    r: Registers,
-) -> Next
-    requires { ((functions : List ℕ) × Standing file.now types.now functions work.old base r) × (control_in r ≡ part_in cell) × (r.frame < no_case) }
-    ensures { LookedBy file.now types.now ends.now work.old work.new base r result }
+fn inspect(run: &Evaluation, work: &mut [u32], r: Registers) -> Next
+    requires { let rules = run.now.program.rules in
+        ((functions : List ℕ) × Standing rules.file.now rules.types.now functions work.old run.now.store.at r)
+        × (control_in r ≡ part_in r.place) × (r.frame < no_case) }
+    ensures { let p = run.now.program in LookedBy p.rules.file.now p.rules.types.now p.ends.now work.old work.new run.now.store.at r result }
 {
+    let cell = r.place;
     let head = cell_word(work, cell, 0);
     if head == 0 {
         return Next::Waits(cell);
     }
     let first = cell_word(work, cell, 1);
     let t = cell_word(work, cell, 2);
-    let k = field_count(file, types, t, head - 1);
-    Next::Goes(choose(file, ends, work, base, r, head - 1, k, first, 0))
+    let k = run.program.rules.field_count(t, head - 1);
+    let part = Value {
+        constructor: head - 1,
+        fields: k,
+        first,
+        inner: 0,
+    };
+    Next::Goes(choose(run, work, r, part))
 }
 
 // A part of the input is the value that a waiting case looks at. A result is left alone.
-pub fn step_part<'a>(
-    file: &'a [u8],
-    types: &'a [u16],
-    ends: &'a [u16],
-    work: &mut [u32],
-    base: usize,
-    cell: usize,
-    r: Registers,
-) -> Next
-    requires { ((functions : List ℕ) × Standing file.now types.now functions work.old base r) × (control_in r ≡ part_in cell) }
-    ensures { LookedBy file.now types.now ends.now work.old work.new base r result }
+pub fn step_part(run: &Evaluation, work: &mut [u32], r: Registers) -> Next
+    requires { let rules = run.now.program.rules in
+        ((functions : List ℕ) × Standing rules.file.now rules.types.now functions work.old run.now.store.at r) × (control_in r ≡ part_in r.place) }
+    ensures { let p = run.now.program in LookedBy p.rules.file.now p.rules.types.now p.ends.now work.old work.new run.now.store.at r result }
 {
     if NO_CASE <= r.frame {
         return Next::Stops;
     }
-    inspect(file, types, ends, work, base, cell, r)
+    inspect(run, work, r)
 }

@@ -7,6 +7,8 @@ use mathlib.Core.Option.{Option, none, some}
 use native.Mathlib.Omega.{arith}
 use lib.ListN.{length, take, length-take, length-append, get_or-append}
 use borrow.Author.Tests.{le-leb, lt-leb}
+use Rattle.std.specs.Prelude.{Result, Ok, Err}
+use Rattle.std.specs.Prelude as Std
 use Rattle.reach.specs.declared.Refusal.{Refusal}
 use Rattle.reach.specs.declared.Refusal.TheVariants.{BadInput, WorkTooShort}
 use Rattle.reach.specs.declared.Outcome.{Outcome}
@@ -20,28 +22,25 @@ use Rattle.reach.specs.Answers.{check, accepted, turned_back, outcome_of, run_in
 use Rattle.reach.proofs.Base.{clash}
 use Rattle.readings.proofs.Demands as Readings
 use Rattle.reach.proofs.Limits.{within_limit}
-use Rattle.inputs.specs.declared.Reading.{Reading}
 use Rattle.inputs.specs.Depth.{input_at, reading_of}
-use Rattle.results.specs.declared.CheckResult.{CheckResult}
 use Rattle.rulefile.specs.declared.Loaded.{Loaded}
 use Rattle.rulefile.specs.Loading.{type_places, function_places, Tabled, Loads}
 use Rattle.rulefile.proofs.Tabled.{program_goal}
 use Rattle.machine.proofs.Cells.{kept_cells}
 use Rattle.loaded.proofs.Files.{given_file}
-use Rattle.loaded.proofs.Loaded.{loaded_accepted}
 use Rattle.running.specs.Looked.{LookedAt}
 use Rattle.binding.specs.Underway.{GivenInput}
-use Rattle.results.specs.Results.{run_result}
+use Rattle.results.specs.Results.{ran_so, run_result}
 use Rattle.closed.specs.Answering.{Leaves, RunPromise, HasRun}
 use Rattle.closed.specs.Evaluating.{Runnable, RunsAs}
-use Rattle.results.specs.declared.RunResult.{RunResult}
+use Rattle.results.specs.declared.Ran.{Ran}
 
 -- what a call promises of its own answer holds of the definition's
-pub run_so : {file input work work' : List ℕ} {r : RunResult} → RunPromise file input work work' r → HasRun file input work work'
+pub run_so : {file input work work' : List ℕ} {r : Result Ran Refusal} → RunPromise file input work work' r → HasRun file input work work'
 run_so {file} {input} {work} {work'} call = subst (RunPromise file input work work') call.answer_is call
 
 -- a refused file
-pub answer_refused : (file input : List ℕ) (work : ℕ) {why : Refusal} → check file ≡ turned_back why → RunResult.Refused why ≡ run_result (run_answer file input work)
+pub answer_refused : (file input : List ℕ) (work : ℕ) {why : Refusal} → check file ≡ turned_back why → Err why ≡ run_result (run_answer file input work)
 unfolding run_answer run_checked
 answer_refused file input work h = rw h
 
@@ -57,7 +56,7 @@ module _ {file : List ℕ} {r : Loaded} {p : Program} (checked : check file ≡ 
       rw ((program_goal t).source_is, (program_goal t).depths_are, ← given.file_of.types_there, ← given.parameters_there)
 
   -- an input that does not fit
-  pub answer_bad : (input : List ℕ) (work : ℕ) → input_there input ≡ none → RunResult.Refused BadInput ≡ run_result (run_answer file input work)
+  pub answer_bad : (input : List ℕ) (work : ℕ) → input_there input ≡ none → Err BadInput ≡ run_result (run_answer file input work)
   unfolding run_answer run_checked run_input
   answer_bad input work h = rw (checked, ← (input_is input), h)
 
@@ -76,7 +75,7 @@ module _ {file : List ℕ} {r : Loaded} {p : Program} (checked : check file ≡ 
         omega (arith, is, within_limit file p checked j within)
 
     -- too few words
-    pub answer_short : (work : ℕ) → work < work_words r.goal.steps → RunResult.Refused WorkTooShort ≡ run_result (run_answer file input work)
+    pub answer_short : (work : ℕ) → work < work_words r.goal.steps → Err WorkTooShort ≡ run_result (run_answer file input work)
     unfolding run_answer run_checked run_input
     answer_short work short =
         let z : work < work_words p.steps = omega (arith, (program_goal t).steps_is) in
@@ -85,38 +84,35 @@ module _ {file : List ℕ} {r : Loaded} {p : Program} (checked : check file ≡ 
     -- the run
     pub answer_ran :
         (work : ℕ) (o : Outcome) → work_words r.goal.steps ≤ work → o ≡ outcome_of (Eval.run p j)
-        → RunResult.Ran o deep ≡ run_result (run_answer file input work)
+        → Ok (ran_so o deep) ≡ run_result (run_answer file input work)
     unfolding run_answer run_checked run_input
     answer_ran work o enough is =
         let z : work_words p.steps ≤ work = omega (arith, (program_goal t).steps_is) in
         rw (checked, read, le-leb _ _ z, is)
 
 -- what was read, by how `input_depth` tells it
-reading_none : (o : Option (Parts × ℕ)) → Reading.Misfit ≡ reading_of o → o ≡ none
+reading_none : (o : Option (Parts × ℕ)) → Std.None ≡ reading_of o → o ≡ none
 reading_none none e = refl
 reading_none (some row) e = absurd (clash (cc))
 
-reading_some : (o : Option (Parts × ℕ)) {deep : ℕ} → Reading.Deep deep ≡ reading_of o → (j : Parts) × (o ≡ some (j, deep))
+reading_some : (o : Option (Parts × ℕ)) {deep : ℕ} → Std.Some deep ≡ reading_of o → (j : Parts) × (o ≡ some (j, deep))
 reading_some none e = absurd (clash (cc))
 reading_some (some (j, d)) {deep} e = let same : d ≡ deep = cc in (j, ap (λ (n : ℕ). some (j, n)) same)
 
--- The same for a file that was loaded and accepted, by the functions that `run` calls.
-module _ (file : List ℕ) (r : Loaded) (loads : Loads file r) (is : r.answer ≡ CheckResult.Accepted) where
-  abbrev here : (p : Program) × (check file ≡ accepted p) × Tabled file r p
-  here = loaded_accepted file r loads is
-
-  module _ (input : List ℕ) {b : Reading} (told : b ≡ reading_of (input_there here.1 here.2 input)) where
-    pub run_bad : (work : ℕ) → b ≡ Reading.Misfit → RunResult.Refused BadInput ≡ run_result (run_answer file input work)
+-- The same for a file that was loaded, by the functions that `run` calls.
+module _ (file : List ℕ) (r : Loaded) (here : Loads file (Ok r)) where
+  module _ (input : List ℕ) {b : Std.Option ℕ} (told : b ≡ reading_of (input_there here.1 here.2 input)) where
+    pub run_bad : (work : ℕ) → b ≡ Std.None → Err BadInput ≡ run_result (run_answer file input work)
     run_bad work e = answer_bad here.1 here.2 input work (reading_none _ (sym e ∙ told))
 
-    module _ {deep : ℕ} (is-deep : b ≡ Reading.Deep deep) {words : ℕ} (words_are : words ≡ work_words r.goal.steps) where
+    module _ {deep : ℕ} (is-deep : b ≡ Std.Some deep) {words : ℕ} (words_are : words ≡ work_words r.goal.steps) where
       fits : (j : Parts) × (input_there here.1 here.2 input ≡ some (j, deep))
       fits = reading_some (input_there here.1 here.2 input) (sym is-deep ∙ told)
 
       pub run_deep : deep ≤ 64
       run_deep = deep_small here.1 here.2 input fits.1
 
-      pub run_short : (work : ℕ) → work < words → RunResult.Refused WorkTooShort ≡ run_result (run_answer file input work)
+      pub run_short : (work : ℕ) → work < words → Err WorkTooShort ≡ run_result (run_answer file input work)
       run_short work short = answer_short here.1 here.2 input fits.1 work (omega arith)
 
       pub run_able : (w : List ℕ) → words ≤ length w → Runnable file (type_places r) (function_places r) input r.goal (take words w)
@@ -129,13 +125,13 @@ module _ (file : List ℕ) (r : Loaded) (loads : Loads file r) (is : r.answer �
       )
 
       module _ {v : List ℕ} {o : Outcome} (runs : RunsAs file (type_places r) (function_places r) input r.goal v o) where
-        pub run_ran : (work : ℕ) → words ≤ work → RunResult.Ran o deep ≡ run_result (run_answer file input work)
+        pub run_ran : (work : ℕ) → words ≤ work → Ok (ran_so o deep) ≡ run_result (run_answer file input work)
         run_ran work enough =
             answer_ran here.1 here.2 input fits.1 work o (omega arith)
             (runs here.0 fits.0 (given_of here.1 here.2 input fits.1) (program_goal here.2)).0
 
         -- what the words that were lent on stand for, they stand for with those behind them
-        pub run_leaves : (behind : List ℕ) → Leaves (RunResult.Ran o deep) file input (v ++ behind)
+        pub run_leaves : (behind : List ℕ) → Leaves (Ok (ran_so o deep)) file input (v ++ behind)
         run_leaves behind p j checked reads =
             let given = given_of here.1 here.2 input fits.1 in
             let one : here.0 ≡ p = cc here.1 in

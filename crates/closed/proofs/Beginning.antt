@@ -38,30 +38,30 @@ module _
     module _ (head : Head) (head_read : head_of file head ≡ head_at file (get_or functions goal.source 0)) where
       begins_there :
           {w v w' : List ℕ} {base : ℕ} → base ≡ records_at goal.steps → length w ≡ work_words p.steps
-          → Opened file w v base head.parameters head.count goal.depths
-          → Noted file types input v w' 0 (bytes_at file head.parameters head.count) 0
-          → Underway file types functions input goal.label goal.steps w' base head.count 0 (start_registers head.body) p j (start p)
+          → Opened file w v base head.parameters.at head.parameters.count goal.depths
+          → Noted file types input v w' 0 (bytes_at file head.parameters.at head.parameters.count) 0
+          → Underway file types functions input goal.label goal.steps w' base head.parameters.count 0 (start_registers head.body) p j (start p)
       begins_there {w} {v} {w'} {base} base_is long opened noted =
           let of_file = given.of_file in
           let few = Begin.parameters_few of_file asks head head_read in
           let stands = Begin.opened_stands of_file asks head head_read w base_is long opened in
-          let cells : Cells (map (type_at file) types) (source_slots p) v head.count (all_open head.count) =
-          subst (λ ts. Cells ts (source_slots p) v head.count (all_open head.count)) of_file.file_of.types_there stands.input in
-          let follows : FollowsInput (map (type_at file) types) (source_slots p) w' head.count (all_open head.count) j =
+          let cells : Cells (map (type_at file) types) (source_slots p) v head.parameters.count (all_open head.parameters.count) =
+          subst (λ ts. Cells ts (source_slots p) v head.parameters.count (all_open head.parameters.count)) of_file.file_of.types_there stands.input in
+          let follows : FollowsInput (map (type_at file) types) (source_slots p) w' head.parameters.count (all_open head.parameters.count) j =
           start_follows file types of_file.checked of_file.file_of.types_there input given.reads (Begin.source_parameters of_file asks head head_read)
-          (bytes_length file head.parameters head.count) cells noted in
-          let unmoved : Unmoved v w' (all_open head.count) = noted_unmoved cells noted (λ r c k h. absurd (open_unbound head.count r h)) in
+          (bytes_length file head.parameters.at head.parameters.count) cells noted in
+          let unmoved : Unmoved v w' (all_open head.parameters.count) = noted_unmoved cells noted (λ r c k h. absurd (open_unbound head.parameters.count r h)) in
           let same : Same v w' base 2 =
-          λ i from below. noted.elsewhere i (λ m less. let n = bytes_length file head.parameters head.count in (omega (arith, n), omega (arith, n))) in
+          λ i from below. noted.elsewhere i (λ m less. let n = bytes_length file head.parameters.at head.parameters.count in (omega (arith, n), omega (arith, n))) in
           record {
             given = given;
             sought = asks.label_is;
             in_time = omega arith;
             running = record {
-              input = all_open head.count;
+              input = all_open head.parameters.count;
               stands =
                   stands_below stands
-                  (subst (λ ts. Cells ts (source_slots p) w' head.count (all_open head.count)) (sym of_file.file_of.types_there) follows.cells)
+                  (subst (λ ts. Cells ts (source_slots p) w' head.parameters.count (all_open head.parameters.count)) (sym of_file.file_of.types_there) follows.cells)
                   unmoved stands.apart noted.same_length same stands.there stands.sound;
               follows = follows;
               steps = no_step;
@@ -74,11 +74,11 @@ module _
 
       pub begins :
           {w v w' : List ℕ} {base : ℕ} {from : Registers} → base ≡ records_at goal.steps → length w ≡ work_words p.steps
-          → from ≡ start_registers head.body → Opened file w v base head.parameters head.count goal.depths
-          → Noted file types input v w' 0 (bytes_at file head.parameters head.count) 0
-          → Underway file types functions input goal.label goal.steps w' base head.count 0 from p j (start p)
+          → from ≡ start_registers head.body → Opened file w v base head.parameters.at head.parameters.count goal.depths
+          → Noted file types input v w' 0 (bytes_at file head.parameters.at head.parameters.count) 0
+          → Underway file types functions input goal.label goal.steps w' base head.parameters.count 0 from p j (start p)
       begins {w' = w'} {base} base_is long from_is opened noted =
-          subst (λ r. Underway file types functions input goal.label goal.steps w' base head.count 0 r p j (start p)) (sym from_is)
+          subst (λ r. Underway file types functions input goal.label goal.steps w' base head.parameters.count 0 r p j (start p)) (sym from_is)
           (begins_there base_is long opened noted)
 
     -- the whole run is the one from there

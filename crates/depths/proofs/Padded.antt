@@ -1,12 +1,11 @@
 -- The array of 32 numbers stands for the table in it: the tests look a type's number up, and behind the table they find 0 either way.
 -- Rests on Table and on reach's Types.
-use Prim.Native.Nat.{ℕ, zero, suc, ◌+◌, ◌-◌, ◌≤◌, ◌<◌}
+use Prim.Native.Nat.{ℕ, zero, suc, ◌-◌, ◌≤◌}
 use native.Mathlib.Omega.{arith}
-use native.Mathlib.Numerals.{add-one}
 use mathlib.Core.Path.{◌≡◌, refl, sym, ap, ◌∙◌}
 use mathlib.Core.List.{List, [], ◌∷◌, ◌++◌}
-use lib.ListN.{length, get_or, take, drop, replicate, length-append, length-replicate, length-take, drop_of_length-le}
-use lib.Seq.{take-append_seam, drop-append_seam, drop-cons, get_or-take, length-take-le}
+use lib.ListN.{length, get_or, take, drop, replicate, length-append, length-replicate}
+use lib.Seq.{take-append_seam, drop-append_seam}
 use Rattle.reach.specs.Types.{Slot, known, inhabited, shallow, roomy}
 use Rattle.depths.specs.Table.{padded}
 
@@ -74,14 +73,3 @@ module _ (table : List ℕ) where
 -- tables of one length that have the same array are the same
 pub padded_same : (a b : List ℕ) → length a ≡ length b → padded a ≡ padded b → a ≡ b
 padded_same a b e p = sym (padded_front a) ∙ ap (λ l. take (length a) l) p ∙ rw e (padded_front b)
-
--- ---- the first n numbers, from number t on
-
-module _ (l : List ℕ) (n t : ℕ) where
-  pub front_more : n ≤ length l → t < n → drop t (take n l) ≡ get_or l t 0 ∷ drop (t + 1) (take n l)
-  front_more few h =
-      let long : length (take n l) ≡ n = length-take-le n l few in
-      rw (drop-cons (take n l) t 0 (omega arith), add-one, get_or-take n l t 0 h)
-
-  pub front_done : n ≤ t → drop t (take n l) ≡ []
-  front_done h = drop_of_length-le (take n l) {i = t} (omega (arith, length-take n l))

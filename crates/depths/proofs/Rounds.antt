@@ -5,10 +5,9 @@ use Prim.Native.Nat.{ℕ, zero, suc, ◌+◌, ◌-◌, ◌≤◌, ◌<◌}
 use native.Mathlib.Omega.{arith}
 use native.Mathlib.Numerals.{add-one}
 use mathlib.Core.Path.{◌≡◌, refl, sym, ap, ◌∙◌}
-use mathlib.Core.Bool.{Bool, false}
 use mathlib.Core.List.{List, [], ◌∷◌, ◌++◌, map}
 use lib.ListN.{length, get_or, take, drop, set, replicate, length-replicate, length-map, take-append-drop, replicate-append-replicate}
-use lib.Seq.{take-suc, drop-cons, append_snoc, set_at, set-get_or, length-take-le}
+use lib.Seq.{take-suc, drop-cons, append_snoc, set_at, length-take-le}
 use lib.Dec.{ltb}
 use Rattle.reach.specs.Base.{pick}
 use Rattle.reach.specs.Types.{inhabited, rounds, least_depths}
@@ -28,11 +27,6 @@ module _ (new old : List ℕ) (t : ℕ) (inNew : t < length new) (inOld : t < le
   written_next =
       rw (add-one, take-suc new t 0, drop-cons old t 0, append_snoc)
       (set_at (take t new) (get_or old t 0) (drop (suc t) old) (get_or new t 0) t (length-take-le t new (omega arith)))
-
--- a number that is written over itself leaves the list as it was
-pub kept_next : (old : List ℕ) (t : ℕ) {array : List ℕ} {after : ℕ} {changed : Bool} → (changed ≡ false → array ≡ old) → get_or old t 0 ≡ after
-    → changed ≡ false → set array t after ≡ old
-kept_next old t kept same h = rw (kept h, ← same) (set-get_or old t 0)
 
 -- what stands at a place of the table
 map_at : {A : Type 0} (f : ℕ → A) (places : List ℕ) (t : ℕ) (a : A) → t < length places → get_or (map f places) t a ≡ f (get_or places t 0)

@@ -1,8 +1,9 @@
 -- The table of least depths as an array of 32 numbers, and what a round does to it.
--- Rests on reach's Types and Places.
-use Rattle.std.specs.Prelude.{ℕ, ◌+◌, ◌-◌, ◌≤◌, ◌≡◌, Bool, false, List, ◌++◌, map, length, replicate}
+-- Rests on reach's Types and Places and on the struct of src/lib.rt.
+use Rattle.std.specs.Prelude.{ℕ, ◌+◌, ◌-◌, ◌≤◌, ◌≡◌, List, ◌++◌, map, length, replicate, Option, Some, None}
 use Rattle.reach.specs.Types.{rounds}
 use Rattle.reach.specs.Places.{type_at}
+use Rattle.depths.specs.declared.Depths.{Depths}
 
 -- a table with 0 behind its end, up to 32 numbers
 unfoldable pub padded : List ℕ → List ℕ
@@ -18,7 +19,7 @@ pub record RoundsMade (s places : List ℕ) (d : ℕ) (array : List ℕ) : Type 
   pub reached : d ≤ 32
   pub holds : array ≡ array_after s places d
 
--- The new array is the one after one round more; where that round is not said to have changed it, it is the old one.
-pub record RoundMade (s places : List ℕ) (d : ℕ) (old new : List ℕ) (changed : Bool) : Type 0 where
-  pub holds : new ≡ array_after s places (d + 1)
-  pub same : changed ≡ false → new ≡ old
+-- the table after one round more, and none where that round changes nothing
+abbrev pub RoundMade : List ℕ → List ℕ → ℕ → Depths → Option Depths → Type 0
+RoundMade s places d old (Some table) = table.of ≡ array_after s places (d + 1)
+RoundMade s places d old None = old.of ≡ array_after s places (d + 1)

@@ -1,15 +1,15 @@
--- The span of an entry, as the enum of src/lib.rt shows it, and the place of the part that is handed back.
+-- The span of an entry, as src/lib.rt has it, and the place of the part that is handed back.
 -- Rests on reach's Lists.
-use Rattle.std.specs.Prelude.{ℕ, ◌+◌, List, length, take}
+use Rattle.std.specs.Prelude.{ℕ, ◌+◌, List, length, take, Some, None}
+use Rattle.std.specs.Prelude as Std
 use Rattle.std.proofs.Math.Option.{Option, none, some}
 use Rattle.reach.specs.Limits.{list_limit}
 use Rattle.reach.specs.Lists.{room_of, on_found, entry_span}
 use Rattle.entries.specs.declared.Span.{Span}
-use Rattle.entries.specs.declared.Span.TheVariants as span
 
-abbrev pub span_of : Span → Option (ℕ × ℕ)
-span_of (span.At i n) = some (i, n)
-span_of span.NoEntry = none
+abbrev pub span_of : Std.Option Span → Option (ℕ × ℕ)
+span_of (Some span) = some (span.at, span.size)
+span_of None = none
 
 -- 01: the entry of a given number is handed back as the part of the list that it fills, else the empty part at the list's end. Where that part
 -- begins: at the place of entry k, or, where there is none, at the end of the bytes that count

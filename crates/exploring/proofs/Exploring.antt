@@ -3,20 +3,17 @@
 -- Rests on specs/Exploring, on Cutting, on reach's Moves and Slots and on listing's laws.
 use Prim.Native.Nat.{ℕ, ◌+◌, ◌-◌, ◌≤◌, ◌<◌}
 use mathlib.Core.Path.{◌≡◌, refl, sym, ◌∙◌, ap, subst}
-use mathlib.Core.Bool.{Bool, true, false}
+use mathlib.Core.Bool.{Bool, false}
 use mathlib.Core.List.{List, [], ◌∷◌, ◌++◌, append-nil, append_assoc, flat_map}
 use native.Mathlib.Omega.{arith}
 use lib.ListN.{length}
-use lib.Dec.{ltb}
-use borrow.Author.Tests.{ltb-true, ltb-false}
 use Rattle.reach.specs.declared.Verdict.{Verdict}
 use Rattle.reach.specs.Syntax.{Program}
 use Rattle.reach.specs.Parts.{Parts, prefix}
 use Rattle.reach.specs.Types.{source_slots, least_depths}
 use Rattle.reach.specs.Eval.{start}
+use Rattle.std.specs.Prelude.{Option, Some, None}
 use Rattle.reach.specs.declared.Kind.{Kind}
-use Rattle.reach.specs.declared.PathEnd.{PathEnd}
-use Rattle.reach.specs.declared.PathEnd.TheVariants.{Unlisted, Listed}
 use Rattle.reach.specs.Search.{Entry, search, open_input, entries, count_from, counts, verdict_by, verdict}
 use Rattle.reach.specs.Lists.{entry_bytes, list_bytes, written}
 use Rattle.reach.specs.Moves as Model
@@ -25,31 +22,20 @@ use Rattle.reach.proofs.Base.{clash}
 use Rattle.reach.proofs.Slots.{source_types_law, source_length}
 use Rattle.reach.proofs.Moves.{choices_owed, owed_from, owed, move_keeps, moves_keep}
 use Rattle.registers.specs.declared.Registers.{Registers}
+use Rattle.points.specs.declared.Search.{Search}
 use Rattle.choices.specs.Choices.{Setting, AllOpen, ChoicesAt, no_choice, one_choice}
 use Rattle.choices.specs.Returning.{setting}
 use Rattle.choices.proofs.Returning.{limit_few}
-use Rattle.arriving.specs.declared.Position.TheVariants as Position
 use Rattle.arriving.specs.declared.Walk.{Walk}
 use Rattle.arriving.specs.declared.Moved.{Moved}
-use Rattle.arriving.specs.Moving.{position_of, PositionAt, StandsAs, EntryIn, PathLists, walk_weight, Makes, ActiveAt, Active, SearchStands, Moves}
-use Rattle.listing.specs.declared.Written.{Written}
+use Rattle.arriving.specs.Moving.{PositionAt, StandsAs, EntryIn, PathLists, walk_weight, Makes, SearchStands, Moves}
 use Rattle.listing.specs.Entry.{InputIn, Listable, entry_for, WroteFor, WroteEntry}
 use Rattle.headers.proofs.Bytes.{entry_length}
-use Rattle.results.specs.declared.SearchResult.TheVariants as SearchResult
+use Rattle.results.specs.declared.Listed as Listing
+use Rattle.results.specs.declared.Listed.TheVariants as Listed
 use Rattle.verdicts.specs.Verdicts.{WithEntry, VerdictAfter}
-use Rattle.exploring.specs.Exploring.{first_walk, GoesOn, ListableAs, WroteAs, FirstEntries, Begins, SomeBegins, Explores}
+use Rattle.exploring.specs.Exploring.{first_walk, GoesOn, ListableAs, WroteAs, FirstEntries, Begins, SomeBegins, Explores, ExploresIn}
 use Rattle.exploring.proofs.Cutting.{verdict_with, size_more, written_none, written_length, written_more}
-
--- the search goes on while a path is under way, and behind the end of one while there is a choice point
-pub active_on : (x : Walk) → x.going ≡ true → Active x
-active_on x is = subst (λ going. ActiveAt (position_of going x.registers) x.height) (sym is) tt
-
-pub active_over : (x : Walk) → x.going ≡ false → GoesOn x (ltb 0 x.height)
-active_over x is = by_height (ltb 0 x.height) refl
-  where
-    by_height : (b : Bool) → ltb 0 x.height ≡ b → GoesOn x b
-    by_height true h = subst (λ going. ActiveAt (position_of going x.registers) x.height) (sym is) (ltb-true 0 x.height h)
-    by_height false h = (is, omega (arith, ltb-false 0 x.height h))
 
 -- at the beginning everything is still to come
 nothing_listed :
@@ -129,11 +115,11 @@ module _ {file types functions least : List ℕ} {label : ℕ} {w₀ : List ℕ}
     -- the end of the search
     pub came_over :
         {b : Bool} → GoesOn x b → b ≡ false
-        → Explores file types functions least label w₀ w limit base stack parameters from before l (SearchResult.Complete n v)
+        → Explores file types functions least label w₀ w limit base stack parameters from before l (Listed.Complete n v)
     came_over goes is p begins =
         let now = came.of p begins in
         let (over, lowest) = subst (GoesOn x) is goes in
-        let last = at_the_end p now.position now.choices (subst (λ going. PositionAt (setting file types functions least p limit base stack) w x.cells x.done x.height (position_of going x.registers) now.position now.choices) over now.stands) lowest in
+        let last = at_the_end p now.position now.choices (subst (λ on. PositionAt (setting file types functions least p limit base stack) w x.cells x.done x.height on now.position now.choices) over now.stands) lowest in
         let whole : now.listed ≡ entries p =
         sym (append-nil now.listed) ∙ ap (λ es. now.listed ++ es) (sym last.0) ∙ now.owed_is in
         record {
@@ -152,7 +138,7 @@ module _ {file types functions least : List ℕ} {label : ℕ} {w₀ : List ℕ}
         by_choices p cs (one_choice at-h few fewer rest) lowest = absurd (omega arith)
 
         at_the_end :
-            (p : Program) (position : Model.Position) (cs : List Choice) → PositionAt (setting file types functions least p limit base stack) w x.cells x.done x.height Position.Over position cs → x.height ≡ 0
+            (p : Program) (position : Model.Position) (cs : List Choice) → PositionAt (setting file types functions least p limit base stack) w x.cells x.done x.height None position cs → x.height ≡ 0
             → (owed_from p (least_depths p.types) position cs ≡ []) × (some : ℕ) × AllOpen (setting file types functions least p limit base stack) w some
         at_the_end p (Model.on y) cs none lowest = absurd none
         at_the_end p Model.over cs (some, records, choices) lowest = by_choices p cs choices lowest
@@ -169,7 +155,7 @@ module _ {file types functions least : List ℕ} {label : ℕ} {w₀ : List ℕ}
       pub move_length : SomeBegins file types functions least label w₀ limit base stack parameters from → length w' ≡ length w₀
       move_length (p, begins) = (makes p begins).same_length ∙ same_length
 
-      lists : (p : Program) (begins : Begins (setting file types functions least p limit base stack) label w₀ parameters from) (listing : PathEnd) → m.listing ≡ listing → PathLists (setting file types functions least p limit base stack) w' m.walk listing (makes p begins).new
+      lists : (p : Program) (begins : Begins (setting file types functions least p limit base stack) label w₀ parameters from) (listing : Option Kind) → m.listing ≡ listing → PathLists (setting file types functions least p limit base stack) w' m.walk listing (makes p begins).new
       lists p begins listing is = subst (λ y. PathLists (setting file types functions least p limit base stack) w' m.walk y (makes p begins).new) is (makes p begins).lists
 
       owed_after :
@@ -204,11 +190,11 @@ module _ {file types functions least : List ℕ} {label : ℕ} {w₀ : List ℕ}
       pub move_listable : SomeBegins file types functions least label w₀ limit base stack parameters from → ListableAs file types w' parameters m.walk.cells m.listing
       move_listable (p, begins) = by_listing m.listing refl
         where
-          by_listing : (y : PathEnd) → m.listing ≡ y → ListableAs file types w' parameters m.walk.cells y
-          by_listing Unlisted is = tt
-          by_listing (Listed kind) is = listable_one p begins kind (lists p begins (Listed kind) is)
+          by_listing : (y : Option Kind) → m.listing ≡ y → ListableAs file types w' parameters m.walk.cells y
+          by_listing None is = tt
+          by_listing (Some kind) is = listable_one p begins kind (lists p begins (Some kind) is)
 
-      module _ (l' : List ℕ) (r : Written) (wrote : WroteAs file types w' parameters m.walk.cells m.walk.done m.listing l l' n r) where
+      module _ (l' : List ℕ) (r : Option ℕ) (wrote : WroteAs file types w' parameters m.walk.cells m.walk.done m.listing l l' n r) where
         -- the entry of an input is as long as its header and its cells
         long : (kind : Kind) (e : Parts) → length (prefix e) ≡ m.walk.cells → length (entry_bytes (entry_for kind m.walk.done e)) ≡ 6 + m.walk.cells
         long kind e counted = entry_length (entry_for kind m.walk.done e) ∙ ap (λ y. 6 + y) counted
@@ -216,7 +202,7 @@ module _ {file types functions least : List ℕ} {label : ℕ} {w₀ : List ℕ}
         -- an entry was written
         wrote_one :
             (p : Program) (begins : Begins (setting file types functions least p limit base stack) label w₀ parameters from) (kind : Kind) → EntryIn (setting file types functions least p limit base stack) w' m.walk kind (makes p begins).new
-            → WroteEntry file types w' parameters m.walk.cells kind m.walk.done n l l' r → (behind : ℕ) → r ≡ Written.Behind behind
+            → WroteEntry file types w' parameters m.walk.cells kind m.walk.done n l l' r → (behind : ℕ) → r ≡ Some behind
             → {v' : Verdict} → WithEntry v kind v' → Came (setting file types functions least p limit base stack) before w' m.walk l' behind v'
         wrote_one p begins kind entry told behind is with-entry =
             let now = came.of p begins in
@@ -240,17 +226,17 @@ module _ {file types functions least : List ℕ} {label : ℕ} {w₀ : List ℕ}
             }
 
         went_on :
-            {behind : ℕ} → r ≡ Written.Behind behind → {v' : Verdict} → VerdictAfter v m.listing v'
+            {behind : ℕ} → r ≡ Some behind → {v' : Verdict} → VerdictAfter v m.listing v'
             → (p : Program) → Begins (setting file types functions least p limit base stack) label w₀ parameters from → Came (setting file types functions least p limit base stack) before w' m.walk l' behind v'
         went_on {behind} is {v'} after p begins = by_listing m.listing refl wrote after
           where
             by_listing :
-                (y : PathEnd) → m.listing ≡ y → WroteAs file types w' parameters m.walk.cells m.walk.done y l l' n r → VerdictAfter v y v'
+                (y : Option Kind) → m.listing ≡ y → WroteAs file types w' parameters m.walk.cells m.walk.done y l l' n r → VerdictAfter v y v'
                 → Came (setting file types functions least p limit base stack) before w' m.walk l' behind v'
-            by_listing Unlisted same (place_is, List-same) v-same =
+            by_listing None same (place_is, List-same) v-same =
                 let now = came.of p begins in
                 let made = makes p begins in
-                let none : made.new ≡ [] = lists p begins Unlisted same in
+                let none : made.new ≡ [] = lists p begins None same in
                 let here : behind ≡ n = placed (sym is ∙ place_is) in
                 record {
                   position = made.position;
@@ -264,19 +250,19 @@ module _ {file types functions least : List ℕ} {label : ℕ} {w₀ : List ℕ}
                   verdict_is = v-same ∙ now.verdict_is;
                 }
               where
-                placed : Written.Behind behind ≡ Written.Behind n → behind ≡ n
+                placed : Some behind ≡ Some n → behind ≡ n
                 placed h = cc
-            by_listing (Listed kind) same told with-entry = wrote_one p begins kind (lists p begins (Listed kind) same) told behind is with-entry
+            by_listing (Some kind) same told with-entry = wrote_one p begins kind (lists p begins (Some kind) same) told behind is with-entry
 
         pub came_on :
-            {behind : ℕ} → r ≡ Written.Behind behind → {v' : Verdict} → VerdictAfter v m.listing v'
+            {behind : ℕ} → r ≡ Some behind → {v' : Verdict} → VerdictAfter v m.listing v'
             → CameTo file types functions least label w₀ limit base stack parameters from before w' m.walk l' behind v'
         came_on is after = record { of = went_on is after }
 
         -- an entry does not fit
         full_one :
             (p : Program) (begins : Begins (setting file types functions least p limit base stack) label w₀ parameters from) (kind : Kind) → EntryIn (setting file types functions least p limit base stack) w' m.walk kind (makes p begins).new
-            → WroteEntry file types w' parameters m.walk.cells kind m.walk.done n l l' r → r ≡ Written.Full → FirstEntries (setting file types functions least p limit base stack) before l' w' n
+            → WroteEntry file types w' parameters m.walk.cells kind m.walk.done n l l' r → r ≡ None → FirstEntries (setting file types functions least p limit base stack) before l' w' n
         full_one p begins kind entry told is =
             let now = came.of p begins in
             let made = makes p begins in
@@ -299,13 +285,13 @@ module _ {file types functions least : List ℕ} {label : ℕ} {w₀ : List ℕ}
               stands = entry.2;
             }
 
-        pub came_full : r ≡ Written.Full → Explores file types functions least label w₀ w' limit base stack parameters from before l' (SearchResult.Full n)
+        pub came_full : r ≡ None → Explores file types functions least label w₀ w' limit base stack parameters from before l' (Listed.Full n)
         came_full is p begins = by_listing m.listing refl wrote
           where
             by_listing :
-                (y : PathEnd) → m.listing ≡ y → WroteAs file types w' parameters m.walk.cells m.walk.done y l l' n r → FirstEntries (setting file types functions least p limit base stack) before l' w' n
-            by_listing Unlisted same (place_is, List-same) = absurd (clash (cc (is, place_is)))
-            by_listing (Listed kind) same told = full_one p begins kind (lists p begins (Listed kind) same) told is
+                (y : Option Kind) → m.listing ≡ y → WroteAs file types w' parameters m.walk.cells m.walk.done y l l' n r → FirstEntries (setting file types functions least p limit base stack) before l' w' n
+            by_listing None same (place_is, List-same) = absurd (clash (cc (is, place_is)))
+            by_listing (Some kind) same told = full_one p begins kind (lists p begins (Some kind) same) told is
 
 -- The same, whatever registers the search began with: the loop knows them as those of its first walk.
 
@@ -318,3 +304,14 @@ pub came_begin :
     → CameFrom file types functions least label w₀ limit base stack parameters before x₀ w₀ x₀ before 0 Verdict.None
 came_begin {file} {types} {functions} {least} {label} {w₀} {limit} {base} {stack} {parameters} {before} x₀ r is =
     subst (λ y. CameTo file types functions least label w₀ limit base stack parameters r before w₀ y before 0 Verdict.None) (sym is) came_first
+
+-- the same in a search
+abbrev pub CameIn : Search → ℕ → (w₀ before : List ℕ) → Walk → List ℕ → Walk → List ℕ → ℕ → Verdict → Type 0
+CameIn s parameters w₀ before x₀ w x l n v =
+    let f = s.run.program.rules in
+    CameFrom f.file.now f.types.now f.functions.now s.least.of s.run.label w₀ s.limit s.run.store.at s.stack.at parameters before x₀ w x l n v
+
+-- the list that is left is the one that the writer had
+pub explored_as : (s : Search) (w w' : List ℕ) (parameters : ℕ) (r : Registers) (before : List ℕ) {after after' : List ℕ} (a : Listing.Listed)
+    → ExploresIn s w w' parameters r before after a → after' ≡ after → ExploresIn s w w' parameters r before after' a
+explored_as s w w' parameters r before {after} {after'} a told is = subst (λ (l : List ℕ). ExploresIn s w w' parameters r before l a) (sym is) told

@@ -3,25 +3,25 @@
 use Prim.Native.Nat.{ℕ, zero, suc, ◌-◌, ◌<◌}
 use mathlib.Core.Path.{◌≡◌, refl}
 use mathlib.Core.List.{List}
+use Rattle.std.specs.Prelude.{Ok, Err}
 use lib.Dec.{ltb}
 use native.Mathlib.Omega.{arith}
 use borrow.Author.Tests.{lt-ltb}
 use Rattle.reach.specs.declared.Refusal.{Refusal}
 use Rattle.reach.specs.Reader.{Reader, ◌>>=◌, give}
 use Rattle.reach.specs.RuleFile.{Declarations, expression_by, expression}
-use Rattle.typerecord.specs.declared.Passed.TheVariants.{Next, Refused}
 use Rattle.typerecord.specs.Passed.{passed_of}
 use Rattle.typerecord.proofs.Answers.{step_got, step_refused, step_mapped}
 use Rattle.expressions.specs.Readers.{below_in}
 
 -- a reader that goes on, and then another whose reading does not depend on what the first one found
 pub both_next : {A B C : Type 0} (m : Reader A) (k : Reader B) (f : A → B → C) (s : List ℕ) (at : ℕ) {next : ℕ}
-    → passed_of (m s at) ≡ Next next → passed_of ((m >>= λ a. k >>= λ b. give (f a b)) s at) ≡ passed_of (k s next)
+    → passed_of (m s at) ≡ Ok next → passed_of ((m >>= λ a. k >>= λ b. give (f a b)) s at) ≡ passed_of (k s next)
 both_next m k f s at {next} e = let g = step_got (m s at) e in rw g.1 (step_mapped (f g.0) (k s next))
 
 -- a reader that is refused, whatever follows it
 pub first_refused : {A B : Type 0} (m : Reader A) (k : A → Reader B) (s : List ℕ) (at : ℕ) {why : Refusal}
-    → passed_of (m s at) ≡ Refused why → passed_of ((m >>= k) s at) ≡ Refused why
+    → passed_of (m s at) ≡ Err why → passed_of ((m >>= k) s at) ≡ Err why
 first_refused m k s at e = rw (step_refused (m s at) e)
 
 -- one level less is left below an expression

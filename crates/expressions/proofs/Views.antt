@@ -1,7 +1,7 @@
 -- The variables in view: one more stands behind the others, a view holds as many as it counts, and the test of the limits.
 -- Rests on Tables and on Readers of specs/.
 use Prim.Native.Nat.{ℕ, ◌+◌, ◌-◌, ◌≤◌, ◌<◌}
-use mathlib.Core.Path.{◌≡◌, sym, ◌∙◌}
+use mathlib.Core.Path.{◌≡◌, refl, sym}
 use mathlib.Core.Bool.{Bool, true, false, ◌&&◌, and-eq-true_iff}
 use mathlib.Core.List.{List, [], ◌∷◌, ◌++◌, append_assoc, append-nil}
 use lib.ListN.{length, get_or, take, set}
@@ -10,10 +10,15 @@ use lib.Dec.{ltb, leb}
 use native.Mathlib.Numerals.{add-one}
 use native.Mathlib.Omega.{arith}
 use borrow.Author.Tests.{ltb-true, leb-true}
+use Rattle.std.specs.Prelude.{Ok, Err}
+use Rattle.reach.specs.declared.Refusal.{Refusal}
+use Rattle.reach.specs.declared.Refusal.TheVariants.{OutOfRange}
+use Rattle.reach.specs.Base.{pick}
 use Rattle.reach.specs.Limits.{view_limit}
 use Rattle.reach.specs.Places.{bytes_at}
-use Rattle.expressions.specs.declared.View.{View}
-use Rattle.expressions.specs.Readers.{view_of, Limits}
+use Rattle.reach.proofs.Base.{clash}
+use Rattle.expressions.specs.declared.Scope.{Scope}
+use Rattle.expressions.specs.Readers.{view_of, Inside}
 use Rattle.lookups.proofs.Tables.{bytes_more, bytes_none}
 
 -- a type that is stored behind the first n
@@ -24,30 +29,51 @@ stored types n t h = rw add-one (take-suc-set types n t h)
 pub held : (types : List ℕ) (n : ℕ) → length types ≡ 40 → n ≤ 40 → length (take n types) ≡ n
 held types n l h = length-take-le n types (omega arith)
 
--- a view and the bytes that are still to come: the first of them is one more variable, and in the end there are none
-module _ (s view : List ℕ) (i n : ℕ) where
-  pub one_more : 0 < n → (view ++ (get_or s i 0 ∷ [])) ++ bytes_at s (i + 1) (n - 1) ≡ view ++ bytes_at s i n
-  one_more h = rw (append_assoc view (get_or s i 0 ∷ []) (bytes_at s (i + 1) (n - 1)), bytes_more s i n h)
+-- a view and the bytes that are still to come, from number i on: the first of them is one more variable, and in the end there are none
+module _ (s view : List ℕ) (at n i : ℕ) where
+  pub one_more : i < n → (view ++ (get_or s (at + i) 0 ∷ [])) ++ bytes_at s (at + (i + 1)) (n - (i + 1)) ≡ view ++ bytes_at s (at + i) (n - i)
+  one_more h =
+      let place : at + i + 1 ≡ at + (i + 1) = omega arith in
+      let left : n - i - 1 ≡ n - (i + 1) = omega arith in
+      rw (append_assoc view (get_or s (at + i) 0 ∷ []) (bytes_at s (at + (i + 1)) (n - (i + 1))), bytes_more s (at + i) (n - i) (omega arith), place, left)
 
-  pub no_more : n ≤ 0 → view ≡ view ++ bytes_at s i n
-  no_more h = rw (bytes_none s i n h) (sym (append-nil view))
+  pub no_more : n ≤ i → view ≡ view ++ bytes_at s (at + i) (n - i)
+  no_more h = rw (bytes_none s (at + i) (n - i) (omega arith)) (sym (append-nil view))
 
--- The code's test of the limits is the definition's. Where it passes, nesting is left and the view is within its limit.
-module _ {left : ℕ} {view : View} {r : Bool} (l : Limits left view r) where
-  test : {b : Bool} → r ≡ b → (ltb 0 left && leb (length (view_of view)) view_limit) ≡ b
-  test e = rw l.held (sym l.told ∙ e)
+-- The code's test of the limits is the definition's. Where it passes, nesting is left, the view is within its limit, and one level less is left inside.
+abbrev pub within : Scope → Bool
+within scope = ltb 0 scope.left && leb (length (view_of scope.view)) view_limit
 
-  both : r ≡ true → (ltb 0 left ≡ true) × (leb view.count view_limit ≡ true)
-  both e = (and-eq-true_iff (ltb 0 left) (leb view.count view_limit)).0 (sym l.told ∙ e)
+abbrev pub deeper : Scope → Scope
+deeper scope = record scope { left = scope.left - 1 }
 
-  pub limits_over : r ≡ false → (ltb 0 left && leb (length (view_of view)) view_limit) ≡ false
-  limits_over e = test e
+over : (deep : Scope) (b : Bool) {why : Refusal} → Err why ≡ pick b (Ok deep) (Err OutOfRange) → (b ≡ false) × (why ≡ OutOfRange)
+over deep true e = absurd (clash (cc))
+over deep false e = (refl, (cc))
 
-  pub limits_kept : r ≡ true → (ltb 0 left && leb (length (view_of view)) view_limit) ≡ true
-  limits_kept e = test e
+kept : {deep : Scope} (b : Bool) {inside : Scope} → Ok inside ≡ pick b (Ok deep) (Err OutOfRange) → (b ≡ true) × (inside ≡ deep)
+kept true e = (refl, (cc))
+kept false e = absurd (clash (cc))
 
-  pub limits_nested : r ≡ true → 0 < left
-  limits_nested e = ltb-true 0 left (both e).0
+module _ {scope : Scope} {why : Refusal} (l : Inside scope (Err why)) where
+  pub limits_over : within scope ≡ false
+  limits_over = rw l.held (over _ _ l.told).0
 
-  pub limits_view : r ≡ true → view.count ≤ 32
-  limits_view e = leb-true view.count 32 (both e).1
+  pub limits_why : why ≡ OutOfRange
+  limits_why = (over _ _ l.told).1
+
+module _ {scope : Scope} {inside : Scope} (l : Inside scope (Ok inside)) where
+  both : (ltb 0 scope.left ≡ true) × (leb scope.view.count view_limit ≡ true)
+  both = (and-eq-true_iff (ltb 0 scope.left) (leb scope.view.count view_limit)).0 (kept _ l.told).0
+
+  pub limits_kept : within scope ≡ true
+  limits_kept = rw l.held (kept _ l.told).0
+
+  pub limits_deeper : inside ≡ deeper scope
+  limits_deeper = (kept _ l.told).1
+
+  pub limits_nested : 0 < scope.left
+  limits_nested = ltb-true 0 scope.left both.0
+
+  pub limits_view : scope.view.count ≤ 32
+  limits_view = leb-true scope.view.count 32 both.1

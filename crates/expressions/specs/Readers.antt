@@ -1,34 +1,29 @@
--- The check of an expression as its functions see it: the readers of crate reach over what the places declare, and what the tables must keep to.
--- Rests on reach's RuleFile and Places and on the struct of src/lib.rt.
-use Rattle.std.specs.Prelude.{ℕ, zero, suc, ◌≤◌, ◌<◌, ◌≡◌, Bool, ◌&&◌, List, [], ◌++◌, ltb, leb, eqb, length, get_or, take}
+-- The check of an expression as its functions see it: the readers of crate reach over what the places declare.
+-- Rests on reach's RuleFile and Places, on typerecord's Passed and on the structs of src/lib.rt.
+use Rattle.std.specs.Prelude.{ℕ, zero, suc, ◌-◌, ◌≡◌, ◌&&◌, List, [], ◌++◌, ltb, leb, eqb, length, take, Result, Ok, Err}
 use Rattle.std.proofs.Math.Option.{Option, none, some}
-use Rattle.std.proofs.Math.ListN.{get_elem?}
+use Rattle.reach.specs.declared.Refusal.{Refusal}
 use Rattle.reach.specs.declared.Refusal.TheVariants.{OutOfRange, UnknownCode}
 use Rattle.reach.specs.Base.{pick}
-use Rattle.reach.specs.Limits.{field_limit, parameter_limit, view_limit}
+use Rattle.reach.specs.Limits.{view_limit}
 use Rattle.reach.specs.Syntax.{Expr, Exprs, Alternatives}
 use Rattle.reach.specs.Reader.{Reader, ◌>>=◌, ◌>>◌, give, refuse, demand, byte}
 use Rattle.reach.specs.RuleFile.{Declarations, Below, operands_of, alternatives, variable_expr, call_expr, construct_expr, case_expr, let_expr, target_expr, expression}
-use Rattle.reach.specs.Places.{type_at, head_at, declarations_at}
+use Rattle.reach.specs.Places.{declarations_at}
+use Rattle.typerecord.specs.Passed.{passed_of}
+use Rattle.lookups.specs.declared.Rules.{Rules}
 use Rattle.expressions.specs.declared.View.{View}
+use Rattle.expressions.specs.declared.Scope.{Scope}
 
 -- the types of the variables in view
 abbrev pub view_of : View → List ℕ
 view_of v = take v.count v.types
 
--- What the test of the limits tells: whether nesting is left and the view is within its limit; and that a view holds as many as it counts.
-pub record Limits (left : ℕ) (view : View) (r : Bool) : Type 0 where
-  pub told : r ≡ (ltb 0 left && leb view.count view_limit)
-  pub held : length (view_of view) ≡ view.count
-
--- every constructor has at most 6 fields
-abbrev pub Narrow : List (List ℕ) → Type 0
-Narrow cs = (c : ℕ) (us : List ℕ) → get_elem? cs c ≡ some us → length us ≤ field_limit
-
--- The tables keep to the limits of the first pass.
-pub record TablesSmall (file types functions : List ℕ) : Type 0 where
-  pub fields_limit : (t : ℕ) → t < length types → Narrow (type_at file (get_or types t 0))
-  pub parameters_limit : (f : ℕ) → f < length functions → length (head_at file (get_or functions f 0)).parameters ≤ parameter_limit
+-- What the test of the limits tells: the scope one level below where nesting is left and the view is within its limit, else the refusal; and that a
+-- view holds as many as it counts.
+pub record Inside (s : Scope) (r : Result Scope Refusal) : Type 0 where
+  pub told : r ≡ pick (ltb 0 s.left && leb s.view.count view_limit) (Ok (record s { left = s.left - 1 })) (Err OutOfRange)
+  pub held : length (view_of s.view) ≡ s.view.count
 
 -- the reader of what stands one level below an expression
 unfoldable pub below_in : Declarations → ℕ → Below
@@ -75,3 +70,7 @@ module _ (file types functions : List ℕ) where
     b ← byte
     demand (leb b 1) UnknownCode
     pick (eqb b 0) (give none) (expression_at left (view ++ us) t >>= λ e. give (some e))
+
+-- what a reader finds in a scope, the value forgotten
+abbrev pub found : (List ℕ → List ℕ → List ℕ → ℕ → Below) → Rules → Scope → List ℕ → ℕ → Result ℕ Refusal
+found kind r s bytes at = passed_of (kind r.file.now r.types.now r.functions.now s.left (view_of s.view) s.expected bytes at)

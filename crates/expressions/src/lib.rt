@@ -2,429 +2,290 @@
 // and functions are looked at where the first pass found them. Rests on crates marks, typerecord and lookups.
 #![tactic(auto)]
 
-ghost use Rattle.std.specs.Prelude.{◌≡◌, [], ◌∷◌, ◌++◌, ◌+◌, ◌≤◌};
-ghost use Rattle.reach.specs.Places.{bytes_at, constructors_at};
-ghost use Rattle.typerecord.specs.Passed.{passed_of};
-ghost use Rattle.expressions.specs.Readers.{view_of, Limits, TablesSmall, Narrow, variable_at, call_at, construct_at, case_at, let_at, target_at, expression_at, operands_at, alternative_at, alternatives_at};
+ghost use Rattle.std.specs.Prelude.{◌≤◌};
+ghost use Rattle.expressions.specs.Tables.{TablesSmall};
 
-use lookups::{Fields, constructors_of, fields_of, head_of};
-use marks::{Taken, byte_or_zero, take_byte, wide};
+use lookups::{FieldTypes, Rules};
+use marks::{byte_or_zero, take_byte};
 use reach::Refusal;
-use typerecord::Passed;
 
 const VIEW_LIMIT: usize = 32;
 
-// The types of the variables in view. A view beyond the limit is refused at the next expression, so 6 more are enough.
+// The types of the variables in view. A view beyond the limit is refused at the next expression, so 8 more are enough. (An array of 40 with a count: the
+// library has no heap, and a view is copied and grows, as no slice does. Not a table of outline, which is lent and holds places.)
 #[derive(Clone, Copy)]
 pub struct View {
     pub types: [u8; 40],
     pub count: usize,
+    pub ghost few: { count ≤ 40 },
 }
 
-// The view with one more variable.
-fn with_one(view: View, t: usize) -> View
-    requires { (view.count ≤ 39) × (t ≤ 255) }
-    ensures { (view_of result ≡ view_of view ++ (t ∷ [])) × (result.count ≡ view.count + 1) }
-{
-    let mut wider = view;
-    let next = wider.count;
-    wider.types[next] = (t % 256) as u8;
-    wider.count = next + 1;
-    wider
+// What the place of an expression gives it: how many levels may still nest there, the variables in view, and the type that is expected.
+#[derive(Clone, Copy)]
+pub struct Scope {
+    pub left: usize,
+    pub view: View,
+    pub expected: usize,
 }
 
-// The view with n more variables, whose types stand from a place on.
-pub fn extended(view: View, s: &[u8], at: usize, n: usize) -> View
-    requires { (view.count + n ≤ 40) × (at ≤ 1000000) }
-    ensures { (view_of result ≡ view_of view ++ bytes_at s.now at n) × (result.count ≡ view.count + n) }
-{
-    let mut wider = view;
-    let mut place = at;
-    let mut more = n;
-    while 0 < more {
-        let longer = with_one(wider, byte_or_zero(s, place));
-        wider = longer;
-        place += 1;
-        more -= 1;
-    }
-    wider
+// The bytes up to the end of a body, and the rules that it is checked by: those of a file that the first pass let through.
+#[derive(Clone, Copy)]
+pub struct Body<'a> {
+    pub rules: Rules<'a>,
+    pub bytes: &'a [u8],
+    pub ghost small: { TablesSmall rules.file.now rules.types.now rules.functions.now },
 }
 
-// The expression's own nesting and view are within their limits.
-fn in_limits(left: usize, view: View) -> bool
-    requires { view.count ≤ 38 }
-    ensures { Limits left view result }
-{
-    if left == 0 {
-        false
-    } else {
-        view.count <= VIEW_LIMIT
-    }
-}
+impl View {
+    ghost use Rattle.std.specs.Prelude.{◌≡◌, [], ◌∷◌, ◌++◌, ◌+◌, ◌≤◌};
+    ghost use Rattle.reach.specs.Places.{bytes_at};
+    ghost use Rattle.expressions.specs.Readers.{view_of};
 
-// A variable: its number; its type is that of the view.
-fn variable(body: &[u8], at: usize, left: usize, view: View, expected: usize) -> Passed
-    requires { view.count ≤ 38 }
-    ensures { result ≡ passed_of (variable_at left (view_of view) expected body.now at) }
-{
-    let Taken::Byte(number, next) = take_byte(body, at) else {
-        return Passed::Refused(Refusal::Truncated);
-    };
-    let n = wide(number);
-    if view.count <= n {
-        return Passed::Refused(Refusal::UnknownNumber);
+    // No variables.
+    pub fn empty() -> View
+        ensures types { view_of result ≡ [] }
+        ensures many { result.count ≡ 0 }
+    {
+        View {
+            types: [0; 40],
+            count: 0,
+        }
     }
-    if !in_limits(left, view) {
-        return Passed::Refused(Refusal::OutOfRange);
-    }
-    if wide(view.types[n]) != expected {
-        return Passed::Refused(Refusal::TypeMismatch);
-    }
-    Passed::Next(next)
-}
 
-// An expression, which may nest so many deep: its code, and what its kind reads behind it.
-#[cycle(expressions)]
-pub fn expression<'a>(
-    file: &'a [u8],
-    body: &'a [u8],
-    types: &'a [u16],
-    functions: &'a [u16],
-    at: usize,
-    left: usize,
-    view: View,
-    expected: usize,
-) -> Passed
-    requires { TablesSmall file.now types.now functions.now × (view.count ≤ 38) }
-    ensures { result ≡ passed_of (expression_at file.now types.now functions.now left (view_of view) expected body.now at) }
-{
-    let Taken::Byte(code, next) = take_byte(body, at) else {
-        return Passed::Refused(Refusal::Truncated);
-    };
-    match code {
-        0 => variable(body, next, left, view, expected),
-        1 => call(file, body, types, functions, next, left, view, expected),
-        2 => construct(file, body, types, functions, next, left, view, expected),
-        3 => case(file, body, types, functions, next, left, view, expected),
-        4 => let_expression(file, body, types, functions, next, left, view, expected),
-        5 => target(file, body, types, functions, next, left, view, expected),
-        _ => Passed::Refused(Refusal::UnknownCode),
-    }
-}
-
-// A call: the function's number, and an operand for each of its parameters.
-#[cycle(expressions)]
-fn call<'a>(
-    file: &'a [u8],
-    body: &'a [u8],
-    types: &'a [u16],
-    functions: &'a [u16],
-    at: usize,
-    left: usize,
-    view: View,
-    expected: usize,
-) -> Passed
-    requires { TablesSmall file.now types.now functions.now × (view.count ≤ 38) }
-    ensures { result ≡ passed_of (call_at file.now types.now functions.now left (view_of view) expected body.now at) }
-{
-    let Taken::Byte(number, next) = take_byte(body, at) else {
-        return Passed::Refused(Refusal::Truncated);
-    };
-    let f = wide(number);
-    if functions.len() <= f {
-        return Passed::Refused(Refusal::UnknownNumber);
-    }
-    if !in_limits(left, view) {
-        return Passed::Refused(Refusal::OutOfRange);
-    }
-    let head = head_of(file, functions, f);
-    if head.result != expected {
-        return Passed::Refused(Refusal::TypeMismatch);
-    }
-    operands(
-        file,
-        body,
-        types,
-        functions,
-        next,
-        left - 1,
-        view,
-        head.parameters,
-        head.count,
-    )
-}
-
-// A construction: the type's and the constructor's number, and an operand for each field.
-#[cycle(expressions)]
-fn construct<'a>(
-    file: &'a [u8],
-    body: &'a [u8],
-    types: &'a [u16],
-    functions: &'a [u16],
-    at: usize,
-    left: usize,
-    view: View,
-    expected: usize,
-) -> Passed
-    requires { TablesSmall file.now types.now functions.now × (view.count ≤ 38) }
-    ensures { result ≡ passed_of (construct_at file.now types.now functions.now left (view_of view) expected body.now at) }
-{
-    let Taken::Byte(number, middle) = take_byte(body, at) else {
-        return Passed::Refused(Refusal::Truncated);
-    };
-    let Taken::Byte(c, next) = take_byte(body, middle) else {
-        return Passed::Refused(Refusal::Truncated);
-    };
-    let t = wide(number);
-    let Fields::At(fields, n) = fields_of(file, types, t, wide(c)) else {
-        return Passed::Refused(Refusal::UnknownNumber);
-    };
-    if !in_limits(left, view) {
-        return Passed::Refused(Refusal::OutOfRange);
-    }
-    if t != expected {
-        return Passed::Refused(Refusal::TypeMismatch);
-    }
-    operands(
-        file,
-        body,
-        types,
-        functions,
-        next,
-        left - 1,
-        view,
-        fields,
-        n,
-    )
-}
-
-// A case: the type's number, the subject, and an alternative or none for each constructor of the type.
-#[cycle(expressions)]
-fn case<'a>(
-    file: &'a [u8],
-    body: &'a [u8],
-    types: &'a [u16],
-    functions: &'a [u16],
-    at: usize,
-    left: usize,
-    view: View,
-    expected: usize,
-) -> Passed
-    requires { TablesSmall file.now types.now functions.now × (view.count ≤ 38) }
-    ensures { result ≡ passed_of (case_at file.now types.now functions.now left (view_of view) expected body.now at) }
-{
-    let Taken::Byte(number, next) = take_byte(body, at) else {
-        return Passed::Refused(Refusal::Truncated);
-    };
-    let t = wide(number);
-    if types.len() <= t {
-        return Passed::Refused(Refusal::UnknownNumber);
-    }
-    if !in_limits(left, view) {
-        return Passed::Refused(Refusal::OutOfRange);
-    }
-    let step = expression(file, body, types, functions, next, left - 1, view, t);
-    let Passed::Next(first) = step else {
-        return step;
-    };
-    let all = constructors_of(file, types, t);
-    alternatives(
-        file,
-        body,
-        types,
-        functions,
-        first,
-        left - 1,
-        view,
-        all.at,
-        all.count,
-        expected,
-    )
-}
-
-// A let: the type's number, the bound expression, and the body, which sees one more variable.
-#[cycle(expressions)]
-fn let_expression<'a>(
-    file: &'a [u8],
-    body: &'a [u8],
-    types: &'a [u16],
-    functions: &'a [u16],
-    at: usize,
-    left: usize,
-    view: View,
-    expected: usize,
-) -> Passed
-    requires { TablesSmall file.now types.now functions.now × (view.count ≤ 38) }
-    ensures { result ≡ passed_of (let_at file.now types.now functions.now left (view_of view) expected body.now at) }
-{
-    let Taken::Byte(number, next) = take_byte(body, at) else {
-        return Passed::Refused(Refusal::Truncated);
-    };
-    let t = wide(number);
-    if types.len() <= t {
-        return Passed::Refused(Refusal::UnknownNumber);
-    }
-    if !in_limits(left, view) {
-        return Passed::Refused(Refusal::OutOfRange);
-    }
-    let step = expression(file, body, types, functions, next, left - 1, view, t);
-    let Passed::Next(behind) = step else {
-        return step;
-    };
-    expression(
-        file,
-        body,
-        types,
-        functions,
-        behind,
-        left - 1,
-        with_one(view, t),
-        expected,
-    )
-}
-
-// A target: the label, and the expression inside.
-#[cycle(expressions)]
-fn target<'a>(
-    file: &'a [u8],
-    body: &'a [u8],
-    types: &'a [u16],
-    functions: &'a [u16],
-    at: usize,
-    left: usize,
-    view: View,
-    expected: usize,
-) -> Passed
-    requires { TablesSmall file.now types.now functions.now × (view.count ≤ 38) }
-    ensures { result ≡ passed_of (target_at file.now types.now functions.now left (view_of view) expected body.now at) }
-{
-    let Taken::Byte(_, next) = take_byte(body, at) else {
-        return Passed::Refused(Refusal::Truncated);
-    };
-    if !in_limits(left, view) {
-        return Passed::Refused(Refusal::OutOfRange);
-    }
-    expression(file, body, types, functions, next, left - 1, view, expected)
-}
-
-// An expression for each of the n types that stand from a place of the file on.
-#[cycle(expressions)]
-fn operands<'a>(
-    file: &'a [u8],
-    body: &'a [u8],
-    types: &'a [u16],
-    functions: &'a [u16],
-    at: usize,
-    left: usize,
-    view: View,
-    first: usize,
-    n: usize,
-) -> Passed
-    requires { TablesSmall file.now types.now functions.now × (view.count ≤ 38) × (first ≤ 1000000) × (n ≤ 255) }
-    ensures { result ≡ passed_of (operands_at file.now types.now functions.now left (view_of view) (bytes_at file.now first n) body.now at) }
-{
-    let mut place = at;
-    let mut t = first;
-    let mut more = n;
-    while 0 < more {
-        let step = expression(
-            file,
-            body,
+    // The view with one more variable.
+    fn with(self, t: usize) -> View
+        requires room { self.count ≤ 39 }
+        requires small { t ≤ 255 }
+        ensures types { view_of result ≡ view_of self ++ (t ∷ []) }
+        ensures many { result.count ≡ self.count + 1 }
+    {
+        let mut types = self.types;
+        types[self.count] = t as u8;
+        View {
             types,
-            functions,
-            place,
-            left,
-            view,
-            byte_or_zero(file, t),
-        );
-        let Passed::Next(next) = step else {
-            return step;
-        };
-        place = next;
-        t += 1;
-        more -= 1;
+            count: self.count + 1,
+        }
     }
-    Passed::Next(place)
+
+    // The view with more variables, of these types.
+    pub fn extended(self, s: &[u8], fields: FieldTypes) -> View
+        requires room { self.count + fields.count ≤ 40 }
+        ensures types { view_of result ≡ view_of self ++ bytes_at s.now fields.at fields.count }
+        ensures many { result.count ≡ self.count + fields.count }
+    {
+        let mut wider = self;
+        for i in 0..fields.count {
+            wider = wider.with(byte_or_zero(s, fields.at + i));
+        }
+        wider
+    }
 }
 
-// An alternative or none for each of the n constructors whose records stand from a place of the file on.
-#[cycle(expressions)]
-fn alternatives<'a>(
-    file: &'a [u8],
-    body: &'a [u8],
-    types: &'a [u16],
-    functions: &'a [u16],
-    at: usize,
-    left: usize,
-    view: View,
-    constructors: usize,
-    n: usize,
-    expected: usize,
-) -> Passed
-    requires { TablesSmall file.now types.now functions.now × (view.count ≤ 32) × (constructors ≤ 65536) × (n ≤ 255) × Narrow (constructors_at file.now constructors n) }
-    ensures { result ≡ passed_of (alternatives_at file.now types.now functions.now left (view_of view) expected (constructors_at file.now constructors n) body.now at) }
-{
-    let mut place = at;
-    let mut constructor = constructors;
-    let mut more = n;
-    while 0 < more {
-        let fields = byte_or_zero(file, constructor);
-        let step = alternative(
-            file,
-            body,
-            types,
-            functions,
-            place,
-            left,
-            view,
-            constructor + 1,
-            fields,
-            expected,
-        );
-        let Passed::Next(next) = step else {
-            return step;
-        };
-        place = next;
-        constructor = constructor + 1 + fields;
-        more -= 1;
+impl Scope {
+    ghost use Rattle.expressions.specs.Readers.{Inside};
+
+    // The same one level deeper, where nesting is left and the view is within its limit.
+    fn inside(self) -> Result<Scope, Refusal>
+        ensures { Inside self result }
+    {
+        if self.left == 0 || VIEW_LIMIT < self.view.count {
+            return Err(Refusal::OutOfRange);
+        }
+        Ok(Scope {
+            left: self.left - 1,
+            ..self
+        })
     }
-    Passed::Next(place)
 }
 
-// A byte: 0 for no alternative, or 1 and an expression that sees the n fields too.
-#[cycle(expressions)]
-fn alternative<'a>(
-    file: &'a [u8],
-    body: &'a [u8],
-    types: &'a [u16],
-    functions: &'a [u16],
-    at: usize,
-    left: usize,
-    view: View,
-    fields: usize,
-    n: usize,
-    expected: usize,
-) -> Passed
-    requires { TablesSmall file.now types.now functions.now × (view.count ≤ 32) × (fields ≤ 1000000) × (n ≤ 6) }
-    ensures { result ≡ passed_of (alternative_at file.now types.now functions.now left (view_of view) expected (bytes_at file.now fields n) body.now at) }
-{
-    let Taken::Byte(b, next) = take_byte(body, at) else {
-        return Passed::Refused(Refusal::Truncated);
-    };
-    if 1 < b {
-        return Passed::Refused(Refusal::UnknownCode);
+impl<'a> Body<'a> {
+    ghost use Rattle.std.specs.Prelude.{◌≡◌, ◌<◌, ◌≤◌, length, get_or};
+    ghost use Rattle.reach.specs.Places.{bytes_at, type_at};
+    ghost use Rattle.typerecord.specs.Passed.{passed_of};
+    ghost use Rattle.expressions.specs.Readers.{found, view_of, variable_at, call_at, construct_at, case_at, let_at, target_at, expression_at, operands_at, alternative_at, alternatives_at};
+
+    // A variable: its number; its type is that of the view.
+    fn variable(&self, at: usize, scope: Scope) -> Result<usize, Refusal>
+        ensures { result ≡ passed_of (variable_at scope.left (view_of scope.view) scope.expected self.now.bytes.now at) }
+    {
+        let (number, next) = take_byte(self.bytes, at)?;
+        let n = usize::from(number);
+        if scope.view.count <= n {
+            return Err(Refusal::UnknownNumber);
+        }
+        let inside = scope.inside()?;
+        if usize::from(inside.view.types[n]) != scope.expected {
+            return Err(Refusal::TypeMismatch);
+        }
+        Ok(next)
     }
-    if b == 0 {
-        return Passed::Next(next);
+
+    // An expression, which may nest so many deep: its code, and what its kind reads behind it. (The codes as numbers: an enum would be read off them by a
+    // second match of the same arms.)
+    #[cycle(expressions)]
+    pub fn expression(&self, at: usize, scope: Scope) -> Result<usize, Refusal>
+        ensures { result ≡ found expression_at self.now.rules scope self.now.bytes.now at }
+    {
+        let (code, next) = take_byte(self.bytes, at)?;
+        match code {
+            0 => self.variable(next, scope),
+            1 => self.call(next, scope),
+            2 => self.construct(next, scope),
+            3 => self.case(next, scope),
+            4 => self.let_expression(next, scope),
+            5 => self.target(next, scope),
+            _ => Err(Refusal::UnknownCode),
+        }
     }
-    expression(
-        file,
-        body,
-        types,
-        functions,
-        next,
-        left,
-        extended(view, file, fields, n),
-        expected,
-    )
+
+    // A call: the function's number, and an operand for each of its parameters.
+    #[cycle(expressions)]
+    fn call(&self, at: usize, scope: Scope) -> Result<usize, Refusal>
+        ensures { result ≡ found call_at self.now.rules scope self.now.bytes.now at }
+    {
+        let (number, next) = take_byte(self.bytes, at)?;
+        let f = usize::from(number);
+        if self.rules.functions.len() <= f {
+            return Err(Refusal::UnknownNumber);
+        }
+        let inside = scope.inside()?;
+        let head = self.rules.head(f);
+        if head.result != scope.expected {
+            return Err(Refusal::TypeMismatch);
+        }
+        self.operands(next, inside, head.parameters)
+    }
+
+    // A construction: the type's and the constructor's number, and an operand for each field.
+    #[cycle(expressions)]
+    fn construct(&self, at: usize, scope: Scope) -> Result<usize, Refusal>
+        ensures { result ≡ found construct_at self.now.rules scope self.now.bytes.now at }
+    {
+        let (number, middle) = take_byte(self.bytes, at)?;
+        let (c, next) = take_byte(self.bytes, middle)?;
+        let t = usize::from(number);
+        let Some(fields) = self.rules.fields(t, usize::from(c)) else {
+            return Err(Refusal::UnknownNumber);
+        };
+        let inside = scope.inside()?;
+        if t != scope.expected {
+            return Err(Refusal::TypeMismatch);
+        }
+        self.operands(next, inside, fields)
+    }
+
+    // A case: the type's number, the subject, and an alternative or none for each constructor of the type. (Not one function with a let, which it is like up to
+    // the first expression: the two make other expressions, and each step of the reader's law would be said twice.)
+    #[cycle(expressions)]
+    fn case(&self, at: usize, scope: Scope) -> Result<usize, Refusal>
+        ensures { result ≡ found case_at self.now.rules scope self.now.bytes.now at }
+    {
+        let (number, next) = take_byte(self.bytes, at)?;
+        let t = usize::from(number);
+        if self.rules.types.len() <= t {
+            return Err(Refusal::UnknownNumber);
+        }
+        let inside = scope.inside()?;
+        let first = self.expression(
+            next,
+            Scope {
+                expected: t,
+                ..inside
+            },
+        )?;
+        self.alternatives(first, inside, t)
+    }
+
+    // A let: the type's number, the bound expression, and the body, which sees one more variable.
+    #[cycle(expressions)]
+    fn let_expression(&self, at: usize, scope: Scope) -> Result<usize, Refusal>
+        ensures { result ≡ found let_at self.now.rules scope self.now.bytes.now at }
+    {
+        let (number, next) = take_byte(self.bytes, at)?;
+        let t = usize::from(number);
+        if self.rules.types.len() <= t {
+            return Err(Refusal::UnknownNumber);
+        }
+        let inside = scope.inside()?;
+        let behind = self.expression(
+            next,
+            Scope {
+                expected: t,
+                ..inside
+            },
+        )?;
+        self.expression(
+            behind,
+            Scope {
+                view: inside.view.with(t),
+                ..inside
+            },
+        )
+    }
+
+    // A target: the label, and the expression inside.
+    #[cycle(expressions)]
+    fn target(&self, at: usize, scope: Scope) -> Result<usize, Refusal>
+        ensures { result ≡ found target_at self.now.rules scope self.now.bytes.now at }
+    {
+        let (_, next) = take_byte(self.bytes, at)?;
+        let inside = scope.inside()?;
+        self.expression(next, inside)
+    }
+
+    // An expression for each of these types.
+    #[cycle(expressions)]
+    fn operands(&self, at: usize, scope: Scope, fields: FieldTypes) -> Result<usize, Refusal>
+        ensures { let r = self.now.rules in
+            result ≡ passed_of (operands_at r.file.now r.types.now r.functions.now scope.left (view_of scope.view) (bytes_at r.file.now fields.at
+            fields.count) self.now.bytes.now at) }
+    {
+        let mut place = at;
+        for i in 0..fields.count {
+            let expected = byte_or_zero(self.rules.file, fields.at + i);
+            // (A form that 01 names: an operand's answer is taken apart with `let .. else`.)
+            let operand = self.expression(place, Scope { expected, ..scope });
+            let Ok(next) = operand else {
+                return operand;
+            };
+            place = next;
+        }
+        Ok(place)
+    }
+
+    // An alternative or none for each constructor of type t.
+    #[cycle(expressions)]
+    fn alternatives(&self, at: usize, scope: Scope, t: usize) -> Result<usize, Refusal>
+        requires seen { scope.view.count ≤ 32 }
+        requires known { t < length self.now.rules.types.now }
+        ensures { let r = self.now.rules in
+            result ≡ passed_of (alternatives_at r.file.now r.types.now r.functions.now scope.left (view_of scope.view) scope.expected (type_at r.file.now
+            (get_or r.types.now t 0)) self.now.bytes.now at) }
+    {
+        let mut place = at;
+        for fields in self.rules.each_constructor(t) {
+            place = self.alternative(place, scope, fields)?;
+        }
+        Ok(place)
+    }
+
+    // A byte: 0 for no alternative, or 1 and an expression that sees the fields too.
+    #[cycle(expressions)]
+    fn alternative(&self, at: usize, scope: Scope, fields: FieldTypes) -> Result<usize, Refusal>
+        requires seen { scope.view.count ≤ 32 }
+        requires few { fields.count ≤ 6 }
+        ensures { let r = self.now.rules in
+            result ≡ passed_of (alternative_at r.file.now r.types.now r.functions.now scope.left (view_of scope.view) scope.expected (bytes_at r.file.now
+            fields.at fields.count) self.now.bytes.now at) }
+    {
+        let (b, next) = take_byte(self.bytes, at)?;
+        if 1 < b {
+            return Err(Refusal::UnknownCode);
+        }
+        if b == 0 {
+            return Ok(next);
+        }
+        let view = scope.view.extended(self.rules.file, fields);
+        self.expression(next, Scope { view, ..scope })
+    }
 }

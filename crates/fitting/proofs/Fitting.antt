@@ -14,12 +14,13 @@ use Rattle.reach.specs.Partial.{Value, ◌before◌, deep_of, slotted}
 use Rattle.reach.specs.Places.{type_at, bytes_at}
 use Rattle.lookups.proofs.Tables.{slots_more, slots_none}
 use Rattle.rows.specs.declared.Measured.{Measured}
-use Rattle.rows.specs.Values.{of_value, of_row, manner_of, value_at, slots_at}
+use Rattle.std.specs.Prelude.{Option, None}
+use Rattle.rows.specs.Values.{measured, of_value, of_row, manner_of, value_at, slots_at}
 use Rattle.rows.specs.Stack.{joined}
 use Rattle.rows.proofs.Rows.{value_got, value_bad, joined_none}
 
 -- at the beginning all of it is left
-pub slots_whole : (file types table list depths : List ℕ) (fields n at : ℕ)
+pub slots_whole : (file types : List ℕ) (table : Option (List ℕ)) (list depths : List ℕ) (fields n at : ℕ)
     → joined 0 (of_row (slots_at file types table depths (bytes_at file (fields + 0) (n - 0)) list at)) ≡ of_row (slots_at file types table depths (bytes_at file fields n) list at)
 slots_whole file types table list depths fields n at =
     let place : fields + 0 ≡ fields = omega arith in
@@ -27,24 +28,24 @@ slots_whole file types table list depths fields n at =
     rw (place, all) (joined_none _)
 
 -- the values of n types that stand from a place of the file on, with a depth for each, from number i on
-module _ (file types table list depths : List ℕ) (fields n i at : ℕ) where
-  abbrev left : Measured
+module _ (file types : List ℕ) (table : Option (List ℕ)) (list depths : List ℕ) (fields n i at : ℕ) where
+  abbrev left : Option Measured
   left = of_row (slots_at file types table (drop i depths) (bytes_at file (fields + i) (n - i)) list at)
 
-  pub slots_done : n ≤ i → left ≡ Measured.At at 0
+  pub slots_done : n ≤ i → left ≡ measured at 0
   unfolding slotted
   slots_done h = rw (slots_none file fields n i depths h) refl
 
   -- by the answer to the first of them
   module _ (more : i < n) where
-    pub slots_bad : Measured.Bad ≡ of_value (value_at file types table depth_limit (get_or file (fields + i) 0) list at) → left ≡ Measured.Bad
+    pub slots_bad : None ≡ of_value (value_at file types table depth_limit (get_or file (fields + i) 0) list at) → left ≡ None
     unfolding slotted
     slots_bad told =
         let (why, found) = value_bad (value_at file types table depth_limit (get_or file (fields + i) 0) list at) told in
         rw (slots_more file fields n i depths more, found) refl
 
-    module _ {next one : ℕ} (told : Measured.At next one ≡ of_value (value_at file types table depth_limit (get_or file (fields + i) 0) list at)) where
-      pub slots_deep : get_or depths i 0 < one → left ≡ Measured.Bad
+    module _ {next one : ℕ} (told : measured next one ≡ of_value (value_at file types table depth_limit (get_or file (fields + i) 0) list at)) where
+      pub slots_deep : get_or depths i 0 < one → left ≡ None
       unfolding slotted
       slots_deep deep =
           let (v, found, is) = value_got (value_at file types table depth_limit (get_or file (fields + i) 0) list at) told in

@@ -1,43 +1,32 @@
 // A value for each slot, at most as deep as the slot allows, and how deep the deepest is. Rests on crates marks, goal, rows and partials.
 #![tactic(auto)]
 
-ghost use Rattle.std.specs.Prelude.{◌≡◌, ◌≤◌};
+ghost use Rattle.std.specs.Prelude.{◌≡◌};
 ghost use Rattle.reach.specs.Places.{bytes_at};
-ghost use Rattle.rows.specs.Values.{of_row, slots_at};
+ghost use Rattle.rows.specs.Values.{of_row, slots_at, table_of};
 
 use goal::depth_at;
+use lookups::FieldTypes;
 use marks::byte_or_zero;
 use partials::value;
-use rows::{Measured, larger};
+use rows::{Measured, Values};
 
-// A value for each of the n types that stand from a place of the file on, each at most as deep as the depth of its number. Each turn of the loop reads one.
-pub fn slots<'a>(
-    file: &'a [u8],
-    types: &'a [u16],
-    least: &'a [u8],
-    list: &'a [u8],
-    at: usize,
-    fields: usize,
-    n: usize,
-    depths: [u8; 8],
-) -> Measured
-    requires { (fields ≤ 1000000) × (n ≤ 255) }
-    ensures { result ≡ of_row (slots_at file.now types.now least.now depths (bytes_at file.now fields n) list.now at) }
+// A value for each of these types, each at most as deep as the depth of its number. Each turn of the loop reads one.
+pub fn slots(values: &Values, at: usize, fields: FieldTypes, depths: [u8; 8]) -> Option<Measured>
+    ensures { let v = values.now in
+        result ≡ of_row (slots_at v.rules.file.now v.rules.types.now (table_of v.least) depths (bytes_at v.rules.file.now fields.at fields.count)
+        v.list.now at) }
 {
-    let mut place = at;
-    let mut most: usize = 0;
-    let mut i: usize = 0;
-    while i < n {
-        let t = byte_or_zero(file, fields + i);
-        let Measured::At(next, one) = value(file, types, least, list, place, t, 64) else {
-            return Measured::Bad;
-        };
-        if depth_at(depths, i) < one {
-            return Measured::Bad;
+    let mut next = at;
+    let mut deep = 0;
+    for i in 0..fields.count {
+        let t = byte_or_zero(values.rules.file, fields.at + i);
+        let one = value(values, next, t, 64)?;
+        if depth_at(depths, i) < one.deep {
+            return None;
         }
-        place = next;
-        most = larger(most, one);
-        i += 1;
+        next = one.next;
+        deep = one.deep.max(deep);
     }
-    Measured::At(place, most)
+    Some(Measured { next, deep })
 }

@@ -7,16 +7,22 @@ use mathlib.Core.List.{List, [], ◌∷◌, map}
 use mathlib.Core.Option.{none, some}
 use lib.ListN.{length, get_or, get_elem?, drop}
 use lib.Seq.{drop-nil}
+use lib.Dec.{ltb}
+use borrow.Author.Tests.{ltb-true, ltb-false}
 use native.Mathlib.Numerals.{add-one}
 use native.Mathlib.Omega.{arith}
 use Rattle.reach.proofs.Base.{clash}
 use Rattle.reach.specs.Syntax.{Types, field_types}
 use Rattle.reach.specs.Types.{forks, forks_from, shallow}
-use Rattle.reach.specs.Places.{bytes_at, type_at}
+use Rattle.reach.specs.Places.{bytes_at, constructors_at, type_at}
 use Rattle.reach.proofs.Places.{bytes_length}
-use Rattle.lookups.specs.Fields.{fields_of, fields_in}
-use Rattle.lookups.specs.declared.Fields.{Fields}
-use Rattle.lookups.proofs.Tables.{constructor_missing}
+use Rattle.std.specs.Prelude as Std
+use Rattle.std.specs.Prelude.{Some, None}
+use Rattle.lookups.specs.Fields as Lookup
+use Rattle.lookups.specs.Fields.{fields_in}
+use Rattle.lookups.specs.declared.FieldTypes.{FieldTypes}
+use Rattle.lookups.specs.declared.Constructors.{Constructors}
+use Rattle.lookups.proofs.Tables.{constructor_missing, fields_found, fields_missing}
 use Rattle.depths.specs.Table.{padded}
 use Rattle.depths.proofs.Padded.{padded_shallow}
 use Rattle.forks.specs.Untried.{untried, untried_in}
@@ -77,38 +83,44 @@ module _ (types : Types) (table : List ℕ) (t : ℕ) where
 
 -- ---- the same, the types' records standing at places of the file
 
--- a byte counts at most 255 constructors: there is none of a number from 255 on
-fields_end : (file : List ℕ) → ((i : ℕ) → get_or file i 0 < 256) → (types : List ℕ) (t c : ℕ) → 255 ≤ c → fields_in file types t c ≡ none
-unfolding field_types type_at
-fields_end file bytes [] t c h = refl
-fields_end file bytes (p ∷ ps) zero c h = constructor_missing file (p + 1) (get_or file p 0) c (omega (arith, bytes p))
-fields_end file bytes (p ∷ ps) (suc t) c h = fields_end file bytes ps t c h
+-- there is no constructor of a number from the type's count on
+fields_end :
+    (file types : List ℕ) (t c : ℕ) (all : Constructors) → constructors_at file all.at all.count ≡ type_at file (get_or types t 0) → all.count ≤ c
+    → fields_in file types t c ≡ none
+fields_end file types t c all is h = by_type (ltb t (length types)) refl
+  where
+    by_type : (b : Bool) → ltb t (length types) ≡ b → fields_in file types t c ≡ none
+    by_type true there =
+        fields_found file types t c (ltb-true t (length types) there) ∙ ap (λ cs. get_elem? cs c) (sym is) ∙ constructor_missing file all.at all.count c h
+    by_type false out = fields_missing file types t c (ltb-false t (length types) out)
 
 module _ (file types table : List ℕ) (t room : ℕ) where
   -- so none is left to take there
-  pub untried_end : (c : ℕ) → ((i : ℕ) → get_or file i 0 < 256) → 255 ≤ c → untried_in file types table t room c ≡ []
-  untried_end c bytes h = untried_none (map (type_at file) types) table t room c (fields_end file bytes types t c h)
+  pub untried_end :
+      (c : ℕ) (all : Constructors) → constructors_at file all.at all.count ≡ type_at file (get_or types t 0) → all.count ≤ c
+      → untried_in file types table t room c ≡ []
+  untried_end c all is h = untried_none (map (type_at file) types) table t room c (fields_end file types t c all is h)
 
   -- the lookup's answer at number c: no such constructor
-  module _ (c : ℕ) (r : Fields) (told : fields_of file r ≡ fields_in file types t c) where
-    pub found_none : r ≡ Fields.Unknown → untried_in file types table t room c ≡ []
-    found_none e = untried_none (map (type_at file) types) table t room c (sym told ∙ ap (λ x. fields_of file x) e)
+  module _ (c : ℕ) (r : Std.Option FieldTypes) (told : Lookup.field_types file r ≡ fields_in file types t c) where
+    pub found_none : r ≡ None → untried_in file types table t room c ≡ []
+    found_none e = untried_none (map (type_at file) types) table t room c (sym told ∙ ap (λ x. Lookup.field_types file x) e)
 
-    module _ {i k : ℕ} (e : r ≡ Fields.At i k) where
+    module _ {found : FieldTypes} (e : r ≡ Some found) where
       -- its fields, where they were found
-      pub found_fields : fields_in file types t c ≡ some (bytes_at file i k)
-      found_fields = sym told ∙ ap (λ x. fields_of file x) e
+      pub found_fields : fields_in file types t c ≡ some (bytes_at file found.at found.count)
+      found_fields = sym told ∙ ap (λ x. Lookup.field_types file x) e
 
       -- they may be so deep: it is the next one
-      pub found_taken : {q : Bool} → 0 < room → q ≡ shallow table (room - 1) (bytes_at file i k) → q ≡ true
-          → untried_in file types table t room c ≡ record { constructor = c; fields = k } ∷ untried_in file types table t room (suc c)
+      pub found_taken : {q : Bool} → 0 < room → q ≡ shallow table (room - 1) (bytes_at file found.at found.count) → q ≡ true
+          → untried_in file types table t room c ≡ record { constructor = c; fields = found.count } ∷ untried_in file types table t room (suc c)
       found_taken h tested is =
-          rw (bytes_length file i k) at (untried_taken (map (type_at file) types) table t room c (bytes_at file i k) h found_fields (sym tested ∙ is))
+          rw (bytes_length file found.at found.count) at (untried_taken (map (type_at file) types) table t room c (bytes_at file found.at found.count) h found_fields (sym tested ∙ is))
 
       -- one of them may not: what is left is left behind it
-      pub found_left_out : {q : Bool} → 0 < room → q ≡ shallow table (room - 1) (bytes_at file i k) → q ≡ false
+      pub found_left_out : {q : Bool} → 0 < room → q ≡ shallow table (room - 1) (bytes_at file found.at found.count) → q ≡ false
           → untried_in file types table t room c ≡ untried_in file types table t room (c + 1)
-      found_left_out h tested is = rw add-one (untried_left_out (map (type_at file) types) table t room c (bytes_at file i k) h found_fields (sym tested ∙ is))
+      found_left_out h tested is = rw add-one (untried_left_out (map (type_at file) types) table t room c (bytes_at file found.at found.count) h found_fields (sym tested ∙ is))
 
 -- ---- the table with zeros behind it
 

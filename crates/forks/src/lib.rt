@@ -1,42 +1,37 @@
-// The next constructor that a fork takes, found in a rule file whose records stand at known places: `types` holds the places of the types'
-// records. Rests on crates lookups and depths.
+// The next constructor that a fork takes, found in a rule file whose records stand at known places. Rests on crates lookups and depths.
 #![tactic(auto)]
 
 ghost use Rattle.forks.specs.Untried.{NextFork};
 
-use depths::{Depths, all_shallow};
-use lookups::{Fields, fields_of};
+use depths::Depths;
+use lookups::{FieldTypes, Rules};
 
-// The constructor that a fork takes next: its number, where its fields' types stand, and how many there are; or none is left.
+// The constructor that a fork takes next: its number, and its fields' types.
 #[derive(Clone, Copy)]
-pub enum Candidate {
-    Take(usize, usize, usize),
-    NoMore,
+pub struct Candidate {
+    pub number: usize,
+    pub fields: FieldTypes,
 }
 
-// The first constructor of type t, from a number on, that a fork takes where the part may be so deep.
-pub fn next_fork<'a>(
-    file: &'a [u8],
-    types: &'a [u16],
+// The first constructor of type t, from a number on, that a fork takes where the part may be so deep, if one is left.
+pub fn next_fork(
+    rules: &Rules,
     least: Depths,
     t: usize,
     room: usize,
     from: usize,
-) -> Candidate
-    ensures { NextFork file.now types.now least.of t room from result }
+) -> Option<Candidate>
+    ensures { NextFork rules.now.file.now rules.now.types.now least.of t room from result }
 {
     if room == 0 {
-        return Candidate::NoMore;
+        return None;
     }
-    let mut c = from;
-    while c < 255 {
-        let Fields::At(i, k) = fields_of(file, types, t, c) else {
-            return Candidate::NoMore;
-        };
-        if all_shallow(file, i, k, room - 1, least) {
-            return Candidate::Take(c, i, k);
+    // (As `find` over `each_constructor` it was proved, but in a copy of both in Rust a call took up to 14 in 100 longer where the first one tried is taken.)
+    for number in from..rules.constructors(t).count {
+        let fields = rules.fields(t, number)?;
+        if least.all_shallow(rules.file, fields, room - 1) {
+            return Some(Candidate { number, fields });
         }
-        c += 1;
     }
-    Candidate::NoMore
+    None
 }

@@ -5,9 +5,8 @@ ghost use Rattle.std.specs.Prelude.{◌≡◌};
 ghost use Rattle.reach.specs.RuleFile.{goal_record};
 ghost use Rattle.typerecord.specs.Passed.{passed_of, limits_part};
 
-use marks::{Taken, TakenWord, take_byte, take_word, wide};
+use marks::{take_byte, take_word};
 use reach::Refusal;
-use typerecord::Passed;
 
 // The limits of the format, as specs/Limits.antt of crate reach has them.
 const DEPTH_LIMIT: usize = 64;
@@ -15,36 +14,28 @@ const DEPTH_LIMIT: usize = 64;
 const STEP_LIMIT: usize = 4096;
 
 // The depth D and the step limit S.
-fn skip_limits(s: &[u8], at: usize) -> Passed
+fn skip_limits(s: &[u8], at: usize) -> Result<usize, Refusal>
     ensures { result ≡ passed_of (limits_part s.now at) }
 {
-    let Taken::Byte(d, next) = take_byte(s, at) else {
-        return Passed::Refused(Refusal::Truncated);
-    };
-    if wide(d) < 1 {
-        return Passed::Refused(Refusal::OutOfRange);
+    let (d, next) = take_byte(s, at)?;
+    if usize::from(d) < 1 {
+        return Err(Refusal::OutOfRange);
     }
-    if DEPTH_LIMIT < wide(d) {
-        return Passed::Refused(Refusal::OutOfRange);
+    if DEPTH_LIMIT < usize::from(d) {
+        return Err(Refusal::OutOfRange);
     }
-    let TakenWord::Word(n, behind) = take_word(s, next) else {
-        return Passed::Refused(Refusal::Truncated);
-    };
+    let (n, behind) = take_word(s, next)?;
     if STEP_LIMIT < n {
-        return Passed::Refused(Refusal::OutOfRange);
+        return Err(Refusal::OutOfRange);
     }
-    Passed::Next(behind)
+    Ok(behind)
 }
 
 // What follows the mark GO.
-pub fn skip_goal(s: &[u8], at: usize) -> Passed
+pub fn skip_goal(s: &[u8], at: usize) -> Result<usize, Refusal>
     ensures { result ≡ passed_of (goal_record s.now at) }
 {
-    let Taken::Byte(_, label) = take_byte(s, at) else {
-        return Passed::Refused(Refusal::Truncated);
-    };
-    let Taken::Byte(_, limits) = take_byte(s, label) else {
-        return Passed::Refused(Refusal::Truncated);
-    };
+    let (_, label) = take_byte(s, at)?;
+    let (_, limits) = take_byte(s, label)?;
     skip_limits(s, limits)
 }

@@ -26,8 +26,9 @@ use Rattle.reach.specs.Places.{word_at, type_at, head_at}
 use Rattle.lists.proofs.ReadBack.{size_told}
 use Rattle.lists.proofs.HandedEntry.{headed}
 use Rattle.rows.specs.declared.Measured.{Measured}
+use Rattle.std.specs.Prelude.{Option, Some}
+use Rattle.std.specs.Option.{MatchOption}
 use Rattle.rows.specs.Values.{of_row, slots_at}
-use Rattle.rows.proofs.Rows.{manner_entries}
 use Rattle.handed.specs.Fits.{entry_at, Told}
 
 -- The entry of n bytes at a place.
@@ -45,15 +46,15 @@ module _ (file types functions table list : List ℕ) (source : ℕ) (depths : L
       let (kind, long, known, is, inside) = size_told list at n size in
       (BadList, headed (map (type_at file) types) table (slots parameters depths) limit list at kind long known ∙ rw (lt-leb (word_at list (at + 2)) limit late) refl)
 
-  module _ (early : word_at list (at + 2) ≤ limit) (full : length table ≡ 0 → ⊥) {b : Measured} (told : b ≡ of_row (slots_at file types table depths parameters list (at + 6))) where
+  module _ (early : word_at list (at + 2) ≤ limit) {b : Option Measured} (told : b ≡ of_row (slots_at file types (Some table) depths parameters list (at + 6))) where
     by_parameters : (g : Got (Parts × ℕ)) → of_row g ≡ b → (kind : Kind) → n ≡ 6 + word_at list (at + 4)
-        → (answer : Bool) → ((place deep : ℕ) → b ≡ Measured.At place deep → answer ≡ eqb place (at + n)) → (b ≡ Measured.Bad → answer ≡ false)
+        → (answer : Bool) → MatchOption b (answer ≡ false) (λ (m : Measured). answer ≡ eqb m.next (at + n))
         → Told (on_got {B = Got Entry} (λ row next. got (record { kind = kind; steps = word_at list (at + 2); input = row.0 }) next) (λ why. refused why)
         (on_got {B = Got (Parts × ℕ)} (λ a next. pick (eqb next (at + 6 + word_at list (at + 4))) (got a next) (refused BadList)) (λ why. refused why) g)) (at + n) answer
-    by_parameters (refused why) is kind sized answer at_place bad = rw (bad (sym is)) (why, refl)
-    by_parameters (got row place) is kind sized answer at_place bad =
+    by_parameters (refused why) is kind sized answer given = rw (rw (← is) at given) (why, refl)
+    by_parameters (got row place) is kind sized answer given =
         let z : at + 6 + word_at list (at + 4) ≡ at + n = omega (arith, sized) in
-        rw (at_place place row.1 (sym is), z) (by_test (eqb place (at + n)) refl)
+        rw (rw (← is) at given, z) (by_test (eqb place (at + n)) refl)
       where
         by_test : (t : Bool) → eqb place (at + n) ≡ t
             → Told (on_got {B = Got Entry} (λ row next. got (record { kind = kind; steps = word_at list (at + 2); input = row.0 }) next) (λ why. refused why) (pick t (got row place) (refused BadList))) (at + n) t
@@ -63,11 +64,11 @@ module _ (file types functions table list : List ℕ) (source : ℕ) (depths : L
         )
         by_test false e = (BadList, refl)
 
-    pub entry_told : (answer : Bool) → ((place deep : ℕ) → b ≡ Measured.At place deep → answer ≡ eqb place (at + n)) → (b ≡ Measured.Bad → answer ≡ false)
+    pub entry_told : (answer : Bool) → MatchOption b (answer ≡ false) (λ (m : Measured). answer ≡ eqb m.next (at + n))
         → Told (entry_at file types functions table source depths limit list at) (at + n) answer
     unfolding spanning
-    entry_told answer at_place bad =
+    entry_told answer given =
         let (kind, long, known, is, inside) = size_told list at n size in
         rw (headed (map (type_at file) types) table (slots parameters depths) limit list at kind long known, le-leb (word_at list (at + 2)) limit early)
         (by_parameters (slotted (map (type_at file) types) (in_entries table) depth_limit (slots parameters depths) list (at + 6))
-        (rw (← (manner_entries table full)) (sym told)) kind is answer at_place bad)
+        (sym told) kind is answer given)

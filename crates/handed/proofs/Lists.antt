@@ -1,6 +1,6 @@
 -- A list that is handed in, entry by entry: what the loop over its entries comes to.
 -- Rests on Fits and on lists' Handed and HandedEntry.
-use Prim.Native.Nat.{ℕ, zero, suc, ◌-◌, ◌≤◌, ◌<◌}
+use Prim.Native.Nat.{ℕ, zero, suc, ◌+◌, ◌-◌, ◌≤◌, ◌<◌}
 use mathlib.Core.Path.{◌≡◌, refl, sym, ◌∙◌, subst}
 use mathlib.Core.Bool.{Bool, true, false}
 use mathlib.Core.List.{List, [], ◌∷◌}
@@ -8,7 +8,7 @@ use mathlib.Core.Option.{Option, none, some}
 use lib.ListN.{length, get_or}
 use lib.Dec.{leb}
 use native.Mathlib.Omega.{arith}
-use borrow.Author.Tests.{le-leb, lt-leb}
+use borrow.Author.Tests.{le-leb, lt-leb, leb-true, leb-false}
 use Rattle.reach.specs.declared.Refusal.{Refusal}
 use Rattle.reach.specs.declared.Refusal.TheVariants.{BadList}
 use Rattle.reach.specs.Base.{pick}
@@ -92,3 +92,11 @@ module _ {file types functions table : List ℕ} {source : ℕ} {depths : List �
         by_rest : (e : Entry) (g : Got (List Entry)) → found (on_got {B = Got (List Entry)} (λ es k. got (e ∷ es) k) (λ why. refused why) g) ≡ found g
         by_rest e (got es k) = refl
         by_rest e (refused why) = refl
+
+  -- where no entry stands, no bytes are left, or none are read
+  pub ended : (more at : ℕ) → length list ≤ at + more → ((i : ℕ) → get_or list i 0 < 256) → entry_size list at ≡ none → leb (length list) at ≡ from more at
+  ended more at long bytes size = by_end (leb (length list) at) refl
+    where
+      by_end : (b : Bool) → leb (length list) at ≡ b → b ≡ from more at
+      by_end true is = sym (over more at (leb-true (length list) at is))
+      by_end false is = let inside = leb-false (length list) at is in sym (none_there more at (omega (arith, inside, long)) inside bytes size)

@@ -6,12 +6,14 @@ use mathlib.Core.List.{List, [], ◌∷◌, ◌++◌, append_assoc}
 use native.Mathlib.Numerals.{add-one}
 use native.Mathlib.Omega.{arith}
 use lib.ListN.{length, take, drop, set, length-append}
-use lib.Seq.{sets, sets-eq}
+use lib.Seq.{sets, sets-eq, length-sets}
 use Rattle.reach.specs.Parts.{prefix}
 use Rattle.reach.specs.declared.Kind.{Kind}
 use Rattle.reach.specs.declared.Kind.TheVariants.{RE, UN, MI}
 use Rattle.reach.specs.Search.{Entry}
 use Rattle.reach.specs.Lists.{word_bytes, kind_bytes, entry_bytes}
+use Rattle.headers.specs.declared.Writer.{Writer}
+use Rattle.headers.specs.Writes.{Writes, Kept}
 
 -- what is stored from the place behind what was stored is stored with it
 pub sets_append : (xs ys l : List ℕ) (i : ℕ) → sets l i (xs ++ ys) ≡ sets (sets l i xs) (i + length xs) ys
@@ -26,6 +28,29 @@ sets_append (x ∷ xs) ys l i =
 pub stored_behind :
     {m : List ℕ} {next : ℕ} (xs ys l : List ℕ) (i : ℕ) → m ≡ sets l i xs → next ≡ i + length xs → sets m next ys ≡ sets l i (xs ++ ys)
 stored_behind xs ys l i first behind = rw (first, behind) (sym (sets_append xs ys l i))
+
+-- what a writer wrote, and what it wrote then
+pub writes_then : {p q r : Writer} {a b : List ℕ} → Writes p a q → Writes q b r → Writes p (a ++ b) r
+writes_then {p} {q} {r} {a} {b} v w =
+    record {
+      same = w.same ∙ v.same;
+      place = omega (arith, v.place, w.place, length-append a b);
+      bytes = w.bytes ∙ stored_behind a b p.list.now p.at v.bytes v.place;
+    }
+
+-- the list keeps its length
+pub writes_length : {p q : Writer} {a : List ℕ} → Writes p a q → length q.list.now ≡ length p.list.now
+writes_length {p} {q} {a} w = ap length w.bytes ∙ length-sets p.list.now p.at a
+
+-- and a writer its list
+pub kept_all : (p : Writer) → Kept p p
+kept_all p = record { same = refl; room = refl }
+
+pub writes_kept : {p q : Writer} {a : List ℕ} → Writes p a q → Kept p q
+writes_kept w = record { same = w.same; room = writes_length w }
+
+pub kept_then : {p q r : Writer} → Kept p q → Kept q r → Kept p r
+kept_then k l = record { same = l.same ∙ k.same; room = l.room ∙ k.room }
 
 -- one byte more in front
 pub stored_one : (x : ℕ) (xs l : List ℕ) (i : ℕ) → sets (set l i x) (i + 1) xs ≡ sets l i (x ∷ xs)
@@ -56,14 +81,6 @@ header_length k steps n =
       word_length steps,
       word_length n,
     )
-
--- stored in three parts
-pub header_stored :
-    (k : Kind) (steps n i : ℕ) (l : List ℕ)
-    → sets (sets (sets l i (kind_bytes k)) (i + 2) (word_bytes steps)) (i + 4) (word_bytes n) ≡ sets l i (header k steps n)
-header_stored k steps n i l =
-    stored_behind (word_bytes steps) (word_bytes n) _ (i + 2) refl (omega (arith, word_length steps))
-    ∙ stored_behind (kind_bytes k) (word_bytes steps ++ word_bytes n) l i refl (omega (arith, mark_length k))
 
 -- an entry is a header and the input in prefix form
 pub entry_is : (e : Entry) → entry_bytes e ≡ header e.kind e.steps (length (prefix e.input)) ++ prefix e.input

@@ -7,44 +7,23 @@ ghost use Rattle.inputs.specs.Depth.{reading_of, input_at};
 
 use fitting::slots;
 use goal::Goal;
-use lookups::head_of;
-use rows::Measured;
+use lookups::Rules;
+use rows::Values;
 
-// What an input is: as deep as its deepest parameter, 0 without parameters; or it does not fit.
-#[derive(Clone, Copy)]
-pub enum Reading {
-    Deep(usize),
-    Misfit,
-}
-
-// How deep the input is, if it is one closed value per parameter of the source, each at most as deep as it may be, and nothing more. The empty table
-// says that nothing may be open.
-pub fn input_depth<'a>(
-    file: &'a [u8],
-    types: &'a [u16],
-    functions: &'a [u16],
-    goal: Goal,
-    input: &'a [u8],
-) -> Reading
-    ensures { result ≡ reading_of (input_at file.now types.now functions.now goal.source goal.depths input.now) }
+// How deep the input is, as its deepest parameter, 0 without parameters; if it is one closed value per parameter of the source, each at most as deep as it
+// may be, and nothing more. Nothing may be open: there is no table.
+pub fn input_depth<'a>(rules: &Rules<'a>, goal: Goal, input: &'a [u8]) -> Option<usize>
+    ensures { let r = rules.now in result ≡ reading_of (input_at r.file.now r.types.now r.functions.now goal.source goal.depths input.now) }
 {
-    let head = head_of(file, functions, goal.source);
-    let depths = goal.depths;
-    let row = slots(
-        file,
-        types,
-        &input[..0],
-        input,
-        0,
-        head.parameters,
-        head.count,
-        depths,
-    );
-    let Measured::At(end, deep) = row else {
-        return Reading::Misfit;
+    let head = rules.head(goal.source);
+    let values = Values {
+        rules: *rules,
+        least: None,
+        list: input,
     };
-    if end < input.len() {
-        return Reading::Misfit;
+    let read = slots(&values, 0, head.parameters, goal.depths)?;
+    if read.next < input.len() {
+        return None;
     }
-    Reading::Deep(deep)
+    Some(read.deep)
 }

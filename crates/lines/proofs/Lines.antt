@@ -16,47 +16,48 @@ use Rattle.reach.specs.declared.Kind.TheVariants.{RE, UN, MI}
 use Rattle.reach.specs.Search.{verdict_by}
 use Rattle.lists.specs.Share.{share}
 use Rattle.lists.specs.Text.{space, line_feed, spaced, line_from, decimal, kind_word, part_word, line_saying, total_with, total_line, refusal_line}
+use Rattle.writing.specs.declared.Page.{Page}
 use Rattle.writing.specs.Writing.{Puts}
 use Rattle.writing.proofs.Writing.{puts_none, puts_then, Left, left_next, left_none}
 use Rattle.writing.proofs.Digits.{decimal_few, part_few}
 
 -- The parameters of an entry, byte by byte.
-module _ (e : List ℕ) (i : ℕ) {t whole u : List ℕ} {at to : ℕ} where
-  pub parts_next : {v : List ℕ} {m : ℕ} → Left t at whole u to (spaced (map part_word (drop i e))) → i < length e
-      → Puts u to (space ∷ part_word (get_or e i 0)) v m → Left t at whole v m (spaced (map part_word (drop (i + 1) e)))
+module _ (ps : List ℕ) (i : ℕ) {p q : Page} {whole : List ℕ} where
+  pub parts_next : {r : Page} → Left p whole q (spaced (map part_word (drop i ps))) → i < length ps
+      → Puts q (space ∷ part_word (get_or ps i 0)) r → Left p whole r (spaced (map part_word (drop (i + 1) ps)))
   unfolding spaced flat_map
-  parts_next l h p =
+  parts_next l h w =
       rw add-one
-      (left_next {a = space ∷ part_word (get_or e i 0)} {b = spaced (map part_word (drop (suc i) e))} (rw (drop-cons e i 0 h) at l) p)
+      (left_next {a = space ∷ part_word (get_or ps i 0)} {b = spaced (map part_word (drop (suc i) ps))} (rw (drop-cons ps i 0 h) at l) w)
 
-  pub parts_done : Left t at whole u to (spaced (map part_word (drop i e))) → length e ≤ i → Puts t at whole u to
+  pub parts_done : Left p whole q (spaced (map part_word (drop i ps))) → length ps ≤ i → Puts p whole q
   unfolding spaced flat_map
-  parts_done l h = left_none (rw (drop_of_length-le e h) at l)
+  parts_done l h = left_none (rw (drop_of_length-le ps h) at l)
 
 -- The line of an entry: its kind, its steps, its parameters, a line feed.
-module _ {t u v w x : List ℕ} {at m n o r : ℕ} where
-  pub line_put : (k : Kind) (s : ℕ) (ps : List ℕ) → Puts t at (kind_word k) u m → Puts u m (space ∷ decimal s) v n
-      → Puts v n (spaced (map part_word ps)) w o → Puts w o (line_feed ∷ []) x r
-      → Puts t at (line_saying (record { kind = k; steps = s; parameters = ps })) x r
+module _ {a b c d e : Page} where
+  pub line_put : (k : Kind) (s : ℕ) (ps : List ℕ) → Puts a (kind_word k) b → Puts b (space ∷ decimal s) c
+      → Puts c (spaced (map part_word ps)) d → Puts d (line_feed ∷ []) e
+      → Puts a (line_saying (record { kind = k; steps = s; parameters = ps })) e
   unfolding line_saying line_from spaced flat_map
-  line_put k s ps a b c d = puts_then a (puts_then (puts_then b c) d)
+  line_put k s ps kind steps parts end = puts_then kind (puts_then (puts_then steps parts) end)
 
 -- The total line: the word, the three counts, the share, the verdict, a line feed.
-module _ {t u v w w' x y z : List ℕ} {at m n o o' p q r : ℕ} where
-  pub total_put : (c : Counts) → Puts t at (0x74 ∷ 0x6f ∷ 0x74 ∷ 0x61 ∷ 0x6c ∷ []) u m → Puts u m (space ∷ decimal c.reach) v n
-      → Puts v n (space ∷ decimal c.unfinished) w o → Puts w o (space ∷ decimal c.missing) w' o'
-      → Puts w' o' (space ∷ decimal (share c.reach c.unfinished)) x p
-      → Puts x p (space ∷ verdict_word (verdict_by c)) y q → Puts y q (line_feed ∷ []) z r → Puts t at (total_line c) z r
+module _ {a b c d e f g h : Page} where
+  pub total_put : (n : Counts) → Puts a (0x74 ∷ 0x6f ∷ 0x74 ∷ 0x61 ∷ 0x6c ∷ []) b → Puts b (space ∷ decimal n.reach) c
+      → Puts c (space ∷ decimal n.unfinished) d → Puts d (space ∷ decimal n.missing) e
+      → Puts e (space ∷ decimal (share n.reach n.unfinished)) f
+      → Puts f (space ∷ verdict_word (verdict_by n)) g → Puts g (line_feed ∷ []) h → Puts a (total_line n) h
   unfolding total_line total_with line_from spaced flat_map
-  total_put c word one two three four five end =
-      puts_then word (puts_then (puts_then one (puts_then two (puts_then three (puts_then four (puts_then five (puts_none y q)))))) end)
+  total_put n word one two three four five end =
+      puts_then word (puts_then (puts_then one (puts_then two (puts_then three (puts_then four (puts_then five (puts_none g)))))) end)
 
 -- The line of a refusal: the word, the number, a line feed.
-module _ {t u v w : List ℕ} {at m n r : ℕ} where
-  pub refusal_put : (why : Refusal) → Puts t at (0x72 ∷ 0x65 ∷ 0x66 ∷ 0x75 ∷ 0x73 ∷ 0x65 ∷ 0x64 ∷ []) u m
-      → Puts u m (space ∷ decimal (number_of why)) v n → Puts v n (line_feed ∷ []) w r → Puts t at (refusal_line why) w r
+module _ {a b c d : Page} where
+  pub refusal_put : (why : Refusal) → Puts a (0x72 ∷ 0x65 ∷ 0x66 ∷ 0x75 ∷ 0x73 ∷ 0x65 ∷ 0x64 ∷ []) b
+      → Puts b (space ∷ decimal (number_of why)) c → Puts c (line_feed ∷ []) d → Puts a (refusal_line why) d
   unfolding refusal_line line_from spaced flat_map
-  refusal_put why word number end = puts_then word (puts_then (puts_then number (puts_none v n)) end)
+  refusal_put why word number end = puts_then word (puts_then (puts_then number (puts_none c)) end)
 
 -- How long they are, and where they end.
 
@@ -71,15 +72,15 @@ verdict_few Found = omega arith
 verdict_few Undecided = omega arith
 verdict_few None = omega arith
 
-module _ {t u : List ℕ} {at r : ℕ} where
-  pub number_end : (n : ℕ) → Puts t at (space ∷ decimal n) u r → r ≤ at + (n + 2)
-  number_end n p = omega (arith, p.place, decimal_few n)
+module _ {p q : Page} where
+  pub number_end : (n : ℕ) → Puts p (space ∷ decimal n) q → q.at ≤ p.at + (n + 2)
+  number_end n w = omega (arith, w.place, decimal_few n)
 
-  pub part_end : (b : ℕ) → b < 256 → Puts t at (space ∷ part_word b) u r → r ≤ at + 257
-  part_end b h p = omega (arith, p.place, part_few b h)
+  pub part_end : (b : ℕ) → b < 256 → Puts p (space ∷ part_word b) q → q.at ≤ p.at + 257
+  part_end b h w = omega (arith, w.place, part_few b h)
 
-  pub kind_end : (k : Kind) → Puts t at (kind_word k) u r → r ≤ at + 10
-  kind_end k p = omega (arith, p.place, kind_few k)
+  pub kind_end : (k : Kind) → Puts p (kind_word k) q → q.at ≤ p.at + 10
+  kind_end k w = omega (arith, w.place, kind_few k)
 
-  pub verdict_end : (v : Verdict) → Puts t at (space ∷ verdict_word v) u r → r ≤ at + 10
-  verdict_end v p = omega (arith, p.place, verdict_few v)
+  pub verdict_end : (v : Verdict) → Puts p (space ∷ verdict_word v) q → q.at ≤ p.at + 10
+  verdict_end v w = omega (arith, w.place, verdict_few v)

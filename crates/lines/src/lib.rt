@@ -1,4 +1,4 @@
-// The lines of a printed text, each written into a lent slice: the line of an entry, the total line, the line of a refusal. Rests on crates sizes,
+// The lines of a printed text, each written to a page: the line of an entry, the total line, the line of a refusal. Rests on crates sizes,
 // words, refusals and writing.
 #![tactic(auto)]
 
@@ -12,64 +12,63 @@ use reach::{Counts, Refusal};
 use refusals::number;
 use sizes::{kind_at, word_at};
 use words::{put_kind, put_part, put_verdict, share_of};
-use writing::{put_byte, put_bytes, put_number};
+use writing::Page;
 
 // Writes the parameters of an entry, each byte behind a space.
-fn put_parts(entry: &[u8], text: &mut [u8], at: usize) -> usize
-    requires { (6 ≤ length entry.now) × (length entry.now ≤ 16777216) × (at < 1152921504606846976) }
-    ensures { Puts text.old at (spaced (map part_word (drop 6 entry.now))) text.new result × (result ≤ at + 257 * length entry.now) }
+fn put_parts(page: &mut Page, parameters: &[u8])
+    requires { (length parameters.now ≤ 16777216) × (page.old.at < 1152921504606846976) }
+    ensures put { Puts page.old (spaced (map part_word parameters.now)) page.new }
+    ensures near { page.new.at ≤ page.old.at + 257 * length parameters.now }
 {
-    let mut i: usize = 6;
-    let mut to = at;
-    while i < entry.len() {
-        to = put_part(text, to, entry[i]);
-        i += 1;
+    for &b in parameters {
+        put_part(page, b);
     }
-    to
 }
 
 // Writes the line of an entry.
-pub fn put_line(entry: &[u8], text: &mut [u8], at: usize) -> usize
-    requires { (6 ≤ length entry.now) × (length entry.now ≤ 16777216) × (at < 576460752303423488) }
-    ensures { Puts text.old at (line_saying (decoded entry.now)) text.new result × (result ≤ at + 70000 * length entry.now) }
+pub fn put_line(page: &mut Page, entry: &[u8])
+    requires { (6 ≤ length entry.now) × (length entry.now ≤ 16777216) × (page.old.at < 576460752303423488) }
+    ensures put { Puts page.old (line_saying (decoded entry.now)) page.new }
+    ensures near { page.new.at ≤ page.old.at + 70000 * length entry.now }
 {
-    let steps = put_kind(kind_at(entry, 0), text, at);
-    let parts = put_number(text, steps, word_at(entry, 2) as u64);
-    let end = put_parts(entry, text, parts);
-    put_byte(text, end, b'\n')
+    put_kind(page, kind_at(entry, 0));
+    page.number(word_at(entry, 2) as u64);
+    put_parts(page, &entry[6..]);
+    page.byte(b'\n');
 }
 
 // Writes the total line.
-fn put_total(text: &mut [u8], at: usize, counts: Counts) -> usize
-    requires { (at < 1152921504606846976) × Few counts 16777216 }
-    ensures { Puts text.old at (total_line counts) text.new result }
+fn put_total(page: &mut Page, counts: Counts)
+    requires { (page.old.at < 1152921504606846976) × Few counts 16777216 }
+    ensures { Puts page.old (total_line counts) page.new }
 {
-    let first = put_bytes(b"total", text, at);
-    let second = put_number(text, first, counts.reach);
-    let third = put_number(text, second, counts.unfinished);
-    let fourth = put_number(text, third, counts.missing);
-    let verdict = put_number(text, fourth, share_of(counts.reach, counts.unfinished));
-    let end = put_verdict(text, verdict, counts);
-    put_byte(text, end, b'\n')
+    page.bytes(b"total");
+    page.number(counts.reach);
+    page.number(counts.unfinished);
+    page.number(counts.missing);
+    page.number(share_of(counts.reach, counts.unfinished));
+    put_verdict(page, counts);
+    page.byte(b'\n');
 }
 
 // Writes the line of a refusal.
-pub fn put_refusal(text: &mut [u8], at: usize, why: Refusal) -> usize
-    requires { at < 1152921504606846976 }
-    ensures { Puts text.old at (refusal_line why) text.new result }
+pub fn put_refusal(page: &mut Page, why: Refusal)
+    requires { page.old.at < 1152921504606846976 }
+    ensures { Puts page.old (refusal_line why) page.new }
 {
-    let refusal = put_bytes(b"refused", text, at);
-    let end = put_number(text, refusal, number(why));
-    put_byte(text, end, b'\n')
+    page.bytes(b"refused");
+    page.number(number(why));
+    page.byte(b'\n');
 }
 
 // Writes the last line of a list's text: refusal 12 where the list was cut short, else the total line.
-pub fn put_last(full: bool, text: &mut [u8], at: usize, counts: Counts) -> usize
-    requires { (at < 1152921504606846976) × Few counts 16777216 }
-    ensures { Puts text.old at (last_line full counts) text.new result }
+pub fn put_last(page: &mut Page, full: bool, counts: Counts)
+    requires { (page.old.at < 1152921504606846976) × Few counts 16777216 }
+    ensures { Puts page.old (last_line full counts) page.new }
 {
     if full {
-        return put_refusal(text, at, Refusal::ListFull);
+        put_refusal(page, Refusal::ListFull)
+    } else {
+        put_total(page, counts)
     }
-    put_total(text, at, counts)
 }

@@ -4,6 +4,7 @@ use Prim.Native.Nat.{ℕ, suc, ◌+◌, ◌-◌, ◌≤◌, ◌<◌}
 use mathlib.Core.Path.{◌≡◌, refl, sym, ◌∙◌}
 use mathlib.Core.List.{List, [], ◌∷◌, map}
 use mathlib.Core.Option.{some, none-ne-some}
+use Rattle.std.specs.Prelude.{Some}
 use native.Mathlib.Decide.{dec_lt}
 use native.Mathlib.Omega.{arith}
 use lib.ListN.{length, get_or}
@@ -17,7 +18,6 @@ use Rattle.reach.proofs.Slots.{types_length, field_types_law}
 use Rattle.lookups.specs.Fields.{fields_in}
 use Rattle.lookups.proofs.Tables.{fields_found, fields_missing, constructor_missing}
 use Rattle.machine.specs.Cells.{cell_word, cell_from}
-use Rattle.listing.specs.declared.Written.TheVariants as Written
 use Rattle.listing.specs.Rows.{RowAt, RowFits, WroteRow}
 use Rattle.listing.specs.Entry.{InputIn, Listable, entry_for, WroteEntry}
 use Rattle.headers.proofs.Bytes.{header, entry_stored}
@@ -132,7 +132,7 @@ module _ (file types : List ℕ) (bytes : (i : ℕ) → get_or file i 0 ≤ 255)
       pub entry_written :
           {n : ℕ} {m l' : List ℕ} (kind : Kind) (steps place : ℕ) (l : List ℕ) → place + 6 + top ≤ length l → m ≡ sets l place (header kind steps top)
           → WroteRow file types w 0 parameters (place + 6) m l' n
-          → WroteEntry file types w parameters top kind steps place l l' (Written.Behind n)
+          → WroteEntry file types w parameters top kind steps place l l' (Some n)
       entry_written {n} {m} {l'} kind steps place l fits headed wrote ts ss e input =
           let row = wrote.stored e (input_row input) in
           let count : length (prefix e) ≡ top = input.stands.counted in

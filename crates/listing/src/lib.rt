@@ -2,75 +2,59 @@
 // reach, lookups, machine and headers.
 #![tactic(auto)]
 
-ghost use Rattle.std.specs.Prelude.{◌≤◌, length};
+ghost use Rattle.std.specs.Prelude.{◌≡◌, ◌≤◌, length, false};
 ghost use Rattle.listing.specs.Rows.{RowFits, WroteRow};
-ghost use Rattle.listing.specs.Entry.{Listable, WroteEntry};
+ghost use Rattle.headers.specs.Writes.{Kept};
+ghost use Rattle.listing.specs.Entry.{Listable, WroteEntry, placed};
 
-use headers::put_header;
-use lookups::field_count;
+use headers::Writer;
+use lookups::Rules;
 use machine::cell_word;
-use reach::Kind;
+use reach::{Kind, OPEN};
 
-// An open part, in prefix form.
-const OPEN: u8 = 0xFF;
-
-// The place behind the entry, or it does not fit.
-#[derive(Clone, Copy)]
-pub enum Written {
-    Behind(usize),
-    Full,
-}
-
-// The k parts in the cells from `first` on, in prefix form; the place behind them. No more than `fuel` bytes are written.
-fn write_row<'a>(
-    file: &'a [u8],
-    types: &'a [u16],
-    work: &'a [u32],
-    first: usize,
-    k: usize,
-    fuel: usize,
-    list: &mut [u8],
-    at: usize,
-) -> usize
-    requires { RowFits file.now types.now work.now first k fuel at (length list.old) }
-    ensures { WroteRow file.now types.now work.now first k at list.old list.new result }
+// Writes the k parts in the cells from `first` on, in prefix form. No more than `fuel` bytes are written.
+fn write_row(rules: &Rules, work: &[u32], first: usize, k: usize, fuel: usize, writer: &mut Writer)
+    requires { RowFits rules.now.file.now rules.now.types.now work.now first k fuel writer.old.at (length writer.old.list.now) }
+    ensures wrote { WroteRow rules.now.file.now rules.now.types.now work.now first k writer.old.at writer.old.list.now writer.new.list.now writer.new.at }
+    ensures kept { Kept writer.old writer.new }
 {
     if k == 0 {
-        return at;
+        return;
     }
     let head = cell_word(work, first, 0);
     if head == 0 {
-        list[at] = OPEN;
-        return write_row(file, types, work, first + 1, k - 1, fuel - 1, list, at + 1);
+        writer.byte(OPEN);
+        return write_row(rules, work, first + 1, k - 1, fuel - 1, writer);
     }
     let number = head - 1;
     let fields = cell_word(work, first, 1);
-    let n = field_count(file, types, cell_word(work, first, 2), number);
-    list[at] = number as u8;
-    let next = write_row(file, types, work, fields, n, fuel - 1, list, at + 1);
-    write_row(file, types, work, first + 1, k - 1, fuel - 1, list, next)
+    let n = rules.field_count(cell_word(work, first, 2), number);
+    writer.byte(number as u8);
+    write_row(rules, work, fields, n, fuel - 1, writer);
+    write_row(rules, work, first + 1, k - 1, fuel - 1, writer);
 }
 
-// Writes one entry at a place of the list, if it fits whole: its mark, its steps, and the input that the words stand for, whose
-// parameters are the first cells of those in use.
-pub fn write_entry<'a>(
-    file: &'a [u8],
-    types: &'a [u16],
-    work: &'a [u32],
+// Writes one entry to the list, if it fits whole: its mark, its steps, and the input that the words stand for, whose parameters are the first cells of
+// those in use. Whether it fits. (One caller: a struct for the parameters is no plainer.)
+pub fn write_entry(
+    rules: &Rules,
+    work: &[u32],
     parameters: usize,
     cells: usize,
     kind: Kind,
     steps: usize,
-    list: &mut [u8],
-    at: usize,
-) -> Written
-    requires { Listable file.now types.now work.now parameters cells × (at ≤ length list.old) }
-    ensures { WroteEntry file.now types.now work.now parameters cells kind steps at list.old list.new result }
+    writer: &mut Writer,
+) -> bool
+    requires { Listable rules.now.file.now rules.now.types.now work.now parameters cells × (writer.old.at ≤ length writer.old.list.now) }
+    ensures wrote { WroteEntry rules.now.file.now rules.now.types.now work.now parameters cells kind steps writer.old.at writer.old.list.now writer.new.list.now
+        (placed result writer.new.at) }
+    ensures kept { Kept writer.old writer.new }
+    ensures stays { result ≡ false → writer.new.at ≡ writer.old.at }
 {
-    if list.len() - at < 6 + cells {
-        return Written::Full;
+    if writer.list.len() - writer.at < 6 + cells {
+        return false;
     }
-    put_header(list, at, kind, steps, cells);
-    let behind = write_row(file, types, work, 0, parameters, cells, list, at + 6);
-    Written::Behind(behind)
+    writer.header(kind, steps, cells);
+    write_row(rules, work, 0, parameters, cells, writer);
+    true
 }

@@ -21,7 +21,7 @@ use Rattle.reach.proofs.NeverStuck.{steps_sound}
 use Rattle.reach.proofs.Places.{bytes_length}
 use Rattle.reach.proofs.Reached.{steps_in_law, open_typed}
 use Rattle.lookups.specs.declared.Head.{Head}
-use Rattle.lookups.specs.Heads.{head_of, NearHead}
+use Rattle.lookups.specs.Heads.{head_of}
 use Rattle.lookups.proofs.Tables.{parameters_are}
 use Rattle.goal.specs.declared.Goal.{Goal}
 use Rattle.goal.specs.Goals.{Asks}
@@ -99,13 +99,13 @@ module _ {file types functions : List ℕ} {goal : Goal} {p : Program} (given : 
     head_is = head_read ∙ ap (λ i. head_at file (get_or functions i 0)) asks.source_is
 
     -- the types of the source's parameters
-    pub source_parameters : bytes_at file head.parameters head.count ≡ source_types p
+    pub source_parameters : bytes_at file head.parameters.at head.parameters.count ≡ source_types p
     source_parameters = parameters_are file head head_is ∙ sym given.parameters_there
 
-    pub many : head.count ≡ length (source_types p)
-    many = sym (bytes_length file head.parameters head.count) ∙ ap length source_parameters
+    pub many : head.parameters.count ≡ length (source_types p)
+    many = sym (bytes_length file head.parameters.at head.parameters.count) ∙ ap length source_parameters
 
-    pub parameters_few : head.count ≤ 8
+    pub parameters_few : head.parameters.count ≤ 8
     parameters_few = omega (arith, many, (accepted_keeps file p given.checked).parameters_limit)
 
     -- the source's body
@@ -114,29 +114,29 @@ module _ {file types functions : List ℕ} {goal : Goal} {p : Program} (given : 
         let found = given.file_of.function_there p.source given.source_there in
         (found.0, found.1, subst (λ i. Code file (declarations_of file types functions) i found.0.body) (sym (ap (λ (g : RuleFile.Head). g.body) head_is)) found.2)
 
-    pub typed : Typed p.types (source_types p) (all_open head.count)
+    pub typed : Typed p.types (source_types p) (all_open head.parameters.count)
     typed = rw many (open_typed p.types (source_types p))
 
     module _ (w : List ℕ) {base : ℕ} (base_is : base ≡ records_at goal.steps) (long : length w ≡ work_words p.steps) where
       -- the parameters' cells and the first records have room in the words
-      pub opens : NearHead head → (5 * head.count ≤ base) × (base + 12 ≤ length w) × (head.count ≤ 255) × (head.parameters ≤ 1000000)
-      opens near =
+      pub opens : (5 * head.parameters.count ≤ base) × (base + 12 ≤ length w)
+      opens =
           let few = parameters_few in
-          (omega arith, omega (arith, asks.steps_is), omega arith, omega arith)
+          (omega arith, omega (arith, asks.steps_is))
 
       pub opened_stands :
-          {w' : List ℕ} → Opened file w w' base head.parameters head.count goal.depths
-          → StandsFor file types functions p w' base head.count (start_registers head.body) (all_open head.count) (start p)
+          {w' : List ℕ} → Opened file w w' base head.parameters.at head.parameters.count goal.depths
+          → StandsFor file types functions p w' base head.parameters.count (start_registers head.body) (all_open head.parameters.count) (start p)
       unfolding source_slots
       opened_stands {w'} opened =
           let few = parameters_few in
           let limited = limit_few in
           let same : length opened.w₁ ≡ length w = opened.starts.same_length in
-          let open_there : Cells p.types (source_slots p) opened.w₁ head.count (all_open head.count) =
+          let open_there : Cells p.types (source_slots p) opened.w₁ head.parameters.count (all_open head.parameters.count) =
           rw (source_parameters, asks.depths_are) at (opened.starts.stands p.types) in
-          stands_start p base head.body head.count body.0 body.1 body.2 many (omega arith) (omega arith)
-          (omega (arith, asks.steps_is)) (omega (arith, asks.steps_is)) open_there opened.zeros opened.group (steps_in_law p (all_open head.count) (open_width head.count ∙ many) no_step)
-          (steps_sound file p given.checked (all_open head.count) typed no_step)
+          stands_start p base head.body head.parameters.count body.0 body.1 body.2 many (omega arith) (omega arith)
+          (omega (arith, asks.steps_is)) (omega (arith, asks.steps_is)) open_there opened.zeros opened.group (steps_in_law p (all_open head.parameters.count) (open_width head.parameters.count ∙ many) no_step)
+          (steps_sound file p given.checked (all_open head.parameters.count) typed no_step)
 
-      pub opened_length : {w' : List ℕ} → Opened file w w' base head.parameters head.count goal.depths → length w' ≡ length w
+      pub opened_length : {w' : List ℕ} → Opened file w w' base head.parameters.at head.parameters.count goal.depths → length w' ≡ length w
       opened_length opened = opened.group.only_top.same_length ∙ opened.zeros.only_top.same_length ∙ opened.starts.same_length

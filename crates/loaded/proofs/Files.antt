@@ -3,7 +3,6 @@
 use Prim.Native.Nat.{ℕ}
 use mathlib.Core.Path.{◌≡◌}
 use mathlib.Core.List.{List}
-use native.Mathlib.Omega.{arith}
 use lib.ListN.{get_or}
 use Rattle.reach.specs.Syntax.{Program}
 use Rattle.reach.specs.Places.{head_at, declarations_at}
@@ -20,7 +19,7 @@ file_of : {file : List ℕ} {r : Loaded} {p : Program} → Tabled file r p → F
 file_of {file} {r} t = record {
   types_there = program_types t;
   function_there = λ f below.
-      let found = program_function t f (omega (arith, t.functions_count)) in
+      let found = program_function t f below in
       let head = head_at file (get_or (function_places r) f 0) in (
         found.0,
         found.1,
@@ -35,6 +34,6 @@ pub given_file :
 given_file checked t = record {
   checked = checked;
   file_of = file_of t;
-  source_there = omega (arith, program_source_there t, t.functions_count);
+  source_there = program_source_there t;
   parameters_there = program_source_types t;
 }

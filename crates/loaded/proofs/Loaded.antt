@@ -1,49 +1,32 @@
--- What a file that was loaded says of its tables, its goal and the words that a run asks for, by the answer of the check.
+-- What a file that was loaded says of its tables, its goal and the words that a run asks for, which the check accepts.
 -- Rests on reach's Limits and on rulefile's Tabled.
 use Prim.Native.Nat.{ℕ, ◌≤◌}
-use mathlib.Core.Path.{◌≡◌, sym, ap, subst}
+use mathlib.Core.Path.{◌≡◌, ap, subst}
 use mathlib.Core.List.{List, ◌++◌}
 use native.Mathlib.Omega.{arith}
 use lib.ListN.{length, take, drop, length-take}
 use lib.Seq.{drop_at}
-use Rattle.reach.specs.declared.Refusal.{Refusal}
+use Rattle.std.specs.Prelude.{Ok}
 use Rattle.reach.specs.Limits.{work_words}
 use Rattle.reach.specs.Syntax.{Program}
-use Rattle.reach.specs.Answers.{check, accepted, turned_back}
+use Rattle.reach.specs.Answers.{check, accepted}
 use Rattle.reach.proofs.Limits.{accepted_keeps}
-use Rattle.results.specs.declared.CheckResult.TheVariants as CheckResult
 use Rattle.rulefile.specs.declared.Loaded.{Loaded}
-use Rattle.rulefile.specs.Loading.{type_places, function_places, Tabled, LoadsAs, Loads}
+use Rattle.rulefile.specs.Loading.{Tabled, Loads}
 use Rattle.rulefile.proofs.Tabled.{program_goal}
 
--- what a loaded file says, by its answer
-pub loaded_accepted : (file : List ℕ) (r : Loaded) → Loads file r → r.answer ≡ CheckResult.Accepted → (p : Program) × (check file ≡ accepted p) × Tabled file r p
-loaded_accepted file r loads is = subst (LoadsAs file r) is loads
-
-pub loaded_refused : (file : List ℕ) (r : Loaded) {why : Refusal} → Loads file r → r.answer ≡ CheckResult.Refused why → check file ≡ turned_back why
-loaded_refused file r loads is = subst (LoadsAs file r) is loads
+-- an accepted file is loaded as one
+pub loaded_as : (file : List ℕ) (r : Loaded) (loads : Loads file (Ok r)) {p : Program} → check file ≡ accepted p → Tabled file r p
+loaded_as file r loads {p} checked =
+    let one : loads.0 ≡ p = cc (loads.1, checked) in
+    subst (Tabled file r) one loads.2
 
 -- a part that is there is as long as it says
 pub taken_length : (n : ℕ) (l : List ℕ) → n ≤ length l → length (take n l) ≡ n
 taken_length n l fits = omega (arith, length-take n l)
 
--- The tables and the goal of a file that was loaded and accepted.
-module _ (file : List ℕ) (r : Loaded) (loads : Loads file r) (is : r.answer ≡ CheckResult.Accepted) where
-  abbrev here : (p : Program) × (check file ≡ accepted p) × Tabled file r p
-  here = loaded_accepted file r loads is
-
-  pub types_taken : r.types ≡ length (type_places r)
-  types_taken = sym here.2.types_count
-
-  pub types_held : r.types ≤ length r.type_at
-  types_held = omega (arith, here.2.types_count, length-take r.types r.type_at)
-
-  pub functions_taken : r.functions ≡ length (function_places r)
-  functions_taken = sym here.2.functions_count
-
-  pub functions_held : r.functions ≤ length r.function_at
-  functions_held = omega (arith, here.2.functions_count, length-take r.functions r.function_at)
-
+-- The tables and the goal of a file that was loaded.
+module _ (file : List ℕ) (r : Loaded) (here : Loads file (Ok r)) where
   pub steps_small : r.goal.steps ≤ 4096
   steps_small = omega (arith, (program_goal here.2).steps_is, (accepted_keeps file here.0 here.1).steps_limit)
 

@@ -8,21 +8,19 @@ ghost use Rattle.loaded.specs.Beginning.{Opened, start_registers};
 use cells::start_cells;
 use goal::Goal;
 use lookups::Head;
-use machine::put_record;
+use machine::Store;
 use registers::{EXPRESSION, NO_CASE, Registers};
 
 // The beginning of a run: open cells for the parameters of the source, each as deep as it may be, the records of the empty environment and of
 // the parameters' group, and the registers with which the source's body is evaluated.
-pub fn open_input(file: &[u8], work: &mut [u32], base: usize, head: Head, goal: Goal) -> Registers
-    requires { (5 * head.count ≤ base) × (base + 12 ≤ length work.old) × (head.count ≤ 255) × (head.parameters ≤ 1000000) }
+pub fn open_input(file: &[u8], work: &mut [u32], store: Store, head: Head, goal: Goal) -> Registers
+    requires { (5 * head.parameters.count ≤ store.at) × (store.at + 12 ≤ length work.old) }
     ensures value { result ≡ start_registers head.body }
-    ensures words { Opened file.now work.old work.new base head.parameters head.count goal.depths }
+    ensures words { Opened file.now work.old work.new store.at head.parameters.at head.parameters.count goal.depths }
 {
-    let n = head.count;
-    let depths = goal.depths;
-    start_cells(file, work, head.parameters, n, depths);
-    put_record(work, base, 0, 0, 0, 0, 0);
-    put_record(work, base, 1, 0, n, 0, 0);
+    start_cells(file, work, head.parameters, goal.depths);
+    store.put(work, 0, 0, 0, 0, 0);
+    store.put(work, 1, 0, head.parameters.count, 0, 0);
     Registers {
         kind: EXPRESSION,
         place: head.body,

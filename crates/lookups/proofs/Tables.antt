@@ -2,7 +2,7 @@
 -- place of the file begins, and how many of them a record has.
 -- Rests on reach's Places and specs/Heads.
 use Prim.Native.Nat.{ℕ, zero, suc, ◌+◌, ◌-◌, ◌≤◌, ◌<◌}
-use mathlib.Core.Path.{◌≡◌, refl, sym, ◌∙◌, ap}
+use mathlib.Core.Path.{◌≡◌, refl, sym, ◌∙◌, ap, subst}
 use mathlib.Core.List.{List, [], ◌∷◌, map}
 use mathlib.Core.Option.{none, some, some-injective, none-ne-some}
 use lib.ListN.{length, get_or, get_elem?, drop, drop_of_length-le}
@@ -10,15 +10,18 @@ use lib.Seq.{drop-cons}
 use native.Mathlib.Numerals.{add-one}
 use native.Mathlib.Omega.{arith}
 use Rattle.reach.specs.RuleFile as RuleFile
-use Rattle.reach.specs.Syntax.{field_types}
+use Rattle.reach.specs.Syntax as Syntax
 use Rattle.reach.specs.Types.{slots}
 use Rattle.reach.specs.Places.{bytes_at, constructors_at, type_at}
 use Rattle.reach.proofs.Places.{bytes_length}
 use Rattle.reach.proofs.Slots.{slots_from}
-use Rattle.lookups.specs.declared.Fields.{Fields}
 use Rattle.lookups.specs.declared.Head.{Head}
 use Rattle.lookups.specs.declared.Constructors.{Constructors}
-use Rattle.lookups.specs.Fields.{Near, fields_of, fields_in, FieldCount}
+use Rattle.lookups.specs.declared.FieldTypes.{FieldTypes}
+use Rattle.lookups.specs.Fields.{fields_in, FieldCount, field_types, NearFields}
+use Rattle.std.specs.Prelude as Std
+use Rattle.std.specs.Prelude.{Some, None}
+use Rattle.std.specs.Option.{MatchOption}
 use Rattle.lookups.specs.Heads.{head_of}
 
 module _ {A B : Type 0} (f : A → B) where
@@ -87,12 +90,12 @@ module _ (s : List ℕ) where
   constructors_length i (suc n) = ap suc (constructors_length (i + 1 + get_or s i 0) n)
 
   -- the parameters of a function that was found
-  pub parameters_are : (h : Head) {g : RuleFile.Head} → head_of s h ≡ g → bytes_at s h.parameters h.count ≡ g.parameters
+  pub parameters_are : (h : Head) {g : RuleFile.Head} → head_of s h ≡ g → bytes_at s h.parameters.at h.parameters.count ≡ g.parameters
   parameters_are h is = ap (λ (g : RuleFile.Head). g.parameters) is
 
   -- a function has as many parameters as its record counts, and a type as many constructors
-  pub parameters_many : (h : Head) {g : RuleFile.Head} → head_of s h ≡ g → length g.parameters ≡ h.count
-  parameters_many h is = ap (λ (g : RuleFile.Head). length g.parameters) (sym is) ∙ bytes_length s h.parameters h.count
+  pub parameters_many : (h : Head) {g : RuleFile.Head} → head_of s h ≡ g → length g.parameters ≡ h.parameters.count
+  parameters_many h is = ap (λ (g : RuleFile.Head). length g.parameters) (sym is) ∙ bytes_length s h.parameters.at h.parameters.count
 
   pub constructors_many : (cs : Constructors) {ts : List (List ℕ)} → constructors_at s cs.at cs.count ≡ ts → length ts ≡ cs.count
   constructors_many cs is = ap length (sym is) ∙ constructors_length cs.at cs.count
@@ -115,27 +118,30 @@ module _ (s : List ℕ) where
 
   -- the fields of a constructor are those of the type's record
   pub fields_found : (types : List ℕ) (t c : ℕ) → t < length types → fields_in s types t c ≡ get_elem? (type_at s (get_or types t 0)) c
-  unfolding field_types
+  unfolding Syntax.field_types
   fields_found types t c h = rw (entry (type_at s) types 0 [] t h)
 
   pub fields_missing : (types : List ℕ) (t c : ℕ) → length types ≤ t → fields_in s types t c ≡ none
-  unfolding field_types
+  unfolding Syntax.field_types
   fields_missing types t c h = rw (no_entry (type_at s) types [] t h)
 
--- fields that were found, at their place
-pub near_at : {i n : ℕ} (r : Fields) → Near r → r ≡ Fields.At i n → (i ≤ 1000000) × (n ≤ 255)
-near_at r near e = rw e at near
-
 -- how many fields a constructor has, by the answer to where they stand
-pub count_known :
-    (s types : List ℕ) (t c : ℕ) {i n : ℕ} (r : Fields) → fields_of s r ≡ fields_in s types t c → Near r → r ≡ Fields.At i n → FieldCount s types t c n
-count_known s types t c {i} {n} r told near is = (
-  λ us are. sym (bytes_length s i n) ∙ ap length (some-injective _ _ (ap (fields_of s) (sym is) ∙ (told ∙ are))),
-  (near_at r near is).1,
+pub fields_known :
+    (s types : List ℕ) (t c : ℕ) {found : FieldTypes} (r : Std.Option FieldTypes) → field_types s r ≡ fields_in s types t c → NearFields r → r ≡ Some found → FieldCount s types t c found.count
+fields_known s types t c {found} r told near is = (
+  λ us are. sym (bytes_length s found.at found.count) ∙ ap length (some-injective _ _ (ap (field_types s) (sym is) ∙ (told ∙ are))),
+  (subst NearFields is near).1,
 )
 
-pub count_unknown : (s types : List ℕ) (t c : ℕ) {r : Fields} → fields_of s r ≡ fields_in s types t c → r ≡ Fields.Unknown → FieldCount s types t c 0
-count_unknown s types t c told is = (λ us are. absurd (none-ne-some us (ap (fields_of s) (sym is) ∙ (told ∙ are))), omega arith)
+pub fields_unknown : (s types : List ℕ) (t c : ℕ) {r : Std.Option FieldTypes} → field_types s r ≡ fields_in s types t c → r ≡ None → FieldCount s types t c 0
+fields_unknown s types t c told is = (λ us are. absurd (none-ne-some us (ap (field_types s) (sym is) ∙ (told ∙ are))), omega arith)
+
+-- how many fields a constructor has, counted where they were found
+pub fields_counted :
+    (s types : List ℕ) (t c : ℕ) (r : Std.Option FieldTypes) → field_types s r ≡ fields_in s types t c → NearFields r
+    → {n : ℕ} → MatchOption r (n ≡ 0) (λ found. n ≡ found.count) → FieldCount s types t c n
+fields_counted s types t c (Some found) told near is = rw is (fields_known s types t c (Some found) told near refl)
+fields_counted s types t c None told near is = rw is (fields_unknown s types t c told refl)
 
 -- what stands at the places from number t on
 module _ {A : Type 0} (f : ℕ → A) (places : List ℕ) (t : ℕ) where

@@ -55,7 +55,8 @@ walk_kept w w' b (bound c fs s) kept (inside r) t = rw (kept here c _ refl) (wal
 
 -- What a bind does to the places and their slots.
 
-free_there : {s : Seen} → s ≡ free → There s
+-- a part that is open is there
+pub free_there : {s : Seen} → s ≡ free → There s
 free_there h = subst There (sym h) tt
 
 not_free : {c k : ℕ} {A : Type 0} → has c k ≡ free → A
@@ -195,7 +196,8 @@ bind_length_exact (inside q) c k (bound d fs r) h =
 
 -- Words that are as before but for words 0 and 1 of the cell of an open part.
 
-has_there : {s : Seen} {c k : ℕ} → s ≡ has c k → There s
+-- a part that is bound is there
+pub has_there : {s : Seen} {c k : ℕ} → s ≡ has c k → There s
 has_there h = subst There (sym h) tt
 
 module _

@@ -8,31 +8,39 @@ ghost use Rattle.machine.specs.Layout.{records_at, choices_at};
 ghost use Rattle.machine.specs.Cells.{cell_word};
 ghost use Rattle.machine.specs.Records.{record_word, Wrote};
 
-// How many words a run of so many steps needs.
-pub fn work_words(limit: usize) -> usize
-    requires { limit ≤ step_limit }
-    ensures { result ≡ work_words limit }
-{
-    64 * limit + 1024
+// How the lent words of a run of so many steps are laid out: how many there are, and where their parts begin.
+#[derive(Clone, Copy)]
+pub struct Layout {
+    pub limit: usize,
+    ghost few: { limit ≤ step_limit },
 }
 
-// Where the records begin in the words of such a run.
-pub fn records_at(limit: usize) -> usize
-    requires { limit ≤ step_limit }
-    ensures { result ≡ records_at limit }
-{
-    30 * limit + 80
+impl Layout {
+    // How many words the run needs.
+    pub fn words(self) -> usize
+        ensures { result ≡ work_words self.limit }
+    {
+        64 * self.limit + 1024
+    }
+
+    // The store of its records.
+    pub fn store(self) -> Store
+        ensures { result.at ≡ records_at self.limit }
+    {
+        Store {
+            at: 30 * self.limit + 80,
+        }
+    }
+
+    // Where the choice points begin.
+    pub fn choices(self) -> usize
+        ensures { result ≡ choices_at self.limit }
+    {
+        34 * self.limit + 96
+    }
 }
 
-// Where the choice points begin.
-pub fn choices_at(limit: usize) -> usize
-    requires { limit ≤ step_limit }
-    ensures { result ≡ choices_at limit }
-{
-    34 * limit + 96
-}
-
-// A word of the work slice, or 0 past its end.
+// A word of the work slice, or 0 past its end. (Not one function with that of lookups for places: a word has no `From` to the number of a place.)
 pub fn word_or_zero(work: &[u32], at: usize) -> usize
     ensures { (result ≡ get_or work.now at 0) × (result < 4294967296) }
 {
@@ -43,14 +51,6 @@ pub fn word_or_zero(work: &[u32], at: usize) -> usize
     }
 }
 
-// Word k of a record.
-pub fn record_word(work: &[u32], base: usize, r: usize, k: usize) -> usize
-    requires { (base ≤ 1000000) × (r < 4294967296) × (k < 4) }
-    ensures { (result ≡ record_word work.now base r k) × (result < 4294967296) }
-{
-    word_or_zero(work, base + 4 * r + k)
-}
-
 // Word k of a cell.
 pub fn cell_word(work: &[u32], cell: usize, k: usize) -> usize
     requires { (cell ≤ 1000000) × (k < 5) }
@@ -59,7 +59,7 @@ pub fn cell_word(work: &[u32], cell: usize, k: usize) -> usize
     word_or_zero(work, 5 * cell + k)
 }
 
-// A number that fits a word.
+// A number that fits a word. (A cast: it fits, and a conversion that may fail is no plainer.)
 pub fn narrow(x: usize) -> u32
     requires { x < 4294967296 }
     ensures { result ≡ x }
@@ -67,15 +67,33 @@ pub fn narrow(x: usize) -> u32
     x as u32
 }
 
-// Four words, the record at the top.
-pub fn put_record(work: &mut [u32], base: usize, top: usize, a: usize, b: usize, c: usize, d: usize)
-    requires top_in_bounds { base + 4 * (top + 1) ≤ length work.old }
-    requires a_bound { (a < 4294967296) × (b < 4294967296) × (c < 4294967296) × (d < 4294967296) }
-    ensures { Wrote work.old work.new base top a b c d }
-{
-    let at = base + 4 * top;
-    work[at] = narrow(a);
-    work[at + 1] = narrow(b);
-    work[at + 2] = narrow(c);
-    work[at + 3] = narrow(d);
+// The store of records in the lent words: where it begins. (That this is less than 2 to the power of 61 asks nothing of who writes a record: no slice of words
+// has more.)
+#[derive(Clone, Copy)]
+pub struct Store {
+    pub at: usize,
+    ghost near: { at < 2305843009213693952 },
+}
+
+impl Store {
+    // Word k of a record.
+    pub fn word(self, work: &[u32], r: usize, k: usize) -> usize
+        requires { (r < 4294967296) × (k < 4) }
+        ensures { (result ≡ record_word work.now self.at r k) × (result < 4294967296) }
+    {
+        word_or_zero(work, self.at + 4 * r + k)
+    }
+
+    // Four words, the record at the top, each by its name. (A struct of four numbers is no plainer.)
+    pub fn put(self, work: &mut [u32], top: usize, a: usize, b: usize, c: usize, d: usize)
+        requires top_in_bounds { self.at + 4 * (top + 1) ≤ length work.old }
+        requires a_bound { (a < 4294967296) × (b < 4294967296) × (c < 4294967296) × (d < 4294967296) }
+        ensures { Wrote work.old work.new self.at top a b c d }
+    {
+        let at = self.at + 4 * top;
+        work[at] = narrow(a);
+        work[at + 1] = narrow(b);
+        work[at + 2] = narrow(c);
+        work[at + 3] = narrow(d);
+    }
 }

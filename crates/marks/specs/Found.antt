@@ -1,22 +1,23 @@
--- What the readers of crate reach find, as the enums of src/lib.rt show it.
--- Rests on the enums and on reach's Reader and RuleFile.
-use Rattle.std.specs.Prelude.{ℕ}
-use Rattle.reach.specs.Reader.{Got, got, refused}
+-- What the readers of crate reach find, as the results of src/lib.rt.
+-- Rests on reach's Reader and RuleFile.
+use Rattle.std.specs.Prelude.{ℕ, List, [], ◌∷◌, Result, Ok, Err}
+use Rattle.reach.specs.declared.Refusal.{Refusal}
+use Rattle.reach.specs.Reader.{Got, got, refused, Reader, ◌>>=◌, give, byte}
 use Rattle.reach.specs.RuleFile as RuleFile
 use Rattle.reach.specs.RuleFile.{TY, FN, NA, GO, other}
-use Rattle.marks.specs.declared.Taken.{Taken}
-use Rattle.marks.specs.declared.TakenWord.{TakenWord}
 use Rattle.marks.specs.declared.Mark.{Mark}
-use Rattle.marks.specs.declared.Marked.{Marked}
 
--- a byte, a two-byte number, a mark: it can only be too short
-abbrev pub taken_of : Got ℕ → Taken
-taken_of (got b next) = Taken.Byte b next
-taken_of (refused why) = Taken.Short
+-- two bytes
+unfoldable pub pair : Reader (List ℕ)
+pair = do
+  first ← byte
+  second ← byte
+  give (first ∷ second ∷ [])
 
-abbrev pub word_of : Got ℕ → TakenWord
-word_of (got n next) = TakenWord.Word n next
-word_of (refused why) = TakenWord.Short
+-- what was read and the place behind it, or the refusal
+abbrev pub result_of : {A : Type 0} → Got A → Result (A × ℕ) Refusal
+result_of (got a next) = Ok (a, next)
+result_of (refused why) = Err why
 
 abbrev pub mark_named : RuleFile.Mark → Mark
 mark_named TY = Mark.Type
@@ -33,6 +34,6 @@ mark_read Mark.Name = NA
 mark_read Mark.Goal = GO
 mark_read Mark.Other = other
 
-abbrev pub marked_of : Got RuleFile.Mark → Marked
-marked_of (got m next) = Marked.Mark (mark_named m) next
-marked_of (refused why) = Marked.Short
+abbrev pub marked_of : Got RuleFile.Mark → Result (Mark × ℕ) Refusal
+marked_of (got m next) = Ok (mark_named m, next)
+marked_of (refused why) = Err why

@@ -2,24 +2,13 @@
 // (specs/Reader.antt, specs/RuleFile.antt). Rests on crate reach.
 #![tactic(auto)]
 
-ghost use Rattle.std.specs.Prelude.{◌≡◌, ◌&&◌, eqb, get_or};
+ghost use Rattle.std.specs.Prelude.{◌≡◌, ◌≤◌, ◌&&◌, eqb, get_or};
 ghost use Rattle.reach.specs.Reader.{byte, word};
-ghost use Rattle.reach.specs.RuleFile.{mark, mark_number, same_mark};
-ghost use Rattle.marks.specs.Found.{taken_of, word_of, mark_named, mark_read, marked_of};
+ghost use Rattle.reach.specs.RuleFile.{mark};
+ghost use Rattle.reach.specs.Places.{word_at};
+ghost use Rattle.marks.specs.Found.{pair, result_of, mark_named, marked_of};
 
-// A byte and the place behind it, or none is left.
-#[derive(Clone, Copy)]
-pub enum Taken {
-    Byte(u8, usize),
-    Short,
-}
-
-// A two-byte number and the place behind it, or too few bytes are left.
-#[derive(Clone, Copy)]
-pub enum TakenWord {
-    Word(usize, usize),
-    Short,
-}
+use reach::Refusal;
 
 // The mark of a record.
 #[derive(Clone, Copy)]
@@ -31,102 +20,75 @@ pub enum Mark {
     Other,
 }
 
-// A mark and the place behind it, or too few bytes are left.
-#[derive(Clone, Copy)]
-pub enum Marked {
-    Mark(Mark, usize),
-    Short,
-}
-
-// A byte as a number to count with.
-pub fn wide(x: u8) -> usize
-    ensures { result ≡ x }
-{
-    x as usize
-}
-
 // The byte at a place, or 0 past the end: what looks into records that were read before.
 pub fn byte_or_zero(s: &[u8], at: usize) -> usize
-    ensures { result ≡ get_or s.now at 0 }
+    ensures value { result ≡ get_or s.now at 0 }
+    ensures small { result ≤ 255 }
 {
-    if at < s.len() { wide(s[at]) } else { 0 }
+    if at < s.len() { usize::from(s[at]) } else { 0 }
 }
 
-pub fn take_byte(s: &[u8], at: usize) -> Taken
-    ensures { result ≡ taken_of (byte s.now at) }
+// The byte at a place, and the place behind it.
+pub fn take_byte(s: &[u8], at: usize) -> Result<(u8, usize), Refusal>
+    ensures { result ≡ result_of (byte s.now at) }
 {
     if at < s.len() {
-        Taken::Byte(s[at], at + 1)
+        Ok((s[at], at + 1))
     } else {
-        Taken::Short
+        Err(Refusal::Truncated)
     }
 }
 
-pub fn take_word(s: &[u8], at: usize) -> TakenWord
-    ensures { result ≡ word_of (word s.now at) }
+// The two-byte number at a place, the low byte first; a byte past the end counts as 0. What looks into records that were read before.
+pub fn word_or_zero(s: &[u8], at: usize) -> usize
+    ensures value { result ≡ word_at s.now at }
+    ensures small { result ≤ 65535 }
 {
-    let Taken::Byte(low, middle) = take_byte(s, at) else {
-        return TakenWord::Short;
-    };
-    let Taken::Byte(high, next) = take_byte(s, middle) else {
-        return TakenWord::Short;
-    };
-    TakenWord::Word(wide(low) + 256 * wide(high), next)
+    byte_or_zero(s, at) + 256 * byte_or_zero(s, at.saturating_add(1))
+}
+
+// The two bytes at a place, and the place behind them.
+fn take_pair(s: &[u8], at: usize) -> Result<([u8; 2], usize), Refusal>
+    ensures { result ≡ result_of (pair s.now at) }
+{
+    let (first, middle) = take_byte(s, at)?;
+    let (second, next) = take_byte(s, middle)?;
+    Ok(([first, second], next))
+}
+
+// A two-byte number, the low byte first, and the place behind it.
+pub fn take_word(s: &[u8], at: usize) -> Result<(usize, usize), Refusal>
+    ensures { result ≡ result_of (word s.now at) }
+{
+    let (bytes, next) = take_pair(s, at)?;
+    Ok((usize::from(u16::from_le_bytes(bytes)), next))
 }
 
 // Two bytes are those of a mark.
 pub fn is_mark(a: u8, b: u8, mark: &[u8; 2]) -> bool
     ensures { result ≡ (eqb a (get_or mark.now 0 0) && eqb b (get_or mark.now 1 0)) }
 {
-    if a == mark[0] { b == mark[1] } else { false }
+    a == mark[0] && b == mark[1]
 }
 
-fn mark_of(a: u8, b: u8) -> Mark
-    ensures { result ≡ mark_named (Rattle.reach.specs.RuleFile.mark_of a b) }
+// The mark that two bytes are.
+#[tactic(auto, unfolding(reach::specs::RuleFile::mark_of))]
+fn mark_of(bytes: [u8; 2]) -> Mark
+    ensures { result ≡ mark_named (Rattle.reach.specs.RuleFile.mark_of (get_or bytes 0 0) (get_or bytes 1 0)) }
 {
-    if is_mark(a, b, b"TY") {
-        return Mark::Type;
-    }
-    if is_mark(a, b, b"FN") {
-        return Mark::Function;
-    }
-    if is_mark(a, b, b"NA") {
-        return Mark::Name;
-    }
-    if is_mark(a, b, b"GO") {
-        return Mark::Goal;
-    }
-    Mark::Other
-}
-
-// The number of a mark, by which marks are told apart.
-fn number_of(met: Mark) -> u8
-    ensures { result ≡ mark_number (mark_read met) }
-{
-    match met {
-        Mark::Type => 0,
-        Mark::Function => 1,
-        Mark::Name => 2,
-        Mark::Goal => 3,
-        Mark::Other => 4,
+    match &bytes {
+        b"TY" => Mark::Type,
+        b"FN" => Mark::Function,
+        b"NA" => Mark::Name,
+        b"GO" => Mark::Goal,
+        _ => Mark::Other,
     }
 }
 
-// The mark that was met is this one.
-pub fn same_mark(met: Mark, this: Mark) -> bool
-    ensures { result ≡ same_mark (mark_read this) (mark_read met) }
-{
-    number_of(this) == number_of(met)
-}
-
-pub fn take_mark(s: &[u8], at: usize) -> Marked
+// The mark at a place, and the place behind it.
+pub fn take_mark(s: &[u8], at: usize) -> Result<(Mark, usize), Refusal>
     ensures { result ≡ marked_of (mark s.now at) }
 {
-    let Taken::Byte(a, middle) = take_byte(s, at) else {
-        return Marked::Short;
-    };
-    let Taken::Byte(b, next) = take_byte(s, middle) else {
-        return Marked::Short;
-    };
-    Marked::Mark(mark_of(a, b), next)
+    let (bytes, next) = take_pair(s, at)?;
+    Ok((mark_of(bytes), next))
 }

@@ -2,11 +2,11 @@
 -- Rests on arriving's Moving and Arriving, and on choices' Keeping, Taking and Weights.
 use Prim.Native.Nat.{ℕ, suc, ◌+◌, ◌*◌, ◌-◌, ◌≤◌, ◌<◌}
 use mathlib.Core.Path.{◌≡◌, refl, sym, ◌∙◌, ap, subst}
-use mathlib.Core.Bool.{true}
 use mathlib.Core.List.{List, ◌∷◌}
 use mathlib.Core.Option.{some, some-injective}
 use native.Mathlib.Omega.{arith}
 use lib.ListN.{length}
+use Rattle.std.specs.Prelude.{Some}
 use Rattle.reach.specs.Limits.{depth_limit}
 use Rattle.reach.specs.Syntax.{Program}
 use Rattle.reach.specs.Parts.{Parts, bind_at}
@@ -90,15 +90,13 @@ module _ {g : Setting} (given : Given g) {w : List ℕ} {h n i k : ℕ} (f : For
 
   -- the cell can be bound
   pub bindable :
-      (x < choice_word g.stack w h 4) × (5 * (choice_word g.stack w h 4 + k) ≤ length w) × (n ≤ 255) × (k ≤ 255) × (i ≤ 1000000) × (choice_word g.stack w h 4 ≤ 1000000)
+      (x < choice_word g.stack w h 4) × (5 * (choice_word g.stack w h 4 + k) ≤ length w) × (n ≤ 255) × (choice_word g.stack w h 4 ≤ 1000000)
       × (cell_word w x 3 ≤ 255)
   bindable =
       let at-h = f.next_at.choice_at in (
         cell_below at-h,
         omega (arith, at-h.path.few_cells, at-h.in_time, long given at-h, few),
         f.next_at.small,
-        omega (arith, few),
-        f.next_at.near,
         cells_small given at-h,
         shallow,
       )
@@ -169,7 +167,7 @@ module _ {g : Setting} (given : Given g) {w : List ℕ} {h n i k : ℕ} (f : For
 
         -- where the walk is, the model's fork arrives
         pub taken :
-            OnPath g w w₂ (weight g.stack g.limit w (suc h)) (record { going = true; registers = to; cells = choice_word g.stack w h 4 + k; done = d + 1; height = h + 1 })
+            OnPath g w w₂ (weight g.stack g.limit w (suc h)) (record { registers = Some to; cells = choice_word g.stack w h 4 + k; done = d + 1; height = h + 1 })
             (take_fork g.program (least_depths g.program.types) c (record { constructor = n; fields = k }) f.next_at.rest f.before) to
         taken =
             let one : suc d ≡ d + 1 = omega arith in
@@ -215,14 +213,14 @@ module _
         stepped_there label bound = rw (x-is, frame_is, records_is) at (stepped label bound)
 
         pub fork_takes :
-            Takes file types functions w w₂ base stack h n i k (record { going = true; registers = to; cells = cells + k; done = done + 1; height = h + 1 })
-        fork_takes = (refl, taken_there)
+            Takes file types functions w w₂ base stack h n i k (record { registers = Some to; cells = cells + k; done = done + 1; height = h + 1 })
+        fork_takes = (to, refl, taken_there)
           where
             taken_there :
                 (least : List ℕ) (p : Program) (limit : ℕ) → (given : Given (setting file types functions least p limit base stack))
                 → (f : Forking (setting file types functions least p limit base stack) w h n i k)
                 → OnPath (setting file types functions least p limit base stack) w w₂ (weight stack limit w (suc h))
-                (record { going = true; registers = to; cells = cells + k; done = done + 1; height = h + 1 })
+                (record { registers = Some to; cells = cells + k; done = done + 1; height = h + 1 })
                 (take_fork p (least_depths p.types) f.choice (record { constructor = n; fields = k }) f.next_at.rest f.before) to
             taken_there least p limit given f =
                 rw (cells_is, done_is) (taken given f bound_there refl (stepped_there p.label (fork_bound least p limit given f)) refl)

@@ -3,11 +3,10 @@
 -- Rests on arriving's Moving and Arriving, and on choices' Returning and Weights.
 use Prim.Native.Nat.{ℕ, ◌-◌, ◌<◌}
 use mathlib.Core.Path.{◌≡◌, refl, sym, ◌∙◌, ap, subst}
-use mathlib.Core.Bool.{true, false}
 use mathlib.Core.List.{List, [], append-nil}
 use native.Mathlib.Omega.{arith}
 use lib.ListN.{length}
-use Rattle.reach.specs.declared.PathEnd.TheVariants.{Unlisted}
+use Rattle.std.specs.Prelude.{Option, Some, None}
 use Rattle.reach.specs.Syntax.{Program}
 use Rattle.reach.specs.Types.{least_depths}
 use Rattle.reach.specs.Search.{Entry}
@@ -19,10 +18,9 @@ use Rattle.choices.specs.Choices.{Given, ChoicesAt}
 use Rattle.choices.specs.Weights.{power, weight}
 use Rattle.choices.specs.Returning.{setting, ReturnMeans, Returns, SomeChoices}
 use Rattle.choices.proofs.Weights.{weight_some}
-use Rattle.arriving.specs.declared.Position.{Position}
 use Rattle.arriving.specs.declared.Walk.{Walk}
 use Rattle.arriving.specs.declared.Moved.{Moved}
-use Rattle.arriving.specs.Moving.{position_of, ended_walk, PositionAt, StandsAs, position_weight, walk_weight, OnPath, ResumesAt, SomeUnderWay, Arrives, SomeForking, Takes, ActiveAt, Active, Resumable, Resumes, SearchStands, Moves}
+use Rattle.arriving.specs.Moving.{ended_walk, PositionAt, StandsAs, position_weight, walk_weight, OnPath, ResumesAt, SomeUnderWay, Arrives, SomeForking, Takes, ActiveAt, Active, Resumable, Resumes, SearchStands, Moves}
 use Rattle.arriving.proofs.Arriving.{ended, moves_none}
 
 move_over : (p : Program) (table : List ℕ) (cs : List Choice) (es : List Entry) → move_from p table Model.over cs es ≡ return p table cs es
@@ -38,23 +36,17 @@ move_on p table x left done cs es is-left is-done =
 
 -- The path that the search goes on with.
 module _ (file types functions least : List ℕ) (w : List ℕ) (base stack : ℕ) (x : Walk) where
-  abbrev position : Position
-  position = position_of x.going x.registers
-
   -- Behind the end of a path.
-  module _ (is-over : x.going ≡ false) where
-    stands_over : position ≡ Position.Over
-    stands_over = ap (λ going. position_of going x.registers) is-over
-
+  module _ (is-over : x.registers ≡ None) where
     -- there are choice points
     behind :
         (p : Program) (limit : ℕ) (at : Model.Position) (cs : List Choice) → StandsAs (setting file types functions least p limit base stack) w x at cs
         → (at ≡ Model.over) × ((some : ℕ) × (records : ℕ) × ChoicesAt (setting file types functions least p limit base stack) w x.height some records cs)
     behind p limit at cs stands =
-        by_position at (subst (λ y. PositionAt (setting file types functions least p limit base stack) w x.cells x.done x.height y at cs) stands_over stands)
+        by_position at (subst (λ y. PositionAt (setting file types functions least p limit base stack) w x.cells x.done x.height y at cs) is-over stands)
       where
         by_position :
-            (y : Model.Position) → PositionAt (setting file types functions least p limit base stack) w x.cells x.done x.height Position.Over y cs
+            (y : Model.Position) → PositionAt (setting file types functions least p limit base stack) w x.cells x.done x.height None y cs
             → (y ≡ Model.over) × ((some : ℕ) × (records : ℕ) × ChoicesAt (setting file types functions least p limit base stack) w x.height some records cs)
         by_position (Model.on z) none = absurd none
         by_position Model.over there = (refl, there)
@@ -64,10 +56,10 @@ module _ (file types functions least : List ℕ) (w : List ℕ) (base stack : �
         let (is, (some, records, choices)) = behind p limit at cs stands in
         (functions, p, limit, base, some, records, cs, given, choices)
 
-    module _ (w₁ : List ℕ) (found : Return) (returned : Returns file types least w w₁ stack x.height found) where
+    module _ (w₁ : List ℕ) (found : Option Return) (returned : Returns file types least w w₁ stack x.height found) where
       -- what the return means
       back_means :
-          (found' : Return) → found ≡ found' → (p : Program) (limit : ℕ) (at : Model.Position) (cs : List Choice)
+          (found' : Option Return) → found ≡ found' → (p : Program) (limit : ℕ) (at : Model.Position) (cs : List Choice)
           → Given (setting file types functions least p limit base stack) → StandsAs (setting file types functions least p limit base stack) w x at cs
           → (length w₁ ≡ length w) × ReturnMeans (setting file types functions least p limit base stack) w w₁ x.height cs found'
       back_means found' is p limit at cs given stands =
@@ -76,11 +68,11 @@ module _ (file types functions least : List ℕ) (w : List ℕ) (base stack : �
           (same_length, subst (ReturnMeans (setting file types functions least p limit base stack) w w₁ x.height cs) is means)
 
       -- no choice point has a constructor left: the search is over
-      pub back_nowhere : found ≡ Return.Nowhere → Active x → Resumes file types functions least w w₁ base stack x (ended_walk x.cells x.done 0)
+      pub back_nowhere : found ≡ None → Active x → Resumes file types functions least w w₁ base stack x (ended_walk x.cells x.done 0)
       back_nowhere is active p limit at cs given stands =
           let (over, there) = behind p limit at cs stands in
-          let (same_length, (returns, (some, records, none))) = back_means Return.Nowhere is p limit at cs given stands in
-          let higher : 0 < x.height = subst (λ y. ActiveAt y x.height) stands_over active in
+          let (same_length, (returns, (some, records, none))) = back_means None is p limit at cs given stands in
+          let higher : 0 < x.height = subst (λ y. ActiveAt y x.height) is-over active in
           let light : weight stack limit w₁ 0 ≡ 0 = unfold weight in refl in
           record {
             position = Model.over;
@@ -97,20 +89,22 @@ module _ (file types functions least : List ℕ) (w : List ℕ) (base stack : �
           }
 
       -- a choice point takes its next constructor
-      module _ {h n i k : ℕ} (is : found ≡ Return.To h n i k) where
-        pub back_forking : Resumable file types functions least w base stack x → SomeForking file types functions w₁ base stack h n i k
+      module _ {fork : Return} (is : found ≡ Some fork) where
+        pub back_forking : Resumable file types functions least w base stack x → SomeForking file types functions w₁ base stack fork.to fork.next.number fork.next.fields.at fork.next.fields.count
         back_forking (p, limit, at, cs, given, stands) =
-            let (same_length, to) = back_means (Return.To h n i k) is p limit at cs given stands in
+            let (same_length, to) = back_means (Some fork) is p limit at cs given stands in
             (least, p, limit, given, record { choice = to.choice; before = to.before; next_at = to.next_at; before_at = to.before_at })
 
-        pub back_taken : {w₂ : List ℕ} {x' : Walk} → Takes file types functions w₁ w₂ base stack h n i k x' → Resumes file types functions least w w₂ base stack x x'
-        back_taken {w₂} {x'} (one, takes) p limit at cs given stands =
+        pub back_taken :
+            {w₂ : List ℕ} {x' : Walk} → Takes file types functions w₁ w₂ base stack fork.to fork.next.number fork.next.fields.at fork.next.fields.count x'
+            → Resumes file types functions least w w₂ base stack x x'
+        back_taken {w₂} {x'} (r, one, takes) p limit at cs given stands =
             let (over, there) = behind p limit at cs stands in
-            let (same_length, to) = back_means (Return.To h n i k) is p limit at cs given stands in
+            let (same_length, to) = back_means (Some fork) is p limit at cs given stands in
             let comes = takes least p limit given (record { choice = to.choice; before = to.before; next_at = to.next_at; before_at = to.before_at }) in
             subst
             (ResumesAt (setting file types functions least p limit base stack) w w₂ (walk_weight stack limit w x) x' (move_from p (least_depths p.types) at cs))
-            (sym (ap (λ n. position_of n x'.registers) one))
+            (sym one)
             (record {
               input = comes.input;
               state = comes.state;
@@ -123,19 +117,16 @@ module _ (file types functions least : List ℕ) (w : List ℕ) (base stack : �
             })
 
   -- On a path: it is the path under way.
-  pub on_resumes : x.going ≡ true → Resumes file types functions least w w base stack x x
-  on_resumes going p limit at cs given stands =
+  pub on_resumes : {r : Registers} → x.registers ≡ Some r → Resumes file types functions least w w base stack x x
+  on_resumes {r} is_on p limit at cs given stands =
       subst (ResumesAt (setting file types functions least p limit base stack) w w (walk_weight stack limit w x) x (move_from p (least_depths p.types) at cs)) (sym is_on)
       (by_position at (subst (λ y. PositionAt (setting file types functions least p limit base stack) w x.cells x.done x.height y at cs) is_on stands))
     where
-      is_on : position ≡ Position.On x.registers
-      is_on = ap (λ y. position_of y x.registers) going
-
       by_position :
-          (y : Model.Position) → PositionAt (setting file types functions least p limit base stack) w x.cells x.done x.height (Position.On x.registers) y cs
-          → OnPath (setting file types functions least p limit base stack) w w (walk_weight stack limit w x) x (move_from p (least_depths p.types) y cs) x.registers
+          (y : Model.Position) → PositionAt (setting file types functions least p limit base stack) w x.cells x.done x.height (Some r) y cs
+          → OnPath (setting file types functions least p limit base stack) w w (walk_weight stack limit w x) x (move_from p (least_depths p.types) y cs) r
       by_position (Model.on z) (done_is, left_is, under) =
-          let heavy : position_weight limit x.done position ≡ power (limit - x.done) = ap (position_weight limit x.done) is_on in
+          let heavy : position_weight limit x.done x.registers ≡ power (limit - x.done) = ap (position_weight limit x.done) is_on in
           record {
             input = z.input;
             state = z.state;
@@ -150,32 +141,32 @@ module _ (file types functions least : List ℕ) (w : List ℕ) (base stack : �
 -- The move: that path arrives.
 module _
     (file types functions least : List ℕ) (label : ℕ) (w w₁ : List ℕ) (limit base stack : ℕ) (x x₁ : Walk)
-    (resumes : Resumes file types functions least w w₁ base stack x x₁) {position : Position} (position-is : position ≡ position_of x₁.going x₁.registers)
+    (resumes : Resumes file types functions least w w₁ base stack x x₁)
   where
     -- what the search goes on with, by where that stands
     resumed :
-        (position' : Position) → position ≡ position' → (p : Program) (at : Model.Position) (cs : List Choice)
+        (on : Option Registers) → x₁.registers ≡ on → (p : Program) (at : Model.Position) (cs : List Choice)
         → Given (setting file types functions least p limit base stack) → StandsAs (setting file types functions least p limit base stack) w x at cs
-        → ResumesAt (setting file types functions least p limit base stack) w w₁ (walk_weight stack limit w x) x₁ (move_from p (least_depths p.types) at cs) position'
-    resumed position' is p at cs given stands =
+        → ResumesAt (setting file types functions least p limit base stack) w w₁ (walk_weight stack limit w x) x₁ (move_from p (least_depths p.types) at cs) on
+    resumed on is p at cs given stands =
         subst (ResumesAt (setting file types functions least p limit base stack) w w₁ (walk_weight stack limit w x) x₁ (move_from p (least_depths p.types) at cs))
-        (sym position-is ∙ is) (resumes p limit at cs given stands)
+        is (resumes p limit at cs given stands)
 
     -- there is none
-    pub none_moves : position ≡ Position.Over → Moves file types functions least label w w₁ limit base stack x (ended x₁.cells x₁.done x₁.height Unlisted)
-    none_moves is p at cs given sought stands = resumed Position.Over is p at cs given stands
+    pub none_moves : x₁.registers ≡ None → Moves file types functions least label w w₁ limit base stack x (ended x₁.cells x₁.done x₁.height None)
+    none_moves is p at cs given sought stands = resumed None is p at cs given stands
 
-    module _ {r : Registers} (is : position ≡ Position.On r) where
+    module _ {r : Registers} (is : x₁.registers ≡ Some r) where
       pub on_some : SearchStands file types functions least label w limit base stack x → SomeUnderWay file types functions label w₁ limit base stack x₁.cells x₁.done x₁.height r
       on_some (p, at, cs, given, sought, stands) =
-          let comes = resumed (Position.On r) is p at cs given stands in
+          let comes = resumed (Some r) is p at cs given stands in
           (least, p, comes.input, comes.state, comes.choices, given, sought, comes.under)
 
       pub on_moves :
           {w₂ : List ℕ} {m : Moved} → Arrives file types functions label w₁ w₂ limit base stack x₁.cells x₁.done x₁.height r m
           → Moves file types functions least label w w₂ limit base stack x m
       on_moves arrives p at cs given sought stands =
-          let comes = resumed (Position.On r) is p at cs given stands in
+          let comes = resumed (Some r) is p at cs given stands in
           let makes = arrives least p comes.input comes.state comes.choices given sought comes.under in
           record {
             position = makes.position;

@@ -3,7 +3,8 @@
 use Prim.Native.Nat.{ℕ, ◌+◌, ◌*◌, ◌≤◌, ◌<◌}
 use mathlib.Core.Path.{◌≡◌, refl, sym, ap, subst, ◌∙◌}
 use mathlib.Core.List.{List, [], ◌∷◌, ◌++◌, map, flat_map, append-nil, append_assoc}
-use mathlib.Core.Option.{some}
+use mathlib.Core.Option.{some, none, none-ne-some}
+use Rattle.std.specs.Prelude as Std
 use native.Mathlib.Omega.{arith}
 use lib.ListN.{length, drop, length-append, length-drop}
 use lib.Seq.{drop-drop, drop-append_seam}
@@ -18,6 +19,7 @@ use Rattle.reach.specs.Lists.{kind_bytes, word_bytes, entry_bytes, list_bytes, s
 use Rattle.reach.proofs.Base.{each_member}
 use Rattle.lists.proofs.ReadBack.{size_of_entry}
 use Rattle.lists.proofs.Text.{decoded_from_law, list_some}
+use Rattle.writing.specs.declared.Page.{Page}
 use Rattle.writing.specs.Writing.{Puts}
 use Rattle.writing.proofs.Writing.{Left, left_whole, left_next, left_none}
 use Rattle.namelines.specs.Rows.{row_names, RowStands, row_read, Legible}
@@ -62,7 +64,7 @@ names_length types named spells ts (e ∷ es) (first, all) =
       length-append (entry_bytes e) (flat_map entry_bytes es),
     )
 
-module _ (types : Types) (table : List ℕ) (named : ℕ) (legible : Legible types table named) (ts : List ℕ) where
+module _ (types : Types) (table : Std.Option (List ℕ)) (named : ℕ) (legible : Legible types table named) (ts : List ℕ) where
   -- the lines of these entries
   abbrev pub names_of : List Entry → List ℕ
   names_of es = flat_map (λ e. row_names types named ts e.input) es
@@ -84,48 +86,48 @@ module _ (types : Types) (table : List ℕ) (named : ℕ) (legible : Legible typ
       ap (flat_map (decoded_names types named ts)) (rw are at decoded) ∙ said_names es all
 
 -- What is left of a list: its entries stand from this place on, and their names are still to be written.
-pub record NamesLeft (types : Types) (named : ℕ) (ts list text whole now-text : List ℕ) (at to : ℕ) : Type 0 where
+pub record NamesLeft (types : Types) (named : ℕ) (ts list : List ℕ) (empty : Page) (whole : List ℕ) (page : Page) (at : ℕ) : Type 0 where
   pub before : List ℕ
   pub rest : List Entry
   pub split : list ≡ before ++ list_bytes rest
   pub place : at ≡ length before
   pub fitted : Each (Fitted types ts) rest
-  pub left : Left text 0 whole now-text to (flat_map (λ e. row_names types named ts e.input) rest)
+  pub left : Left empty whole page (flat_map (λ e. row_names types named ts e.input) rest)
 
-module _ (types : Types) (table : List ℕ) (named : ℕ) (legible : Legible types table named) (ts list text : List ℕ) where
+module _ (types : Types) (table : Std.Option (List ℕ)) (named : ℕ) (legible : Legible types table named) (ts list : List ℕ) (empty : Page) where
   -- nothing is written yet
   pub going_whole : (es : List Entry) → list_bytes es ≡ list → Each (Fitted types ts) es
-      → NamesLeft types named ts list text (list_names types named ts list) text 0 0
+      → NamesLeft types named ts list empty (list_names types named ts list) empty 0
   going_whole es are all = record {
     before = [];
     rest = es;
     split = sym are;
     place = refl;
     fitted = all;
-    left = subst (λ (w : List ℕ). Left text 0 w text 0 (names_of types table named legible ts es)) (sym (names_are types table named legible ts list es are all))
-        (left_whole text 0 (names_of types table named legible ts es));
+    left = subst (λ (w : List ℕ). Left empty w empty (names_of types table named legible ts es)) (sym (names_are types table named legible ts list es are all))
+        (left_whole empty (names_of types table named legible ts es));
   }
 
   -- how far the text goes
-  pub going_end : {now-text : List ℕ} {at to : ℕ} (es : List Entry) → list_bytes es ≡ list → Each (Fitted types ts) es
-      → NamesLeft types named ts list text (list_names types named ts list) now-text at to → to ≤ 4 * length list
+  pub going_end : {page : Page} {at : ℕ} (es : List Entry) → list_bytes es ≡ list → Each (Fitted types ts) es
+      → NamesLeft types named ts list empty (list_names types named ts list) page at → page.at ≤ empty.at + 4 * length list
   going_end es are all going =
       omega (arith, going.left.place, ap length (names_are types table named legible ts list es are all), names_length types named legible.spells ts es all, ap length are)
 
   -- An entry that stands at the place reached.
-  pub record Standing (whole now-text : List ℕ) (at to : ℕ) : Type 0 where
+  pub record Standing (whole : List ℕ) (page : Page) (at : ℕ) : Type 0 where
     pub entry : Entry
     pub size : entry_size list at ≡ some (length (entry_bytes entry))
     pub stands : RowStands types ts list (at + 6) entry.input
     pub room : at + length (entry_bytes entry) ≤ length list
     pub some_bytes : 6 ≤ length (entry_bytes entry)
-    pub later : {text' : List ℕ} {to' : ℕ} → Puts now-text to (row_names types named ts (row_read types ts list (at + 6))) text' to'
-        → NamesLeft types named ts list text whole text' (at + length (entry_bytes entry)) to'
+    pub later : {page' : Page} → Puts page (row_names types named ts (row_read types ts list (at + 6))) page'
+        → NamesLeft types named ts list empty whole page' (at + length (entry_bytes entry))
 
-  standing : {whole now-text : List ℕ} {at to : ℕ} (before : List ℕ) (e : Entry) (es : List Entry) → list ≡ before ++ (entry_bytes e ++ list_bytes es) → at ≡ length before
+  standing : {whole : List ℕ} {page : Page} {at : ℕ} (before : List ℕ) (e : Entry) (es : List Entry) → list ≡ before ++ (entry_bytes e ++ list_bytes es) → at ≡ length before
       → Fitted types ts e → Each (Fitted types ts) es
-      → Left text 0 whole now-text to (row_names types named ts e.input ++ flat_map (λ e. row_names types named ts e.input) es) → Standing whole now-text at to
-  standing {whole} {now-text} {at} {to} before e es split place first all left =
+      → Left empty whole page (row_names types named ts e.input ++ flat_map (λ e. row_names types named ts e.input) es) → Standing whole page at
+  standing {whole} {page} {at} before e es split place first all left =
       let here = size_of_entry e before (list_bytes es) first.counted in
       let seen : drop (at + 6) list ≡ prefix e.input ++ list_bytes es =
       rw (place, split) (sym (drop-drop 6 (length before) (before ++ (entry_bytes e ++ list_bytes es)))
@@ -157,27 +159,28 @@ module _ (types : Types) (table : List ℕ) (named : ℕ) (legible : Legible typ
   unfolding list_bytes flat_map
   list_first e es = refl
 
-  names_first : {whole now-text : List ℕ} {to : ℕ} (e : Entry) (es : List Entry)
-      → Left text 0 whole now-text to (flat_map (λ e. row_names types named ts e.input) (e ∷ es))
-      → Left text 0 whole now-text to (row_names types named ts e.input ++ flat_map (λ e. row_names types named ts e.input) es)
+  names_first : {whole : List ℕ} {page : Page} (e : Entry) (es : List Entry)
+      → Left empty whole page (flat_map (λ e. row_names types named ts e.input) (e ∷ es))
+      → Left empty whole page (row_names types named ts e.input ++ flat_map (λ e. row_names types named ts e.input) es)
   unfolding flat_map
   names_first e es left = left
 
-  pub going_more : {whole now-text : List ℕ} {at to : ℕ} → NamesLeft types named ts list text whole now-text at to → at < length list → Standing whole now-text at to
-  going_more {whole} {now-text} {at} {to} going more = by_rest going.rest going.split going.fitted going.left
+  pub going_more : {whole : List ℕ} {page : Page} {at : ℕ} → NamesLeft types named ts list empty whole page at → at < length list → Standing whole page at
+  going_more {whole} {page} {at} going more = by_rest going.rest going.split going.fitted going.left
     where
       by_rest : (es : List Entry) → list ≡ going.before ++ list_bytes es → Each (Fitted types ts) es
-          → Left text 0 whole now-text to (flat_map (λ e. row_names types named ts e.input) es) → Standing whole now-text at to
+          → Left empty whole page (flat_map (λ e. row_names types named ts e.input) es) → Standing whole page at
       by_rest [] split all left = absurd (omega (arith, more, going.place, ap length split, length-append going.before (list_bytes []), none_long))
       by_rest (e ∷ es) split (first, all) left = standing going.before e es (split ∙ ap (λ (x : List ℕ). going.before ++ x) (list_first e es)) going.place first all (names_first e es left)
 
-  -- all of it is written
-  pub going_done : {whole now-text : List ℕ} {at to : ℕ} → NamesLeft types named ts list text whole now-text at to → length list ≤ at → Puts text 0 whole now-text to
+  -- where no entry stands, all of it is written
+  pub going_done : {whole : List ℕ} {page : Page} {at : ℕ} → NamesLeft types named ts list empty whole page at → entry_size list at ≡ none → Puts empty whole page
   unfolding flat_map
-  going_done {whole} {now-text} {at} {to} going over = by_rest going.rest going.split going.left
+  going_done {whole} {page} {at} going over = by_rest going.rest going.split going.left
     where
-      by_rest : (es : List Entry) → list ≡ going.before ++ list_bytes es → Left text 0 whole now-text to (flat_map (λ e. row_names types named ts e.input) es)
-          → Puts text 0 whole now-text to
+      by_rest : (es : List Entry) → list ≡ going.before ++ list_bytes es → Left empty whole page (flat_map (λ e. row_names types named ts e.input) es)
+          → Puts empty whole page
       by_rest [] split left = left_none left
       by_rest (e ∷ es) split left =
-          absurd (omega (arith, over, going.place, ap length split, length-append going.before (list_bytes (e ∷ es)), list_some (e ∷ es)))
+          let more : at < length list = omega (arith, going.place, ap length split, length-append going.before (list_bytes (e ∷ es)), list_some (e ∷ es)) in
+          absurd (none-ne-some _ (sym over ∙ (going_more going more).size))

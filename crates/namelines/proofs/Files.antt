@@ -1,6 +1,6 @@
 -- The tables of a loaded file, as what the names of its list are written by.
 -- Rests on Entries, on names' Entries, on rulefile's Tabled and on reach's Limits and WellTyped and on lists' Handed.
-use Prim.Native.Nat.{ℕ, ◌*◌, ◌≤◌, ◌<◌}
+use Prim.Native.Nat.{ℕ, ◌*◌, ◌≤◌}
 use mathlib.Core.Path.{◌≡◌, refl, sym, ap, ◌∙◌}
 use mathlib.Core.List.{List, [], ◌∷◌, map, flat_map}
 use mathlib.Core.Option.{Option, none, some}
@@ -17,43 +17,24 @@ use Rattle.reach.specs.Names.{Spells}
 use Rattle.reach.specs.Answers.{check, accepted}
 use Rattle.lists.specs.Handed.{Fitting, IsList}
 use Rattle.reach.specs.Places.{type_at, head_at}
-use Rattle.reach.proofs.Base.{clash, member_each, each_member}
+use Rattle.reach.proofs.Base.{member_each, each_member}
 use Rattle.reach.proofs.Limits.{KeepsLimits, accepted_keeps, accepted_rooms}
 use Rattle.reach.proofs.Slots.{source_types_law}
-use Rattle.reach.proofs.Places.{bytes_length}
 use Rattle.reach.proofs.WellTyped.{accepted_typed, open_apart}
 use Rattle.reach.proofs.Spelling.{spells_form}
 use Rattle.names.specs.NameList.{filled, entry_names}
 use Rattle.names.proofs.Entries.{fillable, source_there}
-use Rattle.reach.specs.Types.{least_depths}
-use Rattle.reach.proofs.LeastDepths.{rounds_length}
-use Rattle.depths.proofs.Padded.{padded_length}
-use Rattle.goal.specs.declared.Named.TheVariants as Named
+use Rattle.std.specs.Prelude.{Some}
 use Rattle.goal.specs.Goals.{named_of}
 use Rattle.lookups.specs.declared.Head.{Head}
-use Rattle.lookups.specs.Heads.{head_of, NearHead}
-use Rattle.results.specs.declared.CheckResult.{CheckResult}
+use Rattle.lookups.specs.Heads.{head_of}
 use Rattle.rulefile.specs.declared.Loaded.{Loaded}
-use Rattle.rulefile.specs.Loading.{type_places, function_places, Tabled, LoadsAs, Loads}
-use Rattle.rulefile.proofs.Tabled.{program_types, types_many, program_goal, program_named, program_source_types, program_least}
+use Rattle.rulefile.specs.Loading.{type_places, function_places, Tabled}
+use Rattle.rulefile.proofs.Tabled.{program_types, program_goal, program_named, program_source_types, program_least}
 use Rattle.namelines.specs.declared.Asked.{Asked}
 use Rattle.namelines.specs.Rows.{row_names, types_asked, Legible}
 use Rattle.namelines.specs.Lists.{list_names, Fitted, Listed}
 use Rattle.namelines.proofs.Entries.{names_length, names_are}
-
--- an accepted file is loaded as one
-pub answer_accepted : (file : List ℕ) (r : Loaded) {p : Program} → Loads file r → check file ≡ accepted p → r.answer ≡ CheckResult.Accepted
-answer_accepted file r {p} loads checked = by_answer r.answer loads
-  where
-    by_answer : (a : CheckResult) → LoadsAs file r a → a ≡ CheckResult.Accepted
-    by_answer CheckResult.Accepted h = refl
-    by_answer (CheckResult.Refused why) h = absurd (clash (cc (h, checked)))
-
--- the array of least depths has a number
-pub table_there : (file : List ℕ) (r : Loaded) {p : Program} → Tabled file r p → 0 < length r.least
-unfolding least_depths
-table_there file r {p} tabled =
-    omega (arith, ap length tabled.depths, padded_length (least_depths p.types) (omega (arith, rounds_length p.types (length p.types), types_many tabled, tabled.types_limit)))
 
 -- what keeps to depths within the largest D keeps to that
 keeps_limit : (types : Types) (ss : List Slot) (e : Parts) → Each (λ (s : Slot). s.room ≤ depth_limit) ss → Keeps types ss e
@@ -122,20 +103,20 @@ module _ (file : List ℕ) (p : Program) (checked : check file ≡ accepted p) (
 
 -- The same by the tables of the loaded file.
 module _ (file : List ℕ) (r : Loaded) (p : Program) (checked : check file ≡ accepted p) (tabled : Tabled file r p) (list : List ℕ) (es : List Entry) (is : IsList p list es)
-    (named : ℕ) (naming : r.named ≡ Named.Type named) (head : Head) (head_read : head_of file head ≡ head_at file (get_or (function_places r) r.goal.source 0))
-    (near : NearHead head) (table : 0 < length r.least) where
+    (named : ℕ) (naming : r.named ≡ Some named) (head : Head) (head_read : head_of file head ≡ head_at file (get_or (function_places r) r.goal.source 0)) where
   abbrev asked : Asked
-  asked = record { parameters = head.parameters; count = head.count; named = named }
+  asked = record { parameters = head.parameters; named = named }
 
   names_it : p.named ≡ some named
   names_it = program_named tabled ∙ ap named_of naming
 
-  legible : Legible p.types r.least named
+  legible : Legible p.types (Some r.least.of) named
   legible = record {
     spells = spells_names file p checked list es is named names_it;
     apart = open_apart file p checked;
     least = program_least tabled;
-    some_table = table;
+    lent = r.least.of;
+    some_table = refl;
   }
 
   -- the tables say what the program does
@@ -147,13 +128,12 @@ module _ (file : List ℕ) (r : Loaded) (p : Program) (checked : check file ≡ 
       program_source_types tabled ∙ ap (λ (s : ℕ). (head_at file (get_or (function_places r) s 0)).parameters) (sym (program_goal tabled).source_is)
       ∙ sym (ap (λ h. h.parameters) head_read)
 
-  pub listed : Listed file (type_places r) r.least list asked
+  pub listed : Listed file (type_places r) (Some r.least.of) list asked
   listed = record {
     entries = es;
     bytes = is.bytes_are;
     fitted = rw (← types_are, ← source_is) (fitted file p checked list es is);
     legible = rw (← types_are) legible;
-    near = (near.0, omega (arith, (kept file p checked list es is).parameters_limit, ap length source_is, bytes_length file head.parameters head.count));
     in_limit = is.in_limit;
   }
 
@@ -161,5 +141,5 @@ module _ (file : List ℕ) (r : Loaded) (p : Program) (checked : check file ≡ 
   pub names_same : list_names (map (type_at file) (type_places r)) named (types_asked file asked) list ≡ flat_map (entry_names p) es
   names_same =
       rw (← types_are, ← source_is)
-      (names_are p.types r.least named legible (source_types p) list es is.bytes_are (fitted file p checked list es is)
+      (names_are p.types (Some r.least.of) named legible (source_types p) list es is.bytes_are (fitted file p checked list es is)
       ∙ entry_lines file p checked list es is named names_it)

@@ -1,5 +1,5 @@
 -- How long the lines of names are: at most four times the bytes of the parameters that they are made of.
--- Rests on Letters and Rows, on naming's Lines and on printing's Lengths.
+-- Rests on Letters and Rows, on naming's Encodings and Lines and on printing's Lengths.
 use Prim.Native.Nat.{ℕ, suc, ◌+◌, ◌*◌, ◌≤◌}
 use mathlib.Core.Path.{◌≡◌, refl, sym, ap, subst, ◌∙◌}
 use mathlib.Core.Bool.{Bool, true, false}
@@ -21,8 +21,9 @@ use Rattle.names.specs.Spelling.{spelled}
 use Rattle.names.specs.NameList.{utf8, name_line, names_in, name_lines}
 use Rattle.writing.proofs.Digits.{digits_three}
 use Rattle.printing.proofs.Lengths.{line_length}
+use Rattle.naming.specs.Short.{text_few, utf8_short}
 use Rattle.naming.specs.Letters.{half, letters}
-use Rattle.naming.proofs.Lines.{Bytes, bytes_append, numbers_few, encoded_all}
+use Rattle.naming.proofs.Lines.{Bytes, numbers, numbers_append, all_few}
 use Rattle.namelines.specs.Rows.{row_names}
 use Rattle.namelines.proofs.Letters.{name_letters}
 use Rattle.namelines.proofs.Rows.{first_of_row, others_of, names_split, filled_bytes}
@@ -43,15 +44,15 @@ letters_third (c ∷ h ∷ l ∷ rest) = by_code (16 * half h + half l) (eqb c 1
 line_twelve : (b : ℕ) (bs : List ℕ) → Bytes (b ∷ bs) → length (name_line (b ∷ bs)) ≤ 12 * suc (length bs)
 unfolding name_line
 line_twelve b bs (small, all) =
-    let encoded = encoded_all (b ∷ bs) (small, all) in
-    let items = numbers_few (bs ++ flat_map utf8 (b ∷ bs)) (bytes_append bs (flat_map utf8 (b ∷ bs)) all encoded.bytes) in
+    let encodings = flat_map utf8 (b ∷ bs) in
     omega (
       arith,
-      line_length (decimal b) (map decimal (bs ++ flat_map utf8 (b ∷ bs))),
+      line_length (decimal b) (map decimal (bs ++ encodings)),
       digits_three b (omega (arith, small)),
-      items,
-      length-append bs (flat_map utf8 (b ∷ bs)),
-      encoded.few,
+      ap length (numbers_append bs encodings),
+      length-append (numbers bs) (numbers encodings),
+      text_few bs all,
+      all_few utf8 utf8_short (b ∷ bs) (small, all),
     )
 
 line_short : (bs : List ℕ) (n : ℕ) → Bytes bs → 3 * length bs ≤ n → 1 ≤ n → length (name_line bs) ≤ 4 * n

@@ -24,32 +24,30 @@ use Rattle.names.specs.Filling.{fill, fill_named}
 use Rattle.names.specs.Spelling.{spelled}
 use Rattle.naming.specs.Letters.{letters, Spelt}
 use Rattle.rows.specs.declared.Measured.{Measured}
-use Rattle.rows.specs.Values.{of_value, manner_of}
+use Rattle.std.specs.Prelude as Std
+use Rattle.rows.specs.Values.{measured, of_value, manner_of}
+use Rattle.writing.specs.declared.Page.{Page}
 use Rattle.writing.specs.Writing.{Puts}
 use Rattle.writing.proofs.Writing.{Left, left_whole, left_next, left_none}
 use Rattle.namelines.specs.Rows.{row_names, RowStands, row_read, Legible}
 use Rattle.namelines.proofs.Rows.{first_of_row, others_of, names_split, one_behind, first_stands, others_stand, first_letters, row_read_law}
 use Rattle.namelines.proofs.Lengths.{names_short}
 
-manner_is : (table : List ℕ) → 0 < length table → manner_of table ≡ in_entries table
-manner_is [] h = absurd (omega (arith, h))
-manner_is (d ∷ ds) h = refl
-
 -- What is left of a row: it stands from this place on, and its names are still to be written.
-pub record Onward (types : Types) (named : ℕ) (list text : List ℕ) (to : ℕ) (whole ts now-text : List ℕ) (place end : ℕ) : Type 0 where
+pub record Onward (types : Types) (named : ℕ) (list : List ℕ) (before : Page) (whole ts : List ℕ) (page : Page) (place : ℕ) : Type 0 where
   pub row : Parts
   pub stands : RowStands types ts list place row
-  pub left : Left text to whole now-text end (row_names types named ts row)
+  pub left : Left before whole page (row_names types named ts row)
 
-module _ (types : Types) (table : List ℕ) (named : ℕ) (legible : Legible types table named) (list : List ℕ) where
+module _ (types : Types) (table : Std.Option (List ℕ)) (named : ℕ) (legible : Legible types table named) (list : List ℕ) where
   -- nothing is written yet
-  pub onward_whole : (text : List ℕ) (to at : ℕ) (ts : List ℕ) (row : Parts) → RowStands types ts list at row
-      → Onward types named list text to (row_names types named ts (row_read types ts list at)) ts text at to
-  onward_whole text to at ts row stands = record {
+  pub onward_whole : (page : Page) (at : ℕ) (ts : List ℕ) (row : Parts) → RowStands types ts list at row
+      → Onward types named list page (row_names types named ts (row_read types ts list at)) ts page at
+  onward_whole page at ts row stands = record {
     row = row;
     stands = stands;
-    left = subst (λ (r : Parts). Left text to (row_names types named ts r) text to (row_names types named ts row))
-        (sym (row_read_law types table named legible ts list at row stands)) (left_whole text to (row_names types named ts row));
+    left = subst (λ (r : Parts). Left page (row_names types named ts r) page (row_names types named ts row))
+        (sym (row_read_law types table named legible ts list at row stands)) (left_whole page (row_names types named ts row));
   }
 
   -- the first value may be so deep
@@ -61,15 +59,16 @@ module _ (types : Types) (table : List ℕ) (named : ℕ) (legible : Legible typ
   first_deep t (bound c fs r) h keeps = keeps.0
 
   -- where the place behind the first value is
-  pub next_place : (t : ℕ) (ts : List ℕ) (at : ℕ) (row : Parts) (stands : RowStands types (t ∷ ts) list at row) {r : Measured}
+  pub next_place : (t : ℕ) (ts : List ℕ) (at : ℕ) (row : Parts) (stands : RowStands types (t ∷ ts) list at row) {r : Std.Option Measured}
       → r ≡ of_value (value types (manner_of table) depth_limit t list at)
-      → (next deep : ℕ) × (r ≡ Measured.At next deep) × (drop next list ≡ prefix (others_of row) ++ stands.behind)
+      → (next deep : ℕ) × (r ≡ measured next deep) × (drop next list ≡ prefix (others_of row) ++ stands.behind)
   next_place t ts at row stands {r} told =
       let first = first_stands types named list at t ts row stands in
       let (v, (next, is, there)) = one_read types (in_entries (least_depths types)) (λ e. Unit {0}) (entries_lawful types) legible.apart depth_limit list t at (first_of_row row)
       first.behind first.typed tt (first_deep t row first.typed first.keeps) first.bytes in
-      let same = value_same types table (least_depths types) legible.least depth_limit list t at in
-      (next, deep_of v, told ∙ rw (manner_is table legible.some_table, same, is) refl, there ∙ one_behind types named list at t ts row stands)
+      let lent = ap (λ (m : Std.Option (List ℕ)). of_value (value types (manner_of m) depth_limit t list at)) legible.some_table in
+      let same = value_same types legible.lent (least_depths types) legible.least depth_limit list t at in
+      (next, deep_of v, told ∙ lent ∙ rw (same, is) refl, there ∙ one_behind types named list at t ts row stands)
 
   -- a row that is not empty stands inside the list
   inside : (t : ℕ) (ts : List ℕ) (place : ℕ) (row : Parts) → RowStands types (t ∷ ts) list place row → place < length list
@@ -88,7 +87,7 @@ module _ (types : Types) (table : List ℕ) (named : ℕ) (legible : Legible typ
       by_name true is = ap name_line (first_letters types named list place t ts row stands legible.spells (eqb-true t named is)).0
       by_name false is = refl
 
-  module _ {text : List ℕ} {to : ℕ} {whole : List ℕ} {t : ℕ} {ts now-text : List ℕ} {place end : ℕ} (onward : Onward types named list text to whole (t ∷ ts) now-text place end) where
+  module _ {before : Page} {whole : List ℕ} {t : ℕ} {ts : List ℕ} {page : Page} {place : ℕ} (onward : Onward types named list before whole (t ∷ ts) page place) where
     -- the place is inside the list
     pub place_inside : place < length list
     place_inside = inside t ts place onward.row onward.stands
@@ -98,9 +97,9 @@ module _ (types : Types) (table : List ℕ) (named : ℕ) (legible : Legible typ
     spelt_there same = (first_letters types named list place t ts onward.row onward.stands legible.spells same).1
 
     -- the line of the first value is written
-    pub onward_next : {text' : List ℕ} {end' next : ℕ} → Puts now-text end (pick (eqb t named) (name_line (letters (drop place list))) []) text' end'
-        → drop next list ≡ prefix (others_of onward.row) ++ onward.stands.behind → Onward types named list text to whole ts text' next end'
-    onward_next {text'} {end'} {next} wrote there =
+    pub onward_next : {page' : Page} {next : ℕ} → Puts page (pick (eqb t named) (name_line (letters (drop place list))) []) page'
+        → drop next list ≡ prefix (others_of onward.row) ++ onward.stands.behind → Onward types named list before whole ts page' next
+    onward_next {page'} {next} wrote there =
         let row = onward.row in
         let stands = onward.stands in
         let split = names_split types named t ts row stands.typed stands.fillable in
@@ -109,21 +108,21 @@ module _ (types : Types) (table : List ℕ) (named : ℕ) (legible : Legible typ
           row = others_of row;
           stands = others_stand types named list place t ts row stands next there;
           left = left_next {a = pick (eqb t named) (name_line (letters (drop place list))) []}
-              (subst (λ (x : List ℕ). Left text to whole now-text end (x ++ row_names types named ts (others_of row))) (sym line) (rw split at onward.left)) wrote;
+              (subst (λ (x : List ℕ). Left before whole page (x ++ row_names types named ts (others_of row))) (sym line) (rw split at onward.left)) wrote;
         }
 
   -- all of it is written
-  pub onward_done : {text : List ℕ} {to : ℕ} {whole now-text : List ℕ} {place end : ℕ} → Onward types named list text to whole [] now-text place end → Puts text to whole now-text end
+  pub onward_done : {before page : Page} {whole : List ℕ} {place : ℕ} → Onward types named list before whole [] page place → Puts before whole page
   unfolding name_lines names_in fill_named flat_map
-  onward_done {text} {to} {whole} {now-text} {place} {end} onward = by_row onward.row onward.stands.typed onward.left
+  onward_done {before} {page} {whole} {place} onward = by_row onward.row onward.stands.typed onward.left
     where
-      by_row : (row : Parts) → Typed types [] row → Left text to whole now-text end (row_names types named [] row) → Puts text to whole now-text end
+      by_row : (row : Parts) → Typed types [] row → Left before whole page (row_names types named [] row) → Puts before whole page
       by_row Parts.end h left = left_none left
       by_row (opened r) h left = absurd h
       by_row (bound c fs r) h left = absurd h
 
   -- how far the text may go
-  pub onward_end : {text : List ℕ} {to : ℕ} {whole ts now-text : List ℕ} {place end : ℕ} → Onward types named list text to whole ts now-text place end → end ≤ to + length whole
+  pub onward_end : {before page : Page} {whole ts : List ℕ} {place : ℕ} → Onward types named list before whole ts page place → page.at ≤ before.at + length whole
   onward_end onward = omega (arith, onward.left.place)
 
   -- the lines of a row that stands in the list are short
@@ -139,8 +138,8 @@ module _ (types : Types) (table : List ℕ) (named : ℕ) (legible : Legible typ
       ))
 
 -- the next of the types that are left
-pub turned : {types : Types} {named : ℕ} {list text : List ℕ} {to : ℕ} {whole now-text : List ℕ} {place end : ℕ} (file : List ℕ) (field more : ℕ) → 0 < more
-    → Onward types named list text to whole (bytes_at file field more) now-text place end
-    → Onward types named list text to whole (get_or file field 0 ∷ bytes_at file (field + 1) (more - 1)) now-text place end
-turned {types} {named} {list} {text} {to} {whole} {now-text} {place} {end} file field more h onward =
-    subst (λ (ts : List ℕ). Onward types named list text to whole ts now-text place end) (bytes_more file field more h) onward
+pub turned : {types : Types} {named : ℕ} {list : List ℕ} {before page : Page} {whole : List ℕ} {place : ℕ} (file : List ℕ) (field more : ℕ) → 0 < more
+    → Onward types named list before whole (bytes_at file field more) page place
+    → Onward types named list before whole (get_or file field 0 ∷ bytes_at file (field + 1) (more - 1)) page place
+turned {types} {named} {list} {before} {page} {whole} {place} file field more h onward =
+    subst (λ (ts : List ℕ). Onward types named list before whole ts page place) (bytes_more file field more h) onward

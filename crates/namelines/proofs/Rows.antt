@@ -1,6 +1,7 @@
 -- A row of an entry, value by value: the lines of its names are that of its first value, if it has the named type, and those of the rest; and the rest stands
 -- behind the first value.
 -- Rests on Rows of specs/, on Letters, on names' Filling and Names, and on readings' Partial, lists' EntryValues and reach's Slots.
+use Rattle.std.specs.Prelude as Std
 use Prim.Native.Nat.{ℕ, ◌≤◌, ◌<◌}
 use mathlib.Core.Path.{◌≡◌, refl, sym, ap, subst, ◌∙◌}
 use mathlib.Core.Bool.{Bool, true, false}
@@ -166,7 +167,7 @@ module _ (types : Types) (named : ℕ) where
     first_letters spells same = named_letters list at (first_of_row row) (subst (λ (u : ℕ). RowStands types (u ∷ []) list at (first_of_row row)) same first_stands) spells
 
 -- the row that is read is the one that stands there
-pub row_read_law : (types : Types) (least : List ℕ) (named : ℕ) → Legible types least named → (ts list : List ℕ) (at : ℕ) (row : Parts)
+pub row_read_law : (types : Types) (least : Std.Option (List ℕ)) (named : ℕ) → Legible types least named → (ts list : List ℕ) (at : ℕ) (row : Parts)
     → RowStands types ts list at row → row_read types ts list at ≡ row
 row_read_law types least named legible ts list at row stands =
     let (next, is, there) = slotted_meets types (in_entries (least_depths types)) (λ e. Unit {0}) (entries_lawful types) legible.apart depth_limit list (even_slots ts depth_limit)

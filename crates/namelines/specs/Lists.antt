@@ -1,6 +1,6 @@
 -- The entries of a list and the lines of their names.
 -- Rests on Rows and on reach's Lists and lists' Handed.
-use Rattle.std.specs.Prelude.{ℕ, ◌≤◌, ◌<◌, ◌≡◌, Bool, length}
+use Rattle.std.specs.Prelude.{ℕ, ◌≤◌, ◌<◌, ◌≡◌, Bool, length, Option}
 use mathlib.Core.List.{List, [], ◌++◌, map, flat_map}
 use Rattle.reach.specs.declared.Refusal.TheVariants.{ListFull}
 use Rattle.reach.specs.Base.{pick, Each}
@@ -17,6 +17,7 @@ use Rattle.reach.specs.Places.{type_at}
 use Rattle.lists.specs.Text.{refusal_line}
 use Rattle.names.specs.Filling.{Fillable}
 use Rattle.names.specs.NameList.{entry_names}
+use Rattle.writing.specs.declared.Page.{Page}
 use Rattle.writing.specs.Writing.{Puts, Fronts}
 use Rattle.namelines.specs.declared.Asked.{Asked}
 use Rattle.namelines.specs.Rows.{row_names, row_read, types_asked, Legible}
@@ -37,22 +38,21 @@ pub record Fitted (types : Types) (ts : List ℕ) (e : Entry) : Type 0 where
   pub in_time : e.steps < 65536
 
 -- A list of such entries, of a file whose types stand at these places.
-pub record Listed (file types table list : List ℕ) (asked : Asked) : Type 0 where
+pub record Listed (file types : List ℕ) (table : Option (List ℕ)) (list : List ℕ) (asked : Asked) : Type 0 where
   pub entries : List Entry
   pub bytes : list_bytes entries ≡ list
   pub fitted : Each (Fitted (map (type_at file) types) (types_asked file asked)) entries
   pub legible : Legible (map (type_at file) types) table asked.named
-  pub near : (asked.parameters ≤ 65536) × (asked.count ≤ 8)
   pub in_limit : length list ≤ list_limit
 
 -- The list is whole entries that fit the file, which is accepted: so is that of every search of it, complete or cut short.
 abbrev pub FitsFile : List ℕ → List ℕ → Type 0
 FitsFile file list = (p : Program) × (es : List Entry) × (check file ≡ accepted p) × IsList p list es
 
--- its names are written from the beginning of a slice on
-abbrev pub PutsNames : List ℕ → List ℕ → List ℕ → List ℕ → ℕ → Type 0
-PutsNames file list text text' r =
-    (p : Program) (es : List Entry) → check file ≡ accepted p → IsList p list es → Puts text 0 (flat_map (entry_names p) es) text' r
+-- its names are written to a page
+abbrev pub PutsNames : List ℕ → List ℕ → Page → Page → Type 0
+PutsNames file list page page' =
+    (p : Program) (es : List Entry) → check file ≡ accepted p → IsList p list es → Puts page (flat_map (entry_names p) es) page'
 
 -- and so is refusal 12 behind them, where the list was cut short
 abbrev pub WritesNames : List ℕ → List ℕ → Bool → List ℕ → List ℕ → ℕ → Type 0

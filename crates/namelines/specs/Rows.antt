@@ -1,6 +1,6 @@
 -- The parameters of an entry as they stand in a list, and the lines of the names among them.
 -- Rests on names' Filling and NameList, on reach's Partial, on lists' Handed and on the struct of src/lib.rt.
-use Rattle.std.specs.Prelude.{ℕ, ◌≤◌, ◌<◌, ◌≡◌, List, ◌++◌, map, length, get_or, drop}
+use Rattle.std.specs.Prelude.{ℕ, ◌≤◌, ◌≡◌, List, ◌++◌, map, length, get_or, drop, Option, Some}
 use Rattle.reach.specs.Limits.{list_limit, depth_limit}
 use Rattle.reach.specs.Syntax.{Types}
 use Rattle.reach.specs.Parts.{Parts, end, prefix}
@@ -33,19 +33,19 @@ row_read types ts list at =
 
 -- what is asked of the parameters of an entry, of a file whose types stand at these places
 abbrev pub types_asked : List ℕ → Asked → List ℕ
-types_asked file asked = bytes_at file asked.parameters asked.count
+types_asked file asked = bytes_at file asked.parameters.at asked.parameters.count
 
 -- The types are those of an accepted file, and the named type has the form of names.
-pub record Legible (types : Types) (table : List ℕ) (named : ℕ) : Type 0 where
+pub record Legible (types : Types) (table : Option (List ℕ)) (named : ℕ) : Type 0 where
   pub spells : Spells types named
   pub apart : OpenApart types
-  pub least : (t : ℕ) → get_or table t 0 ≡ get_or (least_depths types) t 0
-  pub some_table : 0 < length table
+  pub lent : List ℕ
+  pub some_table : table ≡ Some lent
+  pub least : (t : ℕ) → get_or lent t 0 ≡ get_or (least_depths types) t 0
 
 -- An entry's parameters that can be read from a place on.
-pub record Readable (file types table list : List ℕ) (at : ℕ) (asked : Asked) : Type 0 where
+pub record Readable (file types : List ℕ) (table : Option (List ℕ)) (list : List ℕ) (at : ℕ) (asked : Asked) : Type 0 where
   pub row : Parts
   pub stands : RowStands (map (type_at file) types) (types_asked file asked) list at row
   pub legible : Legible (map (type_at file) types) table asked.named
-  pub near : (asked.parameters ≤ 65536) × (asked.count ≤ 8)
   pub in_limit : length list ≤ list_limit

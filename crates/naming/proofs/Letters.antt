@@ -1,16 +1,17 @@
--- The letters from a place of a list on: the first and those behind it, or none.
+-- The letters at the front of bytes: the first and those behind it, or none.
 -- Rests on specs/Letters.
-use Prim.Native.Nat.{ℕ, suc, ◌+◌, ◌*◌, ◌≤◌, ◌<◌}
-use mathlib.Core.Path.{◌≡◌, refl}
-use mathlib.Core.Bool.{Bool, true, false, ◌&&◌, and-eq-true_iff}
+use Prim.Native.Nat.{ℕ, zero, suc, ◌+◌, ◌-◌, ◌*◌, ◌≤◌, ◌<◌}
+use mathlib.Core.Path.{◌≡◌, refl, ap, ◌∙◌}
+use mathlib.Core.Bool.{Bool, true, false}
 use mathlib.Core.List.{List, [], ◌∷◌}
 use native.Mathlib.Omega.{arith}
-use lib.ListN.{length, get_or, drop, length-drop}
-use lib.Seq.{drop-cons}
-use lib.Dec.{ltb, eqb}
-use borrow.Author.Tests.{ltb-true, ltb-false}
-use Rattle.reach.specs.Base.{pick}
-use Rattle.naming.specs.Letters.{half, letters, Spelt, letter_here, letter_at}
+use mathlib.Core.Logic.{◌≢◌}
+use borrow.Author.Tests.{ne_eqb}
+use lib.ListN.{length, get_or, take, drop, length-drop}
+use lib.Seq.{take-length}
+use lib.Dec.{eqb}
+use Rattle.reach.specs.Base.{pick, Each}
+use Rattle.naming.specs.Letters.{half, letters}
 
 -- a half is filled with less
 pub half_few : (b : ℕ) → half b ≤ b
@@ -21,7 +22,7 @@ half_few b = go (eqb b 0xff)
     go false = omega arith
 
 -- fewer than three bytes hold no letter
-too_few : (xs : List ℕ) → length xs ≤ 2 → letters xs ≡ []
+pub too_few : (xs : List ℕ) → length xs ≤ 2 → letters xs ≡ []
 unfolding letters
 too_few [] h = refl
 too_few (c ∷ []) h = refl
@@ -40,41 +41,37 @@ letters_count (c ∷ a ∷ b ∷ xs) = go (letters_count xs) (eqb c 1)
     go rest true = omega arith
     go rest false = omega arith
 
-module _ (list : List ℕ) (place : ℕ) where
-  -- the three bytes at a place, and what is behind them
-  three : place + 2 < length list → drop place list ≡ get_or list place 0 ∷ get_or list (place + 1) 0 ∷ get_or list (place + 2) 0 ∷ drop (place + 3) list
-  three h =
-      let one : place + 1 ≡ suc place = omega arith in
-      let two : place + 2 ≡ suc (suc place) = omega arith in
-      let all : place + 3 ≡ suc (suc (suc place)) = omega arith in
-      rw (
-        one,
-        two,
-        all,
-        drop-cons list place 0 (omega arith),
-        drop-cons list (suc place) 0 (omega arith),
-        drop-cons list (suc (suc place)) 0 (omega arith),
-      )
+-- a letter before others, and anything else
+pub letter_first : (xs : List ℕ) → 3 ≤ length xs → get_or xs 0 0 ≡ 1
+    → letters xs ≡ (16 * half (get_or xs 1 0) + half (get_or xs 2 0)) ∷ letters (take (length xs - 3) (drop 3 xs))
+unfolding letters
+letter_first [] room is = absurd (omega arith)
+letter_first (c ∷ []) room is = absurd (omega arith)
+letter_first (c ∷ h ∷ []) room is = absurd (omega arith)
+letter_first (c ∷ h ∷ l ∷ rest) room is =
+    let left : length (c ∷ h ∷ l ∷ rest) - 3 ≡ length rest = omega arith in
+    rw (is, left, take-length rest)
 
-  both : letter_here list place ≡ true → (ltb (place + 2) (length list) ≡ true) × (eqb (get_or list place 0) 1 ≡ true)
-  unfolding letter_here
-  both here = (and-eq-true_iff (ltb (place + 2) (length list)) (eqb (get_or list place 0) 1)).0 here
+pub no_letter : (xs : List ℕ) → get_or xs 0 0 ≢ 1 → letters xs ≡ []
+unfolding letters
+no_letter [] other = refl
+no_letter (c ∷ []) other = refl
+no_letter (c ∷ h ∷ []) other = refl
+no_letter (c ∷ h ∷ l ∷ rest) other = rw (ne_eqb c 1 other)
 
-  pub letter_room : letter_here list place ≡ true → place + 3 ≤ length list
-  letter_room here = omega (arith, ltb-true (place + 2) (length list) (both here).0)
+-- the slice from a place on, as a range of the whole
+pub behind : (l : List ℕ) (at : ℕ) → take (length l - at) (drop at l) ≡ drop at l
+behind l at = rw (← length-drop at l) (take-length (drop at l))
 
-  pub letter_first : letter_here list place ≡ true → letters (drop place list) ≡ letter_at list place ∷ letters (drop (place + 3) list)
-  unfolding letters letter_at
-  letter_first here = rw (three (omega (arith, letter_room here)), (both here).1)
+pub behind_length : (l : List ℕ) (at : ℕ) → length (take (length l - at) (drop at l)) ≡ length l - at
+behind_length l at = ap length (behind l at) ∙ length-drop at l
 
-  pub no_letter : letter_here list place ≡ false → letters (drop place list) ≡ []
-  unfolding letter_here letters
-  no_letter none = by_room (ltb (place + 2) (length list)) refl none
-    where
-      by_room : (t : Bool) → ltb (place + 2) (length list) ≡ t → t && eqb (get_or list place 0) 1 ≡ false → letters (drop place list) ≡ []
-      by_room true room other = rw (three (ltb-true (place + 2) (length list) room), other)
-      by_room false room other = too_few (drop place list) (omega (arith, length-drop place list, ltb-false (place + 2) (length list) room))
+-- each of the letters is a byte: one after the other, and at each number
+pub bytes_at : (bs : List ℕ) → Each (λ (b : ℕ). b < 256) bs → (i : ℕ) → get_or bs i 0 < 256
+bytes_at [] h i = omega arith
+bytes_at (b ∷ bs) h zero = h.0
+bytes_at (b ∷ bs) h (suc i) = bytes_at bs h.1 i
 
-  -- the first letter is a byte, and so are those behind it
-  pub spelt_next : letter_here list place ≡ true → Spelt list place → (letter_at list place < 256) × Spelt list (place + 3)
-  spelt_next here spelt = rw (letter_first here) at spelt
+pub bytes_each : (bs : List ℕ) → ((i : ℕ) → get_or bs i 0 < 256) → Each (λ (b : ℕ). b < 256) bs
+bytes_each [] h = tt
+bytes_each (b ∷ bs) h = (h 0, bytes_each bs (λ i. h (suc i)))

@@ -1,6 +1,6 @@
 -- The letters of a name that stands in prefix form in a list.
 -- Rests on reach's Base.
-use Rattle.std.specs.Prelude.{ℕ, ◌+◌, ◌*◌, ◌<◌, Bool, ◌&&◌, List, [], ◌∷◌, length, get_or, drop, ltb, eqb}
+use Rattle.std.specs.Prelude.{ℕ, ◌+◌, ◌*◌, ◌<◌, List, [], ◌∷◌, drop, eqb}
 use Rattle.reach.specs.Base.{pick, Each}
 
 -- a half of a letter as it stands in a list: an open one is filled with 0
@@ -18,11 +18,3 @@ letters (c ∷ h ∷ l ∷ rest) = pick (eqb c 1) ((16 * half h + half l) ∷ le
 -- the letters from this place on are bytes
 abbrev pub Spelt : List ℕ → ℕ → Type 0
 Spelt list at = Each (λ (b : ℕ). b < 256) (letters (drop at list))
-
--- a letter stands at this place: constructor 1, and two bytes behind it
-unfoldable pub letter_here : List ℕ → ℕ → Bool
-letter_here list place = ltb (place + 2) (length list) && eqb (get_or list place 0) 1
-
--- the letter at this place, its high half first
-unfoldable pub letter_at : List ℕ → ℕ → ℕ
-letter_at list place = 16 * half (get_or list (place + 1) 0) + half (get_or list (place + 2) 0)

@@ -1,1 +1,4 @@
+pub mod Encodings
+pub mod Short
 pub mod Letters
+pub mod Left

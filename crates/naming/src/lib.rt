@@ -1,101 +1,120 @@
-// The line of a name, written into a lent slice: its Latin-1 bytes, then its UTF-8 bytes, in decimal. The name stands in prefix form in a list, and what is
-// open in it is filled with constructor 0. Rests on crates marks, writing and utf8.
+// The line of a name, written to a page: its Latin-1 bytes, then its UTF-8 bytes, in decimal. The name stands in prefix form in a list, and what is
+// open in it is filled with constructor 0. Rests on crates reach, writing and utf8.
 #![tactic(auto)]
 
-ghost use Rattle.std.specs.Prelude.{◌≡◌, ◌≤◌, ◌<◌, length, drop};
+ghost use Rattle.std.specs.Prelude.{◌≡◌, ℕ, ◌≤◌, ◌<◌, List, length, drop, get_or};
 ghost use mathlib.Core.List.{map, flat_map};
 ghost use Rattle.lists.specs.Text.{spaced, decimal};
 ghost use Rattle.names.specs.NameList.{utf8, name_line};
 ghost use Rattle.writing.specs.Writing.{Puts};
-ghost use Rattle.naming.specs.Letters.{half, letters, Spelt, letter_here, letter_at};
+ghost use Rattle.naming.specs.Letters.{half, letters, Spelt};
+ghost use Rattle.naming.specs.Encodings.{latin1, Short};
+ghost use Rattle.naming.specs.Short.{latin1_short, utf8_short};
 
-use marks::byte_or_zero;
+use reach::OPEN;
 use utf8::encoding;
-use writing::{put_byte, put_decimal, put_number};
+use writing::Page;
 
 // A half of a letter, filled.
-fn half_of(b: usize) -> u64
+fn half_of(b: u8) -> u8
     ensures { result ≡ half b }
 {
-    if b == 255 {
-        return 0;
+    match b {
+        OPEN => 0,
+        _ => b,
     }
-    b as u64
 }
 
-// A letter stands at a place: at least three bytes are left, and the first is 1.
-fn letter_here(list: &[u8], place: usize) -> bool
-    requires { place ≤ length list.now }
-    ensures { result ≡ letter_here list.now place }
-{
-    if list.len() <= place + 2 {
-        return false;
-    }
-    byte_or_zero(list, place) == 1
+// The letters of the name that stands at the front of these bytes, filled, one after the other.
+#[derive(Clone, Copy)]
+struct EachLetter<'a> {
+    bytes: &'a [u8],
+    ghost few: { length bytes.now ≤ 16777216 },
+    ghost spelt: { (i : ℕ) → get_or (letters bytes.now) i 0 < 256 },
 }
 
-// The letter at a place, filled.
-fn letter_at(list: &[u8], place: usize) -> u64
-    requires { place ≤ length list.now }
-    ensures { result ≡ letter_at list.now place }
-{
-    let high = half_of(byte_or_zero(list, place + 1));
-    let low = half_of(byte_or_zero(list, place + 2));
-    16 * high + low
+impl<'a> Iterator for EachLetter<'a> {
+    ghost use Rattle.std.specs.Iterator.{YieldsFirst, at_most};
+    ghost use Rattle.naming.specs.Left.{letters_left};
+
+    type Item = u8;
+
+    ghost next_gives = { YieldsFirst letters_left };
+
+    ghost remaining = { λ each. at_most (length each.bytes.now) };
+
+    fn next(&mut self) -> Option<u8> {
+        let [1, high, low, rest @ ..] = self.bytes else {
+            return None;
+        };
+        self.bytes = rest;
+        Some(16 * half_of(*high) + half_of(*low))
+    }
 }
 
-// Writes the letters from a place on, each as its Latin-1 byte behind a space.
-fn put_letters(list: &[u8], at: usize, text: &mut [u8], to: usize) -> usize
-    requires { (length list.now ≤ 16777216) × (at ≤ length list.now) × (to < 1152921504606846976) × Spelt list.now at }
-    ensures { Puts text.old to (spaced (map decimal (letters (drop at list.now)))) text.new result }
-{
-    let mut place = at;
-    let mut end = to;
-    while letter_here(list, place) {
-        end = put_number(text, end, letter_at(list, place));
-        place += 3;
-    }
-    end
+// How a letter is written: as which bytes, each behind a space.
+trait Encoding {
+    ghost bytes: { ℕ → List ℕ };
+
+    fn put(page: &mut Page, letter: u8)
+        requires { page.old.at < 2305843009213693952 }
+        ensures { Puts page.old (spaced (map decimal (bytes letter))) page.new };
+
+    // At most eight bytes of text.
+    ghost short: { Short bytes };
 }
 
-// Writes the UTF-8 bytes of a letter, each behind a space.
-fn put_encoding(text: &mut [u8], to: usize, b: u8) -> usize
-    requires { to < 2305843009213693952 }
-    ensures { Puts text.old to (spaced (map decimal (utf8 b))) text.new result }
-{
-    let bytes = encoding(b);
-    if bytes < 256 {
-        return put_number(text, to, bytes);
+// As its Latin-1 byte.
+struct Latin1;
+
+impl Encoding for Latin1 {
+    ghost bytes = { latin1 };
+
+    ghost short = { latin1_short };
+
+    fn put(page: &mut Page, letter: u8) {
+        page.number(u64::from(letter));
     }
-    let second = put_number(text, to, bytes % 256);
-    put_number(text, second, bytes / 256)
 }
 
-// Writes the letters from a place on, each as its UTF-8 bytes, every byte behind a space.
-fn put_encodings(list: &[u8], at: usize, text: &mut [u8], to: usize) -> usize
-    requires { (length list.now ≤ 16777216) × (at ≤ length list.now) × (to < 1152921504606846976) × Spelt list.now at }
-    ensures { Puts text.old to (spaced (map decimal (flat_map utf8 (letters (drop at list.now))))) text.new result }
-{
-    let mut place = at;
-    let mut end = to;
-    while letter_here(list, place) {
-        end = put_encoding(text, end, letter_at(list, place) as u8);
-        place += 3;
+// As its UTF-8 bytes.
+struct Utf8;
+
+impl Encoding for Utf8 {
+    ghost bytes = { utf8 };
+
+    ghost short = { utf8_short };
+
+    fn put(page: &mut Page, letter: u8) {
+        let (first, second) = encoding(letter);
+        page.number(u64::from(first));
+        if let Some(second) = second {
+            page.number(u64::from(second));
+        }
     }
-    end
+}
+
+// Writes these letters, each in this encoding.
+fn put_letters<E: Encoding>(page: &mut Page, name: EachLetter)
+    requires { page.old.at < 1152921504606846976 }
+    ensures { Puts page.old (spaced (map decimal (flat_map E.bytes (letters name.entry.bytes.now)))) page.new }
+{
+    for letter in name {
+        E::put(page, letter);
+    }
 }
 
 // Writes the line of the name at a place.
-pub fn put_name(list: &[u8], at: usize, text: &mut [u8], to: usize) -> usize
-    requires { (length list.now ≤ 16777216) × (at ≤ length list.now) × (to < 576460752303423488) × Spelt list.now at }
-    ensures { Puts text.old to (name_line (letters (drop at list.now))) text.new result }
+pub fn put_name(page: &mut Page, list: &[u8], at: usize)
+    requires { (length list.now ≤ 16777216) × (at ≤ length list.now) × (page.old.at < 576460752303423488) × Spelt list.now at }
+    ensures { Puts page.old (name_line (letters (drop at list.now))) page.new }
 {
-    if !letter_here(list, at) {
-        return put_byte(text, to, b'\n');
+    let name = EachLetter { bytes: &list[at..] };
+    let mut others = name;
+    if let Some(first) = others.next() {
+        page.decimal(u64::from(first));
+        put_letters::<Latin1>(page, others);
+        put_letters::<Utf8>(page, name);
     }
-    let others = put_decimal(text, to, letter_at(list, at));
-    let next = at + 3;
-    let encodings = put_letters(list, next, text, others);
-    let end = put_encodings(list, at, text, encodings);
-    put_byte(text, end, b'\n')
+    page.byte(b'\n');
 }

@@ -1,113 +1,64 @@
 // The second pass over a rule file: the type and function numbers in TY, FN heads, NA and GO all exist. The records are looked at
-// where the first pass found them: `types` and `functions` hold the places behind the marks. Rests on crates
-// marks, lookups and goal.
+// where the first pass found them. Rests on crates marks, lookups and goal.
 #![tactic(auto)]
 
-ghost use Rattle.std.specs.Prelude.{◌≡◌, ◌≤◌, map, ltb};
+ghost use Rattle.std.specs.Prelude.{◌≡◌, map, length, get_or, ltb};
 ghost use Rattle.reach.specs.RuleFile.{all_below, constructors_exist, types_exist, heads_exist, if_named, numbers_exist};
-ghost use Rattle.reach.specs.Places.{bytes_at, constructors_at, type_at, head_at, outline_at};
+ghost use Rattle.reach.specs.Places.{bytes_at, type_at, head_at, outline_at};
 ghost use Rattle.goal.specs.Goals.{goal_of, named_of};
 
-use goal::{Goal, Named};
-use lookups::{constructors_of, head_of};
+use goal::Goal;
+use lookups::{FieldTypes, Rules};
 use marks::byte_or_zero;
 
-// The n bytes from a place on are all below a limit.
-fn all_below(s: &[u8], at: usize, n: usize, limit: usize) -> bool
-    requires { (at ≤ 1000000) × (n ≤ 255) }
-    ensures { result ≡ all_below limit (bytes_at s.now at n) }
+// These types are all below a limit.
+fn all_below(s: &[u8], fields: FieldTypes, limit: usize) -> bool
+    ensures { result ≡ all_below limit (bytes_at s.now fields.at fields.count) }
 {
-    let mut place = at;
-    let mut more = n;
-    while 0 < more {
-        if limit <= byte_or_zero(s, place) {
-            return false;
-        }
-        place += 1;
-        more -= 1;
-    }
-    true
+    (fields.at..fields.at + fields.count).all(|i| byte_or_zero(s, i) < limit)
 }
 
-// The field types of n constructors from a place on all exist.
-fn constructors_exist(s: &[u8], at: usize, n: usize, limit: usize) -> bool
-    requires { (at ≤ 65536) × (n ≤ 255) }
-    ensures { result ≡ constructors_exist limit (constructors_at s.now at n) }
+// The field types of the constructors of type t all exist.
+fn constructors_exist(rules: &Rules, t: usize) -> bool
+    ensures { let r = rules.now in result ≡ constructors_exist (length r.types.now) (type_at r.file.now (get_or r.types.now t 0)) }
 {
-    let mut place = at;
-    let mut more = n;
-    while 0 < more {
-        let fields = byte_or_zero(s, place);
-        if !all_below(s, place + 1, fields, limit) {
-            return false;
-        }
-        place = place + 1 + fields;
-        more -= 1;
-    }
-    true
+    let limit = rules.types.len();
+    rules
+        .each_constructor(t)
+        .all(|fields| all_below(rules.file, fields, limit))
 }
 
 // The field types of all types exist.
-fn types_exist<'a>(s: &'a [u8], types: &'a [u16], limit: usize) -> bool
-    ensures { result ≡ types_exist limit (map (type_at s.now) types.now) }
+fn types_exist(rules: &Rules) -> bool
+    ensures { let types = rules.now.types.now in result ≡ types_exist (length types) (map (type_at rules.now.file.now) types) }
 {
-    let mut t: usize = 0;
-    while t < types.len() {
-        let all = constructors_of(s, types, t);
-        if !constructors_exist(s, all.at, all.count, limit) {
-            return false;
-        }
-        t += 1;
-    }
-    true
+    (0..rules.types.len()).all(|t| constructors_exist(rules, t))
 }
 
 // The parameter and result types of all functions exist.
-fn heads_exist<'a>(s: &'a [u8], functions: &'a [u16], limit: usize) -> bool
-    ensures { result ≡ heads_exist limit (map (head_at s.now) functions.now) }
+fn heads_exist(rules: &Rules) -> bool
+    ensures { let r = rules.now in result ≡ heads_exist (length r.types.now) (map (head_at r.file.now) r.functions.now) }
 {
-    let mut f: usize = 0;
-    while f < functions.len() {
-        let head = head_of(s, functions, f);
-        if !all_below(s, head.parameters, head.count, limit) {
-            return false;
-        }
-        if limit <= head.result {
-            return false;
-        }
-        f += 1;
-    }
-    true
+    let types = rules.types.len();
+    (0..rules.functions.len()).all(|f| {
+        let head = rules.head(f);
+        all_below(rules.file, head.parameters, types) && head.result < types
+    })
 }
 
 // The type that NA names exists, where there is one.
-fn name_exists(named: Named, limit: usize) -> bool
+fn name_exists(named: Option<usize>, limit: usize) -> bool
     ensures { result ≡ if_named (λ t. ltb t limit) (named_of named) }
 {
-    match named {
-        Named::Nothing => true,
-        Named::Type(t) => t < limit,
-    }
+    named.is_none_or(|t| t < limit)
 }
 
 // All of these, and the function of the goal.
-pub fn numbers_exist<'a>(
-    s: &'a [u8],
-    types: &'a [u16],
-    functions: &'a [u16],
-    named: Named,
-    goal: Goal,
-) -> bool
-    ensures { result ≡ numbers_exist (outline_at s.now types.now functions.now (named_of named) (goal_of goal)) }
+pub fn numbers_exist(rules: &Rules, named: Option<usize>, goal: Goal) -> bool
+    ensures { let r = rules.now in result ≡ numbers_exist (outline_at r.file.now r.types.now r.functions.now (named_of named) (goal_of goal)) }
 {
-    if !types_exist(s, types, types.len()) {
-        return false;
-    }
-    if !heads_exist(s, functions, types.len()) {
-        return false;
-    }
-    if !name_exists(named, types.len()) {
-        return false;
-    }
-    goal.source < functions.len()
+    types_exist(rules)
+        && heads_exist(rules)
+        && name_exists(named, rules.types.len())
+        && goal.source < rules.functions.len()
 }

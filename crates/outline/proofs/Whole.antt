@@ -1,22 +1,20 @@
 -- The outline of a file as first_pass reads it: the first mark, the types, the functions, what NA names, and the goal with the end of the file.
--- Rests on Tables, on reach's RuleFile and Places, and on the laws of crate typerecord about steps.
+-- Rests on Tables, on reach's RuleFile, and on the laws of crate typerecord about steps.
 use Prim.Native.Nat.{ℕ}
 use mathlib.Core.Path.{◌≡◌, refl, sym, ◌∙◌}
 use mathlib.Core.Bool.{Bool, true, false}
 use mathlib.Core.List.{List, [], ◌∷◌}
 use mathlib.Core.Option.{Option, some}
+use Rattle.std.specs.Prelude.{Result, Ok, Err}
 use Rattle.reach.specs.declared.Refusal.{Refusal}
 use Rattle.reach.specs.declared.Refusal.TheVariants.{UnexpectedMark, TrailingBytes}
 use Rattle.reach.specs.Base.{pick}
 use Rattle.reach.specs.Syntax.{Types}
 use Rattle.reach.specs.Reader.{Got, got, refused, on_got, Reader, ◌>>=◌, ◌>>◌, give, refuse, byte, at_end}
 use Rattle.reach.specs.RuleFile.{Mark, TY, same_mark, in_turn, mark, type_record, more_types, Head, function_record, more_functions, goal_mark, name_record, naming, Goal, goal_record, Outline, outline}
-use Rattle.reach.specs.Places.{goal_at}
 use Rattle.reach.proofs.Reading.{then_same}
-use Rattle.reach.proofs.Places.{goal_read}
-use Rattle.typerecord.specs.declared.Passed.{Passed}
 use Rattle.typerecord.specs.Passed.{passed_of}
-use Rattle.typerecord.proofs.Answers.{step_got, step_refused, on_got_law}
+use Rattle.typerecord.proofs.Answers.{step_got, step_refused}
 use Rattle.outline.specs.Tables.{on_passed, last_record}
 use Rattle.turns.specs.Turns.{types_from, functions_from, first_mark}
 
@@ -40,8 +38,9 @@ first_marked {A} {C} one f g s i e m = by (same_mark TY m)
     by true = e
     by false = refl
 
--- the type that NA names, where the step behind it tells of the mark GO
-pub name_then : (s : List ℕ) (i : ℕ) {t next : ℕ} {r : Passed} → byte s i ≡ got t next → r ≡ passed_of (goal_mark s next) → name_record s i ≡ on_passed (some t) r
+-- the type that NA names, where the mark GO stands behind it or does not
+pub name_then : (s : List ℕ) (i : ℕ) {t next : ℕ} {r : Result ℕ Refusal} → byte s i ≡ got t next → r ≡ passed_of (goal_mark s next)
+    → name_record s i ≡ on_passed (some t) r
 unfolding name_record
 name_then s i {t} {next} {r} here told = rw (here, told) (by_mark (goal_mark s next))
   where
@@ -75,41 +74,30 @@ module _ (s : List ℕ) where
       (λ u next. refl))))))))
       m)
 
-  -- the goal that was read as the last record stands there
-  last_read : (i : ℕ) {g : Goal} {next : ℕ} → last_record s i ≡ got g next → g ≡ goal_at s i
-  unfolding last_record
-  last_read i e =
-      on_got_law (goal_record s i) _ e λ h k is more.
-      on_got_law (at_end TrailingBytes s k) _ more λ u n over same.
-      cc (goal_read s i is).value
+  -- The first mark is that of no type.
+  pub no_type : {why : Refusal} → Err why ≡ passed_of (first_mark s 0) → outline s 0 ≡ refused why
+  no_type told = in_parts 0 ∙ rw (step_refused (first_mark s 0) (sym told))
 
-  -- The answer r to the first mark: there is none of a type, or one.
-  module _ {r : Passed} (told : r ≡ passed_of (first_mark s 0)) where
-    pub no_type : {why : Refusal} → r ≡ Passed.Refused why → outline s 0 ≡ refused why
-    no_type found = in_parts 0 ∙ rw (step_refused (first_mark s 0) (sym told ∙ found))
+  -- It is that of a type, and the rest is read behind it.
+  module _ {i : ℕ} (told : Ok i ≡ passed_of (first_mark s 0)) where
+    marked : outline s 0 ≡ behind_mark s i
+    marked = in_parts 0 ∙ rw (step_got (first_mark s 0) (sym told)).1
 
-    module _ {i : ℕ} (found : r ≡ Passed.Next i) where
-      marked : outline s 0 ≡ behind_mark s i
-      marked = in_parts 0 ∙ rw (step_got (first_mark s 0) (sym told ∙ found)).1
+    pub types_refused : {why : Refusal} → types_from 31 s i ≡ refused why → outline s 0 ≡ refused why
+    types_refused e = marked ∙ rw e
 
-      pub types_refused : {why : Refusal} → types_from 31 s i ≡ refused why → outline s 0 ≡ refused why
-      types_refused e = marked ∙ rw e
+    module _ {ts : Types} {j : ℕ} (types : types_from 31 s i ≡ got ts j) where
+      pub functions_refused : {why : Refusal} → functions_from 63 s j ≡ refused why → outline s 0 ≡ refused why
+      functions_refused e = marked ∙ rw (types, e)
 
-      pub functions_refused : {ts : Types} {j : ℕ} {why : Refusal} → types_from 31 s i ≡ got ts j → functions_from 63 s j ≡ refused why
-          → outline s 0 ≡ refused why
-      functions_refused types e = marked ∙ rw (types, e)
-
-      module _ {ts : Types} {fs : List Head} {j k : ℕ} (types : types_from 31 s i ≡ got ts j) (functions : functions_from 63 s j ≡ got fs k) where
+      module _ {fs : List Head} {k : ℕ} (functions : functions_from 63 s j ≡ got fs k) where
         pub names_refused : {why : Refusal} → naming s k ≡ refused why → outline s 0 ≡ refused why
         names_refused e = marked ∙ rw (types, functions, e)
 
-        -- The answer to the last record, where all before it were read.
-        module _ {named : Option ℕ} {l : ℕ} (names : naming s k ≡ got named l) {last : Passed} (ended : last ≡ passed_of (last_record s l)) where
-          pub goal_refused : {why : Refusal} → last ≡ Passed.Refused why → outline s 0 ≡ refused why
-          goal_refused e = marked ∙ rw (types, functions, names, step_refused (last_record s l) (sym ended ∙ e))
+        module _ {named : Option ℕ} {l : ℕ} (names : naming s k ≡ got named l) where
+          pub goal_refused : {why : Refusal} → last_record s l ≡ refused why → outline s 0 ≡ refused why
+          goal_refused e = marked ∙ rw (types, functions, names, e)
 
-          pub outlined : {next : ℕ} → last ≡ Passed.Next next
-              → outline s 0 ≡ got (record { declared = record { types = ts; heads = fs }; named = named; goal = goal_at s l }) next
-          outlined e =
-              let (g, read) = step_got (last_record s l) (sym ended ∙ e) in
-              marked ∙ rw (types, functions, names, read, last_read l read)
+          pub outlined : {g : Goal} {next : ℕ} → last_record s l ≡ got g next
+              → outline s 0 ≡ got (record { declared = record { types = ts; heads = fs }; named = named; goal = g }) next
+          outlined e = marked ∙ rw (types, functions, names, e)

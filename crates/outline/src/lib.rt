@@ -1,266 +1,147 @@
 // The first pass over a rule file: marks, counts, lengths, D and S, bodies passed over. What it leaves is the places where the
-// records of types and functions stand, the type that NA names, and the goal. Every mark is read through the cursor: the first where
+// records of types and functions stand, in the lent tables, the type that NA names, and the goal. Every mark is read through the cursor: the first where
 // the file begins, each other one where the record before it ends; the one behind the last function, NA or GO, is left by the
 // functions and read again. Rests on crates marks, cursor, turns, typerecord, functionrecord, goalrecord and goal.
 #![tactic(auto)]
 
-ghost use Rattle.std.specs.Prelude.{◌≡◌, ℕ, ◌≤◌, length};
-ghost use Rattle.reach.specs.Limits.{type_limit, function_limit};
-ghost use Rattle.reach.specs.RuleFile.{name_record, naming, outline};
+ghost use Rattle.std.specs.Prelude.{◌≡◌, ℕ, ◌-◌, ◌≤◌, ◌<◌, List, length, pred};
+ghost use Rattle.reach.specs.RuleFile.{Head, name_record, naming, outline};
 ghost use Rattle.typerecord.specs.Passed.{passed_of};
-ghost use Rattle.outline.specs.Tables.{types_of, functions_of, outlined_of, naming_of, outline_of, InLimits, last_record};
-ghost use Rattle.turns.specs.Turns.{types_from, functions_from};
+ghost use Rattle.turns.specs.Turns.{on_turn, Room};
+ghost use Rattle.outline.specs.Kinds.{Kind, types_kind, functions_kind};
+ghost use Rattle.outline.specs.Tables.{rows_of, outlined_of, naming_of, ended_of, last_record};
+
+pub mod table;
 
 use cursor::mark_at;
 use functionrecord::skip_function;
-use goal::{Goal, Named, goal_of, no_goal};
+use goal::{Goal, goal_of};
 use goalrecord::skip_goal;
-use marks::{Mark, Marked, Taken, same_mark, take_byte, wide};
+use marks::{Mark, take_byte};
 use reach::Refusal;
+use table::{Table, Tables};
 use turns::{Turn, first_mark, goal_mark, turn_after_function, turn_after_type};
-use typerecord::{Passed, skip_type};
+use typerecord::skip_type;
 
-const TYPE_LIMIT: usize = 32;
-
-const FUNCTION_LIMIT: usize = 64;
-
-// The types: how far they go, how many there are, and where each one's record stands behind its mark.
-#[derive(Clone, Copy)]
-pub struct TypeTable {
-    pub step: Passed,
-    pub count: usize,
-    pub places: [u16; 32],
-}
-
-// The functions, likewise.
-#[derive(Clone, Copy)]
-pub struct FunctionTable {
-    pub step: Passed,
-    pub count: usize,
-    pub places: [u16; 64],
-}
-
-// What stands between the functions and the goal: how far it goes, and the type that NA names.
-#[derive(Clone, Copy)]
-pub struct Naming {
-    pub step: Passed,
-    pub named: Named,
-}
-
-// A file as the first pass leaves it.
+// What the first pass leaves beside the tables of places.
 #[derive(Clone, Copy)]
 pub struct Outlined {
-    pub step: Passed,
-    pub types: usize,
-    pub type_at: [u16; 32],
-    pub functions: usize,
-    pub function_at: [u16; 64],
-    pub named: Named,
+    pub named: Option<usize>,
     pub goal: Goal,
 }
 
-// The types from behind the first mark to behind the mark of the first function.
-fn read_types(s: &[u8], first: usize) -> TypeTable
-    requires { length s.now ≤ 16384 }
-    ensures first_value { types_from 31 s.now first ≡ types_of s.now result }
-    ensures limit { result.count ≤ type_limit }
+// A kind of record, of which at most N come one after the other.
+trait Record<const N: usize> {
+    ghost Row: { Type 0 };
+
+    ghost kind: { (s : List ℕ) → Kind s Row };
+
+    // What follows the mark of one.
+    fn skip(s: &[u8], at: usize) -> Result<usize, Refusal>
+        ensures { result ≡ passed_of ((kind s.now).one at) };
+
+    // The mark behind one that begins at `from`, where so many more may come.
+    fn turn_after(s: &[u8], from: usize, behind: usize, more: usize) -> Result<Turn, Refusal>
+        ensures behind_value { (kind s.now).more more behind ≡ on_turn (λ next. (kind s.now).from (pred more) next) result }
+        ensures room { Room more result };
+}
+
+struct Types;
+
+impl Record<32> for Types {
+    ghost Row = { List (List ℕ) };
+
+    ghost kind = { types_kind };
+
+    fn skip(s: &[u8], at: usize) -> Result<usize, Refusal> {
+        skip_type(s, at)
+    }
+
+    fn turn_after(s: &[u8], from: usize, behind: usize, more: usize) -> Result<Turn, Refusal> {
+        turn_after_type(s, from, behind, more)
+    }
+}
+
+struct Functions;
+
+impl Record<64> for Functions {
+    ghost Row = { Head };
+
+    ghost kind = { functions_kind };
+
+    fn skip(s: &[u8], at: usize) -> Result<usize, Refusal> {
+        skip_function(s, at)
+    }
+
+    fn turn_after(s: &[u8], from: usize, behind: usize, more: usize) -> Result<Turn, Refusal> {
+        turn_after_function(s, from, behind, more)
+    }
+}
+
+// The records of one kind, from behind the first one's mark on, into a table, and where they end.
+fn read_records<const N: usize, K: Record<N>>(
+    s: &[u8],
+    first: usize,
+    table: &mut Table<N>,
+) -> Result<usize, Refusal>
+    requires size { length s.now ≤ 16384 }
+    requires some { 0 < N }
+    ensures { (K.kind s.now).from (N - 1) first ≡ rows_of (K.kind s.now).look table.new result }
 {
-    let mut places = [0u16; 32];
-    let mut count: usize = 0;
+    // (A `loop`: how many records there are is said by the mark behind each.)
+    table.clear();
     let mut at = first;
     loop {
-        let step = skip_type(s, at);
-        let Passed::Next(behind) = step else {
-            return TypeTable {
-                step,
-                count,
-                places,
-            };
-        };
-        places[count] = at as u16;
-        count += 1;
-        match turn_after_type(s, at, behind, TYPE_LIMIT - count) {
+        let behind = K::skip(s, at)?;
+        table.push(at as u16);
+        match K::turn_after(s, at, behind, N - table.count)? {
             Turn::Again(next) => at = next,
-            Turn::Done(next) => {
-                return TypeTable {
-                    step: Passed::Next(next),
-                    count,
-                    places,
-                };
-            }
-            Turn::Refused(why) => {
-                return TypeTable {
-                    step: Passed::Refused(why),
-                    count,
-                    places,
-                };
-            }
+            Turn::Done(next) => return Ok(next),
         }
-    }
-}
-
-// The functions from behind the first mark to the mark NA or GO.
-fn read_functions(s: &[u8], first: usize) -> FunctionTable
-    requires { length s.now ≤ 16384 }
-    ensures first_value { functions_from 63 s.now first ≡ functions_of s.now result }
-    ensures limit { result.count ≤ function_limit }
-{
-    let mut places = [0u16; 64];
-    let mut count: usize = 0;
-    let mut at = first;
-    loop {
-        let step = skip_function(s, at);
-        let Passed::Next(behind) = step else {
-            return FunctionTable {
-                step,
-                count,
-                places,
-            };
-        };
-        places[count] = at as u16;
-        count += 1;
-        match turn_after_function(s, at, behind, FUNCTION_LIMIT - count) {
-            Turn::Again(next) => at = next,
-            Turn::Done(next) => {
-                return FunctionTable {
-                    step: Passed::Next(next),
-                    count,
-                    places,
-                };
-            }
-            Turn::Refused(why) => {
-                return FunctionTable {
-                    step: Passed::Refused(why),
-                    count,
-                    places,
-                };
-            }
-        }
-    }
-}
-
-// An outline that was not read.
-fn not_read(step: Passed) -> Outlined
-    ensures step_value { result.step ≡ step }
-    ensures nothing { (result.types ≡ 0) × (result.functions ≡ 0) }
-{
-    Outlined {
-        step,
-        types: 0,
-        type_at: [0; 32],
-        functions: 0,
-        function_at: [0; 64],
-        named: Named::Nothing,
-        goal: no_goal(),
-    }
-}
-
-// Nothing that NA names, and how far it goes.
-fn not_named(step: Passed) -> Naming
-    ensures { (result.step ≡ step) × (result.named ≡ Named.Nothing) }
-{
-    Naming {
-        step,
-        named: Named::Nothing,
     }
 }
 
 // What follows the mark NA: a type number, and the mark GO.
-fn name_record(s: &[u8], at: usize) -> Naming
+fn name_record(s: &[u8], at: usize) -> Result<(Option<usize>, usize), Refusal>
     ensures { name_record s.now at ≡ naming_of result }
 {
-    let Taken::Byte(t, behind) = take_byte(s, at) else {
-        return not_named(Passed::Refused(Refusal::Truncated));
-    };
-    let step = goal_mark(s, at, behind);
-    Naming {
-        step,
-        named: Named::Type(wide(t)),
-    }
+    let (t, behind) = take_byte(s, at)?;
+    let goal_at = goal_mark(s, at, behind)?;
+    Ok((Some(usize::from(t)), goal_at))
 }
 
 // What stands between the functions and the goal: NA with its type number or nothing, and the mark GO.
-fn read_naming(s: &[u8], at: usize) -> Naming
+fn read_naming(s: &[u8], at: usize) -> Result<(Option<usize>, usize), Refusal>
     ensures { naming s.now at ≡ naming_of result }
 {
-    let Marked::Mark(mark, next) = mark_at(s, at) else {
-        return not_named(Passed::Refused(Refusal::Truncated));
-    };
-    if same_mark(mark, Mark::Name) {
-        return name_record(s, next);
+    let (mark, next) = mark_at(s, at)?;
+    match mark {
+        Mark::Name => name_record(s, next),
+        Mark::Goal => Ok((None, next)),
+        Mark::Type | Mark::Function | Mark::Other => Err(Refusal::UnexpectedMark),
     }
-    if same_mark(mark, Mark::Goal) {
-        return not_named(Passed::Next(next));
-    }
-    not_named(Passed::Refused(Refusal::UnexpectedMark))
 }
 
-// The goal and the end of the file.
-fn last_record(s: &[u8], at: usize) -> Passed
-    ensures { result ≡ passed_of (last_record s.now at) }
+// The goal, with nothing behind it.
+fn last_record(s: &[u8], at: usize) -> Result<Goal, Refusal>
+    ensures { last_record s.now at ≡ ended_of s.now result }
 {
-    let step = skip_goal(s, at);
-    let Passed::Next(behind) = step else {
-        return step;
-    };
+    let behind = skip_goal(s, at)?;
     if behind < s.len() {
-        return Passed::Refused(Refusal::TrailingBytes);
+        return Err(Refusal::TrailingBytes);
     }
-    step
-}
-
-// What was read, put together.
-fn all_read(
-    step: Passed,
-    types: TypeTable,
-    functions: FunctionTable,
-    naming: Naming,
-    goal: Goal,
-) -> Outlined
-    ensures { result ≡ outline_of step types functions naming goal }
-{
-    let type_at = types.places;
-    let function_at = functions.places;
-    let named = naming.named;
-    Outlined {
-        step,
-        types: types.count,
-        type_at,
-        functions: functions.count,
-        function_at,
-        named,
-        goal,
-    }
+    Ok(goal_of(s, at))
 }
 
 // The first pass over a whole file.
-pub fn first_pass(s: &[u8]) -> Outlined
+pub fn first_pass(s: &[u8], tables: &mut Tables) -> Result<Outlined, Refusal>
     requires { length s.now ≤ 16384 }
-    ensures s_value { outline s.now 0 ≡ outlined_of s.now result }
-    ensures limits { InLimits result }
+    ensures { outline s.now 0 ≡ outlined_of s.now tables.new result }
 {
-    let begin = first_mark(s);
-    let Passed::Next(first_type) = begin else {
-        return not_read(begin);
-    };
-    let types = read_types(s, first_type);
-    let typed = types.step;
-    let Passed::Next(first_function) = typed else {
-        return not_read(typed);
-    };
-    let functions = read_functions(s, first_function);
-    let defined = functions.step;
-    let Passed::Next(names_at) = defined else {
-        return not_read(defined);
-    };
-    let naming = read_naming(s, names_at);
-    let told = naming.step;
-    let Passed::Next(goal_at) = told else {
-        return not_read(told);
-    };
-    let last = last_record(s, goal_at);
-    let Passed::Next(_) = last else {
-        return not_read(last);
-    };
-    all_read(last, types, functions, naming, goal_of(s, goal_at))
+    let first_type = first_mark(s)?;
+    let first_function = read_records::<32, Types>(s, first_type, &mut tables.types)?;
+    let names_at = read_records::<64, Functions>(s, first_function, &mut tables.functions)?;
+    let (named, goal_at) = read_naming(s, names_at)?;
+    let goal = last_record(s, goal_at)?;
+    Ok(Outlined { named, goal })
 }

@@ -3,6 +3,7 @@
 use Prim.Native.Nat.{ℕ, zero, suc, max, ◌+◌, ◌-◌, ◌≤◌, ◌<◌}
 use mathlib.Core.Path.{◌≡◌, refl, sym, ap, ◌∙◌}
 use mathlib.Core.List.{List, [], ◌∷◌}
+use Rattle.std.specs.Prelude.{Option, Some, None}
 use lib.ListN.{length, get_or, set, length-set}
 use lib.Seq.{get_or-set_same, get_or-set_other}
 use native.Mathlib.Numerals.{add-one}
@@ -11,7 +12,7 @@ use Rattle.reach.specs.Places.{bytes_at}
 use Rattle.rows.specs.declared.Measured.{Measured}
 use Rattle.rows.specs.declared.Row.{Row}
 use Rattle.rows.specs.declared.First.{First}
-use Rattle.rows.specs.Values.{of_value, of_row, value_at, row_at}
+use Rattle.rows.specs.Values.{measured, of_value, of_row, value_at, row_at}
 use Rattle.rows.specs.Stack.{joined, above, past_of, Low, of_rest, of_first, NearFirst}
 use Rattle.rows.proofs.Rows.{joined_twice, row_done, row_next, row_stops}
 
@@ -54,42 +55,42 @@ Waiting levels [] = Unit {0}
 Waiting levels (row ∷ rows) = (0 < row.more) × Low (suc levels) row × Waiting (suc levels) rows
 
 -- what is near, by cases
-module _ (levels : ℕ) (list : List ℕ) (at : ℕ) (first : First) (near : NearFirst levels list at first) where
-  pub part_near : {next one : ℕ} → first ≡ First.Part next one → (at < length list) × (next ≡ suc at) × (one ≤ 255)
+module _ (levels : ℕ) (list : List ℕ) (at : ℕ) (first : Option First) (near : NearFirst levels list at first) where
+  pub part_near : {m : Measured} → first ≡ Some (First.Part m) → (at < length list) × (m.next ≡ suc at) × (m.deep ≤ 255)
   part_near found = rw found at near
 
-  pub node_near : {next : ℕ} {below : Row} → first ≡ First.Node next below → (at < length list) × (next ≡ suc at) × Low (levels - 1) below × (0 < levels)
+  pub node_near : {next : ℕ} {below : Row} → first ≡ Some (First.Node next below) → (at < length list) × (next ≡ suc at) × Low (levels - 1) below × (0 < levels)
   node_near found = rw found at near
 
-module _ (file types table list : List ℕ) where
+module _ (file types : List ℕ) (table : Option (List ℕ)) (list : List ℕ) where
   -- what a row comes to, by what its next value comes to
-  abbrev onward : ℕ → Row → Measured → Measured
-  onward levels row (Measured.At next one) = of_rest file types table levels list next (past_of row one)
-  onward levels row Measured.Bad = Measured.Bad
+  abbrev onward : ℕ → Row → Option Measured → Option Measured
+  onward levels row (Some m) = of_rest file types table levels list m.next (past_of row m.deep)
+  onward levels row None = None
 
   -- what the rows that wait come to, by what the row above them comes to
-  abbrev pub resume : ℕ → List Row → Measured → Measured
+  abbrev pub resume : ℕ → List Row → Option Measured → Option Measured
   resume levels [] m = m
   resume levels (row ∷ rows) m = resume (suc levels) rows (onward (suc levels) row (above m))
 
-  resume_bad : (levels : ℕ) (rows : List Row) → resume levels rows Measured.Bad ≡ Measured.Bad
+  resume_bad : (levels : ℕ) (rows : List Row) → resume levels rows None ≡ None
   resume_bad levels [] = refl
   resume_bad levels (row ∷ rows) = resume_bad (suc levels) rows
 
   -- a row at its end, and a row by its next value
-  row_ended : (levels at : ℕ) (row : Row) → row.more ≤ 0 → of_rest file types table levels list at row ≡ Measured.At at row.deep
+  row_ended : (levels at : ℕ) (row : Row) → row.more ≤ 0 → of_rest file types table levels list at row ≡ measured at row.deep
   row_ended levels at row h =
       let flat : max row.deep 0 ≡ row.deep = omega arith in
-      ap (joined row.deep) (row_done file types table list levels row.field row.more at h) ∙ ap (Measured.At at) flat
+      ap (joined row.deep) (row_done file types table list levels row.field row.more at h) ∙ ap (measured at) flat
 
   row_onward : (levels at : ℕ) (row : Row) → 0 < row.more
       → of_rest file types table levels list at row ≡ onward levels row (of_value (value_at file types table levels (get_or file row.field 0) list at))
   row_onward levels at row more = by (of_value (value_at file types table levels (get_or file row.field 0) list at)) refl
     where
-      by : (m : Measured) → m ≡ of_value (value_at file types table levels (get_or file row.field 0) list at) → of_rest file types table levels list at row ≡ onward levels row m
-      by (Measured.At next one) told =
-          ap (joined row.deep) (row_next file types table list levels row.field row.more at more told) ∙ joined_twice row.deep one (of_row (row_at file types table levels (bytes_at file (row.field + 1) (row.more - 1)) list next))
-      by Measured.Bad told = ap (joined row.deep) (row_stops file types table list levels row.field row.more at more told)
+      by : (m : Option Measured) → m ≡ of_value (value_at file types table levels (get_or file row.field 0) list at) → of_rest file types table levels list at row ≡ onward levels row m
+      by (Some m) told =
+          ap (joined row.deep) (row_next file types table list levels row.field row.more at more told) ∙ joined_twice row.deep m.deep (of_row (row_at file types table levels (bytes_at file (row.field + 1) (row.more - 1)) list m.next))
+      by None told = ap (joined row.deep) (row_stops file types table list levels row.field row.more at more told)
 
   -- at the end of a row the one that waits below it is past its value
   resume_ended : (levels place : ℕ) (row waits : Row) (rows : List Row) → row.more ≤ 0
@@ -103,7 +104,7 @@ module _ (file types table list : List ℕ) where
   -- ---- the loop
 
   -- The present row is read from a place on, below the rows that wait: together they come to the whole.
-  pub record Reading (levels : ℕ) (stack : List Row) (top : ℕ) (row : Row) (place : ℕ) (whole : Measured) : Type 0 where
+  pub record Reading (levels : ℕ) (stack : List Row) (top : ℕ) (row : Row) (place : ℕ) (whole : Option Measured) : Type 0 where
     pub holds : resume (levels - top) (frames stack top) (of_rest file types table (levels - top) list place row) ≡ whole
     pub low : Low (levels - top) row
     pub waiting : Waiting (levels - top) (frames stack top)
@@ -118,7 +119,7 @@ module _ (file types table list : List ℕ) where
       let z : levels - 0 ≡ levels = omega arith in
       record { holds = rw z refl; low = rw z low; waiting = tt; within = omega arith; few = few; long = long }
 
-  module _ {levels : ℕ} {stack : List Row} {top : ℕ} {row : Row} {place : ℕ} {whole : Measured} (now : Reading levels stack top row place whole) where
+  module _ {levels : ℕ} {stack : List Row} {top : ℕ} {row : Row} {place : ℕ} {whole : Option Measured} (now : Reading levels stack top row place whole) where
     -- the rows that wait, where there are any
     pub last_waits : 0 < top → (0 < (row_of stack (top - 1)).more) × Low (levels - (top - 1)) (row_of stack (top - 1)) × Waiting (levels - (top - 1)) (frames stack (top - 1))
     last_waits some =
@@ -126,7 +127,7 @@ module _ (file types table list : List ℕ) where
         rw (frames_more stack top some, z) at now.waiting
 
     -- the row is at its end, and so is the reading
-    pub ended : row.more ≤ 0 → top ≤ 0 → whole ≡ Measured.At place row.deep
+    pub ended : row.more ≤ 0 → top ≤ 0 → whole ≡ measured place row.deep
     ended done none =
         sym (rw (frames_none stack top none) at now.holds) ∙ row_ended (levels - top) place row done
 
@@ -147,17 +148,17 @@ module _ (file types table list : List ℕ) where
         }
 
     -- the row goes on, by the first byte of its next value
-    module _ (more : 0 < row.more) {t : ℕ} (is : t ≡ get_or file row.field 0) (first : First)
+    module _ (more : 0 < row.more) {t : ℕ} (is : t ≡ get_or file row.field 0) (first : Option First)
         (told : of_value (value_at file types table (levels - top) t list place) ≡ of_first file types table (levels - top) list first)
         (near : NearFirst (levels - top) list place first) where
       goes_on : resume (levels - top) (frames stack top) (onward (levels - top) row (of_first file types table (levels - top) list first)) ≡ whole
       goes_on =
           sym (ap (resume (levels - top) (frames stack top)) (row_onward (levels - top) place row more ∙ ap (onward (levels - top) row) (rw is at told))) ∙ now.holds
 
-      pub stopped : first ≡ First.Bad → whole ≡ Measured.Bad
+      pub stopped : first ≡ None → whole ≡ None
       stopped found = sym (sym (resume_bad (levels - top) (frames stack top)) ∙ (rw found at goes_on))
 
-      pub passed : {next one : ℕ} → first ≡ First.Part next one → Reading levels stack top (past_of row one) next whole
+      pub passed : {m : Measured} → first ≡ Some (First.Part m) → Reading levels stack top (past_of row m.deep) m.next whole
       passed found =
           let taken = part_near (levels - top) list place first near found in
           record {
@@ -169,7 +170,7 @@ module _ (file types table list : List ℕ) where
             long = now.long;
           }
 
-      pub pushed : {next : ℕ} {below : Row} → first ≡ First.Node next below → Reading levels (set stack top row) (top + 1) below next whole
+      pub pushed : {next : ℕ} {below : Row} → first ≡ Some (First.Node next below) → Reading levels (set stack top row) (top + 1) below next whole
       pushed found =
           let taken = node_near (levels - top) list place first near found in
           let z : levels - top ≡ suc (levels - (top + 1)) = omega (arith, taken.3) in

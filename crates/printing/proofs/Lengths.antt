@@ -29,7 +29,8 @@ use Rattle.lists.proofs.Share.{share_most}
 use Rattle.lines.proofs.Lines.{kind_few, verdict_few}
 use Rattle.lines.specs.Counting.{Few}
 use Rattle.printing.specs.Bound.{text_bound}
-use Rattle.printing.proofs.Walk.{size_least, few_more}
+use Rattle.entries.proofs.Walk.{size_least}
+use Rattle.printing.proofs.Walk.{few_more}
 
 -- every element is a byte
 abbrev pub Bytes : List ℕ → Type 0
@@ -111,7 +112,7 @@ lines_short (suc more) l i h = go (λ n. lines_short more l (i + n) h) (entry_si
     go later none e = (omega arith, omega arith)
     go later (some n) e =
         let inside = size_inside l i n e in
-        let least = size_least l i n e in
+        let least = (size_least l i n e).0 in
         let full : length (take n (drop i l)) ≡ n = simp (length-take, length-drop) (omega arith) in
         let line = entry_short (take n (drop i l)) (omega arith) (part_bytes l i n h) in
         let rest = later n in (

@@ -4,31 +4,35 @@
 // container and what is printed. Rests on crates cases, printing and printout.
 #![tactic(auto)]
 
-use cases::{
-    BYTES, CASES, NO_BYTE, PART, bytes, least, print, print_number, print_refused, print_text,
-    read_byte, read_number, read_part,
-};
+ghost use Rattle.std.specs.Prelude.{◌≤◌, length};
+
+use cases::{Answer, BYTES, PART, bytes, each_case, print, read_byte, read_part, read_within};
 use printout::{text_length, write_text};
-use results::TextResult;
 use std::io::{self, Read};
 
-// Prints the text of a list of at most 65,535 bytes.
-fn print_list(rt: &impl Print, list: &[u8], full: bool) -> io::Result<()> {
-    let mut text = bytes(0);
-    let n = printing::list_text(list, full, &mut text);
-    print_text(rt, &text, n)
+// What a case has, and whether the search ended in 12: a list by itself, or one that is handed in with a rule file.
+enum Kind {
+    Alone(bool),
+    Handed(bool),
 }
 
-// Prints the word for a call, and what it answered.
-fn print_answer(rt: &impl Print, call: &[u8], answer: TextResult) -> io::Result<()> {
-    match answer {
-        TextResult::Refused(why) => {
-            print(rt, call)?;
-            print_refused(rt, why)?;
+impl From<u8> for Kind {
+    fn from(byte: u8) -> Kind {
+        let full = byte % 2 == 1;
+        match byte {
+            0 | 1 => Kind::Alone(full),
+            _ => Kind::Handed(full),
         }
-        TextResult::Length(n) => print_number(rt, call, n as u64)?,
     }
-    print(rt, b"\n")
+}
+
+// Prints the text of a list of at most 65,536 bytes.
+fn print_list(rt: &impl Print, list: &[u8], full: bool) -> io::Result<()>
+    requires { length list.now ≤ 65536 }
+{
+    let mut text = bytes(0);
+    let n = printing::list_text(list, full, &mut text);
+    print(rt, &text[..n])
 }
 
 // Prints what both calls answer for a list that is handed in, and the text slice.
@@ -39,16 +43,16 @@ fn print_handed<'a>(
     full: bool,
     text: &mut [u8],
 ) -> io::Result<()> {
-    print_answer(rt, b"length ", text_length(file, list, full))?;
-    print_answer(rt, b"text ", write_text(file, list, full, text))?;
+    println!(rt; "length {}", Answer(text_length(file, list, full)))?;
+    println!(rt; "text {}", Answer(write_text(file, list, full, text)))?;
     print(rt, text)?;
-    print(rt, b"\n")
+    rt.print("\n")
 }
 
-// The rest of a case whose list stands by itself.
+// The rest of a case whose list stands by itself. Where the container has ended the whole buffer counts, and so below.
 fn run_list<R: Read>(rt: &impl Print, input: &mut R, full: bool) -> io::Result<()> {
     let mut list = [0u8; PART];
-    let n = read_part(input, &mut list);
+    let n = read_part(input, &mut list).unwrap_or(PART);
     print_list(rt, &list[..n], full)
 }
 
@@ -56,39 +60,30 @@ fn run_list<R: Read>(rt: &impl Print, input: &mut R, full: bool) -> io::Result<(
 fn run_handed<R: Read>(rt: &impl Print, input: &mut R, file: &[u8], full: bool) -> io::Result<()> {
     let mut list = [0u8; PART];
     let mut text = bytes(46);
-    let n = read_part(input, &mut list);
-    let room = least(read_number(input), BYTES);
+    let n = read_part(input, &mut list).unwrap_or(PART);
+    let room = read_within(input, BYTES);
     print_handed(rt, file, &list[..n], full, &mut text[..room])
 }
 
-// The rest of a case that has a rule file.
+// The rest of a case that has a rule file. (Like `run_list`, which reads a part too: the two lines that they share are a call.)
 fn run_file<R: Read>(rt: &impl Print, input: &mut R, full: bool) -> io::Result<()> {
     let mut file = [0u8; PART];
-    let n = read_part(input, &mut file);
+    let n = read_part(input, &mut file).unwrap_or(PART);
     run_handed(rt, input, &file[..n], full)
 }
 
-// Reads one case and prints its text; false where the container has ended.
-fn run_case<R: Read>(rt: &impl Print, input: &mut R) -> io::Result<bool> {
-    let kind = read_byte(input);
-    if kind == NO_BYTE {
-        return Ok(false);
+// A case behind its first byte.
+fn run_case<R: Read>(rt: &impl Print, input: &mut R, kind: Kind) -> io::Result<()> {
+    match kind {
+        Kind::Alone(full) => run_list(rt, input, full),
+        Kind::Handed(full) => run_file(rt, input, full),
     }
-    let full = kind % 2 == 1;
-    if kind < 2 {
-        run_list(rt, input, full)?;
-    } else {
-        run_file(rt, input, full)?;
-    }
-    Ok(true)
 }
 
 fn main(rt: HostRuntime) -> io::Result<()> {
-    let mut input = rt.stdin();
-    for _ in 0..CASES {
-        if !run_case(&rt, &mut input)? {
-            break;
-        }
-    }
-    Ok(())
+    each_case(
+        &mut rt.stdin(),
+        |input| read_byte(input),
+        |input, byte| run_case(&rt, input, Kind::from(byte)),
+    )
 }

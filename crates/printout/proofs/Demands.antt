@@ -11,6 +11,7 @@ use mathlib.Core.List.{List, ◌++◌, map, flat_map}
 use mathlib.Core.Logic.{◌⊎◌, inl, inr, ⊎_elim, ◌↔◌, ◌≢◌}
 use native.Mathlib.Omega.{arith}
 use lib.ListN.{length, get_or, take, drop}
+use Rattle.std.specs.Prelude.{Result, Ok, Err}
 use Rattle.reach.specs.declared.Refusal.{Refusal}
 use Rattle.reach.specs.declared.Refusal.TheVariants.{TextTooShort, BadList}
 use Rattle.reach.specs.Words.{OfFile}
@@ -26,16 +27,15 @@ use Rattle.lists.proofs.Printouts.{refused_exactly, printed_exactly, printout_by
 use Rattle.lists.proofs.Total.{text_shares, text_share}
 use Rattle.printing.specs.Bound.{text_bound}
 use Rattle.printing.proofs.Lengths.{text_short}
-use Rattle.results.specs.declared.TextResult.{TextResult}
 use Rattle.results.specs.Results.{text_result}
 use Rattle.printout.specs.Answering.{LengthPromise, WritePromise}
 
--- what the enum shows is what the definition answers
-shows_refused : (a : TextAnswer) (why : Refusal) → (text_result a ≡ TextResult.Refused why) ↔ (a ≡ no_text why)
+-- what the result shows is what the definition answers
+shows_refused : (a : TextAnswer) (why : Refusal) → (text_result a ≡ Err why) ↔ (a ≡ no_text why)
 shows_refused (no_text by) why = (λ e. let same : by ≡ why = cc in ap no_text same, λ e. ap text_result e)
 shows_refused (of_length n) why = (λ e. absurd (clash (cc)), λ e. ap text_result e)
 
-shows_length : (a : TextAnswer) (n : ℕ) → (text_result a ≡ TextResult.Length n) ↔ (a ≡ of_length n)
+shows_length : (a : TextAnswer) (n : ℕ) → (text_result a ≡ Ok n) ↔ (a ≡ of_length n)
 shows_length (no_text by) n = (λ e. absurd (clash (cc)), λ e. ap text_result e)
 shows_length (of_length m) n = (λ e. let same : m ≡ n = cc in ap of_length same, λ e. ap text_result e)
 
@@ -46,18 +46,18 @@ module _ (file list : List ℕ) (bytes : (i : ℕ) → get_or list i 0 < 256) (f
   shown = printout_of file list full
 
   -- the call of the length answers so
-  refusing : (why : Refusal) → LengthPromise file list full (TextResult.Refused why) ↔ (length_answer shown ≡ no_text why)
+  refusing : (why : Refusal) → LengthPromise file list full (Err why) ↔ (length_answer shown ≡ no_text why)
   refusing why = (λ m. (shows_refused (length_answer shown) why).0 (sym m.answer_is), λ e. record { answer_is = sym (ap text_result e) })
 
-  measuring : (n : ℕ) → LengthPromise file list full (TextResult.Length n) ↔ (length_answer shown ≡ of_length n)
+  measuring : (n : ℕ) → LengthPromise file list full (Ok n) ↔ (length_answer shown ≡ of_length n)
   measuring n = (λ m. (shows_length (length_answer shown) n).0 (sym m.answer_is), λ e. record { answer_is = sym (ap text_result e) })
 
   -- The length: "the exact length of that text in bytes from the list without writing it".
-  module _ (r : TextResult) (call : LengthPromise file list full r) where
+  module _ (r : Result ℕ Refusal) (call : LengthPromise file list full r) where
     -- "14 scrap: the list has more than 16,777,216 bytes or is not whole entries of known kinds, with parameters of the rule file's types and depths [..] and
     -- at most S steps, tested [..] after the rule file's 1 to 9", and 15. No other number is given.
     pub length_refused : (why : Refusal)
-        → (r ≡ TextResult.Refused why)
+        → (r ≡ Err why)
         ↔ ((OfFile why × (check file ≡ turned_back why))
         ⊎ ((why ≡ BadList) × ((p : Program) × (check file ≡ accepted p) × ((es : List Entry) → ¬ IsList p list es))))
     length_refused why =
@@ -67,7 +67,7 @@ module _ (file list : List ℕ) (bytes : (i : ℕ) → get_or list i 0 < 256) (f
         (λ e. exact.0 (told.0 ((shows_refused (length_answer shown) why).0 e)), λ h. (shows_refused (length_answer shown) why).1 (told.1 (exact.1 h)))
 
     pub length_exact : (n : ℕ)
-        → (r ≡ TextResult.Length n)
+        → (r ≡ Ok n)
         ↔ ((p : Program) × (es : List Entry) × (check file ≡ accepted p) × IsList p list es × (n ≡ length (text_of full (map saying_of es))))
     length_exact n =
         let told = length_measures shown n in
@@ -82,7 +82,7 @@ module _ (file list : List ℕ) (bytes : (i : ℕ) → get_or list i 0 < 256) (f
         )
 
     -- 02, Slip 6, of a complete list: the text that is measured has the share that the law of the share gives
-    pub length_shares : (n : ℕ) → r ≡ TextResult.Length n → full ≡ false
+    pub length_shares : (n : ℕ) → r ≡ Ok n → full ≡ false
         → (p : Program) × (es : List Entry) × (check file ≡ accepted p) × IsList p list es × ((x : ℕ) × ShareOf es x × (n ≡ length (complete_text es x)))
     length_shares n is ends =
         let (p, es, checked, holds, size) = (length_exact n).0 is in
@@ -90,17 +90,17 @@ module _ (file list : List ℕ) (bytes : (i : ℕ) → get_or list i 0 < 256) (f
         (p, es, checked, holds, (x, has, size ∙ ap (λ (whether : Bool). length (text_of whether (map saying_of es))) ends ∙ ap length same))
 
     -- a caller may reserve by the list alone
-    pub length_most : (n : ℕ) → r ≡ TextResult.Length n → n ≤ text_bound (length list)
+    pub length_most : (n : ℕ) → r ≡ Ok n → n ≤ text_bound (length list)
     length_most n is =
         let (t, prints, size) = (length_measures shown n).0 ((shows_length (length_answer shown) n).0 (sym call.answer_is ∙ is)) in
         omega (arith, size, ap length (printout_bytes file list bytes full t prints), text_short full list bytes)
 
   -- The writer: "a writer of the printed text into a lent slice".
-  module _ (before after : List ℕ) (r : TextResult) (call : WritePromise file list full before after r) where
+  module _ (before after : List ℕ) (r : Result ℕ Refusal) (call : WritePromise file list full before after r) where
     -- "13 page: the text slice is shorter than that length"; 14 is "tested before 13". The length is the one that the other call gives.
     pub write_refused : (why : Refusal)
-        → (r ≡ TextResult.Refused why)
-        ↔ (LengthPromise file list full (TextResult.Refused why) ⊎ ((why ≡ TextTooShort) × ((n : ℕ) × LengthPromise file list full (TextResult.Length n) × (length before < n))))
+        → (r ≡ Err why)
+        ↔ (LengthPromise file list full (Err why) ⊎ ((why ≡ TextTooShort) × ((n : ℕ) × LengthPromise file list full (Ok n) × (length before < n))))
     write_refused why =
         let shows = shows_refused (write_answer (length before) shown) why in
         let told = write_refuses shown (length before) why in
@@ -110,7 +110,7 @@ module _ (file list : List ℕ) (bytes : (i : ℕ) → get_or list i 0 < 256) (f
         )
 
     -- the two calls agree
-    pub write_exact : (n : ℕ) → (r ≡ TextResult.Length n) ↔ (LengthPromise file list full (TextResult.Length n) × (n ≤ length before))
+    pub write_exact : (n : ℕ) → (r ≡ Ok n) ↔ (LengthPromise file list full (Ok n) × (n ≤ length before))
     write_exact n =
         let shows = shows_length (write_answer (length before) shown) n in
         let told = write_measures shown (length before) n in
@@ -121,7 +121,7 @@ module _ (file list : List ℕ) (bytes : (i : ℕ) → get_or list i 0 < 256) (f
 
     -- The text stands at the slice's front, and behind it the slice is as before. Its lines are those of the entries that the list is, and "Counts and verdict
     -- in the text are those of the list handed in"; where the search ended in 12, "the text then closes with the refusal line".
-    pub text_stands : (n : ℕ) → r ≡ TextResult.Length n
+    pub text_stands : (n : ℕ) → r ≡ Ok n
         → ((p : Program) × (es : List Entry) × (check file ≡ accepted p) × IsList p list es
         × (take n after ≡ flat_map line_saying (map saying_of es) ++ last_line full (counts (kinds_of es))))
         × (drop n after ≡ drop n before) × (length after ≡ length before)
@@ -135,7 +135,7 @@ module _ (file list : List ℕ) (bytes : (i : ℕ) → get_or list i 0 < 256) (f
 
     -- 02, Slip 6: "The share is rounded to the nearest whole per cent, and an exact half goes to the even one". The text of a complete list that was written
     -- has x for the share of its total line exactly if x is the share of the list's entries by that law.
-    pub text_shared : (n : ℕ) → r ≡ TextResult.Length n → full ≡ false
+    pub text_shared : (n : ℕ) → r ≡ Ok n → full ≡ false
         → (p : Program) × (es : List Entry) × (check file ≡ accepted p) × IsList p list es × ((x : ℕ) → ShareOf es x ↔ (take n after ≡ complete_text es x))
     text_shared n is ends =
         let ((p, es, checked, holds, same), behind, size) = text_stands n is in
@@ -144,7 +144,7 @@ module _ (file list : List ℕ) (bytes : (i : ℕ) → get_or list i 0 < 256) (f
         (p, es, checked, holds, λ x. rw whole (text_shares es x))
 
     -- "Both leave the slice untouched", and so does a refusal of the file: "tested before a byte is written"
-    pub refused_unchanged : (why : Refusal) → r ≡ TextResult.Refused why → after ≡ before
+    pub refused_unchanged : (why : Refusal) → r ≡ Err why → after ≡ before
     refused_unchanged why is =
         call.text_is ∙ slice_kept before shown why ((shows_refused (write_answer (length before) shown) why).0 (sym call.answer_is ∙ is))
 
@@ -158,11 +158,11 @@ module _ (file : List ℕ) (work room : ℕ) (p : Program) (checked : check file
   measured : length_answer (printout_of file (list_bytes (listed a)) (was_cut a)) ≡ of_length (length (text a))
   measured = (length_measures (printout_of file (list_bytes (listed a)) (was_cut a)) (length (text a))).1 (text a, prints, refl)
 
-  pub searched_length : (r : TextResult) → LengthPromise file (list_bytes (listed a)) (was_cut a) r → r ≡ TextResult.Length (length (text a))
+  pub searched_length : (r : Result ℕ Refusal) → LengthPromise file (list_bytes (listed a)) (was_cut a) r → r ≡ Ok (length (text a))
   searched_length r call = call.answer_is ∙ ap text_result measured
 
-  pub searched_text : (before after : List ℕ) (r : TextResult) → WritePromise file (list_bytes (listed a)) (was_cut a) before after r → length (text a) ≤ length before
-      → (r ≡ TextResult.Length (length (text a))) × (take (length (text a)) after ≡ text a)
+  pub searched_text : (before after : List ℕ) (r : Result ℕ Refusal) → WritePromise file (list_bytes (listed a)) (was_cut a) before after r → length (text a) ≤ length before
+      → (r ≡ Ok (length (text a))) × (take (length (text a)) after ≡ text a)
   searched_text before after r call l =
       let slice = slice_text before (text a) (length (text a)) refl l in
       let stands : after ≡ text_slice before (printout (text a)) = call.text_is ∙ ap (text_slice before) prints in (

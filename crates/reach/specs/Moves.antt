@@ -1,10 +1,9 @@
 -- The search as moves over one path with a stack of choice points: what the program does, and what a search in turns would do.
 -- proofs/Moves.antt shows that the moves give exactly the list of `search`.
 -- Rests on Search.
-use Rattle.std.specs.Prelude.{ℕ, zero, suc, ◌+◌, List, [], ◌∷◌, ◌++◌}
+use Rattle.std.specs.Prelude.{ℕ, zero, suc, ◌+◌, List, [], ◌∷◌, ◌++◌, Some, None}
 use Rattle.reach.specs.Syntax.{Program}
 use Rattle.reach.specs.declared.Kind.TheVariants.{RE, MI}
-use Rattle.reach.specs.declared.PathEnd.TheVariants.{Unlisted, Listed}
 use Rattle.reach.specs.Parts.{Parts}
 use Rattle.reach.specs.Types.{Fork, least_depths}
 use Rattle.reach.specs.Eval.{State, Question, Next, on_next, next, start}
@@ -43,7 +42,7 @@ behind cs es = record { position = over; choices = cs; listed = es }
 -- the end of a path that is n steps long, listed at once, or what it goes on to
 unfoldable pub settle : (State → Walk) → (Question → Walk) → ℕ → Parts → List Choice → List Entry → Next → Walk
 settle go fork n input cs es next =
-    on_next (behind cs (es ++ listing (Listed RE) n input)) (behind cs (es ++ listing (Listed MI) n input)) (λ why. behind cs (es ++ listing Unlisted n input)) go fork next
+    on_next (behind cs (es ++ listing (Some RE) n input)) (behind cs (es ++ listing (Some MI) n input)) (λ why. behind cs (es ++ listing None n input)) go fork next
 
 -- a path arrives at a state, with so many steps left and n done; one that waits becomes a choice point
 unfoldable pub arrive : Program → List ℕ → ℕ → ℕ → Parts → State → List Choice → List Entry → Walk

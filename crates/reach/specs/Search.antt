@@ -1,14 +1,12 @@
 -- The search by lazy narrowing, and its verdict: 01, "Evaluation and steps" and "The list".
 -- Rests on Eval and Types.
-use Rattle.std.specs.Prelude.{ℕ, zero, suc, ◌+◌, length, ltb}
+use Rattle.std.specs.Prelude.{ℕ, zero, suc, ◌+◌, length, ltb, Option, Some, None}
 use mathlib.Core.List.{List, [], ◌∷◌, map, flat_map}
 use Rattle.reach.specs.declared.Kind.{Kind}
 use Rattle.reach.specs.declared.Kind.TheVariants.{RE, UN, MI}
-use Rattle.reach.specs.declared.PathEnd.{PathEnd}
-use Rattle.reach.specs.declared.PathEnd.TheVariants.{Unlisted, Listed}
 use Rattle.reach.specs.declared.Counts.{Counts}
 use Rattle.reach.specs.declared.Verdict.{Verdict}
-use Rattle.reach.specs.declared.Verdict.TheVariants.{Found, Undecided, None}
+use Rattle.reach.specs.declared.Verdict.TheVariants.{Found, Undecided}
 use Rattle.reach.specs.Base.{pick}
 use Rattle.reach.specs.Syntax.{Program, source_types}
 use Rattle.reach.specs.Parts.{Parts, all_open, bind_at}
@@ -48,17 +46,17 @@ abbrev pub StopsInside : Run → Type 0
 StopsInside r = ¬ ReachedOrUnfinished r
 
 -- what a path that is n steps long lists at its end
-abbrev pub listing : PathEnd → ℕ → Parts → List Entry
-listing Unlisted n input = []
-listing (Listed kind) n input = record { kind = kind; steps = n; input = input } ∷ []
+abbrev pub listing : Option Kind → ℕ → Parts → List Entry
+listing None n input = []
+listing (Some kind) n input = record { kind = kind; steps = n; input = input } ∷ []
 
 -- the entries of a path that is n steps long, or those of what goes on from there
 unfoldable pub gather : (State → List Entry) → (Question → List Entry) → ℕ → Parts → Next → List Entry
-gather go fork n input next = on_next (listing (Listed RE) n input) (listing (Listed MI) n input) (λ why. listing Unlisted n input) go fork next
+gather go fork n input next = on_next (listing (Some RE) n input) (listing (Some MI) n input) (λ why. listing None n input) go fork next
 
 -- a path that has used its steps
 abbrev pub spent : ℕ → Parts → List Entry
-spent n input = listing (Listed UN) n input
+spent n input = listing (Some UN) n input
 
 -- the constructors to which the search forks where a case waits on an open part of the input
 unfoldable pub branches : Program → List ℕ → Parts → Question → List Fork
@@ -107,7 +105,7 @@ counts ks = count_from (record { reach = 0; unfinished = 0; missing = 0 }) ks
 
 -- found with an RE, else undecided with a UN, else none
 unfoldable pub verdict_by : Counts → Verdict
-verdict_by c = pick (ltb 0 c.reach) Found (pick (ltb 0 c.unfinished) Undecided None)
+verdict_by c = pick (ltb 0 c.reach) Found (pick (ltb 0 c.unfinished) Undecided Verdict.None)
 
 abbrev pub kinds_of : List Entry → List Kind
 kinds_of es = map (λ (e : Entry). e.kind) es

@@ -4,6 +4,9 @@
 
 #![tactic(auto)]
 
+// An open part, in prefix form.
+pub const OPEN: u8 = 0xFF;
+
 // Why a call gave no result. The comments give the word of the papers' table.
 #[derive(Clone, Copy)]
 pub enum Refusal {
@@ -54,13 +57,6 @@ pub enum Kind {
     RE,
     UN,
     MI,
-}
-
-// What a path lists at its end: nothing, or an entry of this kind.
-#[derive(Clone, Copy)]
-pub enum PathEnd {
-    Unlisted,
-    Listed(Kind),
 }
 
 // How many entries of each kind there are.

@@ -6,6 +6,8 @@ use report::program_text;
 use reporting::INPUT;
 use std::io;
 
+// (A twin of `main` of namelist: one function for both would take `program_text` as a parameter, ask by a clause that its text lies in the slice, and
+// leave each program a `main` beside it: more lines than these five.)
 fn main(rt: HostRuntime) -> io::Result<()> {
     let mut file = reporting::input();
     let mut text = reporting::page();

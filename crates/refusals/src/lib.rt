@@ -6,7 +6,7 @@ ghost use Rattle.reach.specs.Words.{number_of};
 
 use reach::Refusal;
 
-// The number that the papers give a refusal.
+// The number that the papers give a refusal. (A function: as `From` or as discriminants it would stand in crate reach, which has no code.)
 pub fn number(why: Refusal) -> u64
     ensures { result ≡ number_of why }
 {

@@ -12,7 +12,7 @@ use Rattle.machine.proofs.Codes.{chosen_missing, chosen_present}
 use Rattle.machine.specs.Walks.{outside_of}
 use Rattle.machine.proofs.Records.{variable_outer, variable_outside}
 use Rattle.registers.specs.Stepping.{declarations_of, Outward, VariableThere, PassedOver, OperandIn, Found}
-use Rattle.registers.specs.declared.Alternative.TheVariants as Alternative
+use Rattle.std.specs.Prelude.{Some, None}
 
 -- What the table of ends gives: the place behind an expression, an operand, and an alternative, missing or with its expression.
 module _ (file types functions ends : List ℕ) (filled : Ends file types functions ends) where
@@ -23,11 +23,11 @@ module _ (file types functions ends : List ℕ) (filled : Ends file types functi
   operand_there i n is x there = rw is (operand_found file types functions ends filled i n x there)
 
   module _ (i c : ℕ) {place : ℕ} (is : place ≡ passed_alternatives file ends c i) where
-    pub found_absent : get_or file place 0 ≡ 0 → Found file types functions i c Alternative.Absent
+    pub found_absent : get_or file place 0 ≡ 0 → Found file types functions i c None
     found_absent none new fs s there =
         chosen_missing file (declarations_of file types functions) new fs place 0 s (rw is (alternative_found file types functions ends filled new fs i c s there)) refl none
 
-    pub found_present : (get_or file place 0 ≡ 0 → ⊥) → Found file types functions i c (Alternative.Present (place + 1))
+    pub found_present : (get_or file place 0 ≡ 0 → ⊥) → Found file types functions i c (Some (place + 1))
     found_present other new fs s there =
         chosen_present file (declarations_of file types functions) new fs place 0 s (rw is (alternative_found file types functions ends filled new fs i c s there)) refl other
 

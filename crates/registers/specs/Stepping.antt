@@ -1,6 +1,6 @@
 -- What the registers and the lent words stand for, and what a step promises: it is one step of the published evaluation.
 -- Rests on machine's Cells, Records and Walks, on skipping's Ends, on reach's Eval, Places and States, and on the types of src/lib.rt.
-use Rattle.std.specs.Prelude.{ℕ, zero, suc, ◌+◌, ◌-◌, ◌*◌, ◌≤◌, ◌<◌, ◌≡◌, List, map, length, get_or}
+use Rattle.std.specs.Prelude.{ℕ, zero, suc, ◌+◌, ◌-◌, ◌*◌, ◌≤◌, ◌<◌, ◌≡◌, List, map, length, get_or, Option, Some, None}
 use Rattle.std.proofs.Math.Option.{some}
 use Rattle.reach.specs.Syntax.{Expr, Function, Program, function_at}
 use Rattle.reach.specs.Parts.{Parts, Place}
@@ -15,7 +15,6 @@ use Rattle.machine.specs.Records.{Code, RecordIs, OnlyTop, Wrote, record_word, C
 use Rattle.skipping.specs.Ends.{Ends}
 use Rattle.machine.specs.Walks.{Behind, OperandAt, ChosenAt, VariableAt, outside_of}
 use Rattle.registers.specs.declared.Registers.{Registers}
-use Rattle.registers.specs.declared.Alternative.{Alternative}
 use Rattle.registers.specs.declared.Next.{Next}
 
 -- what a file declares whose types and functions stand at these places
@@ -182,22 +181,22 @@ module _ (file types functions : List ℕ) where
   OperandIn i n place = (x : Expr) → OperandAt file (declarations_of file types functions) i n x → Code file (declarations_of file types functions) place x
 
   -- what the alternative found says of the state that the case goes on to
-  abbrev pub AlternativeMeans : Env → List Frame → State → Alternative → Type 0
-  AlternativeMeans new fs s Alternative.Absent = s ≡ Eval.uncovered
-  AlternativeMeans new fs s (Alternative.Present i) = (x : Expr) × (s ≡ Eval.evaluating x new fs) × Code file (declarations_of file types functions) i x
+  abbrev pub AlternativeMeans : Env → List Frame → State → Option ℕ → Type 0
+  AlternativeMeans new fs s None = s ≡ Eval.uncovered
+  AlternativeMeans new fs s (Some i) = (x : Expr) × (s ≡ Eval.evaluating x new fs) × Code file (declarations_of file types functions) i x
 
   -- the alternative for constructor c of those that begin at i
-  abbrev pub Found : ℕ → ℕ → Alternative → Type 0
+  abbrev pub Found : ℕ → ℕ → Option ℕ → Type 0
   Found i c a = (new : Env) (fs : List Frame) (s : State) → ChosenAt file (declarations_of file types functions) new fs i c s → AlternativeMeans new fs s a
 
   -- The innermost waiting case has its alternative chosen: k fields begin at `first` and stand in `inner`. The alternative is missing, or its
   -- environment is the record at the top.
   pub data Chose (w w' : List ℕ) (base : ℕ) (r : Registers) (c k first inner : ℕ) : Registers → Type 0 where
-    chose_none : OnlyTop w w' base r.records → Found (record_word w base r.frame 0) c Alternative.Absent
+    chose_none : OnlyTop w w' base r.records → Found (record_word w base r.frame 0) c None
         → Chose w w' base r c k first inner (record { kind = missing_kind; place = 0; env = 0; frame = 0; records = r.records })
     chose_one : (i : ℕ)
         → Wrote w w' base r.records (record_word w base r.frame 2) (record_word w base (record_word w base r.frame 2) 1 + k) first inner
-        → Found (record_word w base r.frame 0) c (Alternative.Present i)
+        → Found (record_word w base r.frame 0) c (Some i)
         → Chose w w' base r c k first inner (record { kind = expression_kind; place = i; env = r.records; frame = record_word w base r.frame 3; records = r.records + 1 })
 
 -- the same by a table of the ends

@@ -13,6 +13,7 @@ use mathlib.Core.Logic.{◌⊎◌, inl, inr, ⊎_elim, ◌≢◌}
 use mathlib.Core.Option.{none, none-ne-some, some-injective}
 use lib.ListN.{length, get_or, take}
 use lib.Dec.{eqb}
+use Rattle.std.specs.Prelude.{Result, Ok, Err}
 use Rattle.reach.specs.declared.Refusal.{Refusal}
 use Rattle.reach.specs.declared.Refusal.TheVariants.{WorkTooShort, ListFull}
 use Rattle.reach.specs.Words.{all_refusals, refusal_named, number_of, OfFile, steps_of}
@@ -24,7 +25,6 @@ use Rattle.lists.specs.Text as Text
 use Rattle.lists.specs.Printouts.{was_cut, Printout, TextAnswer, no_text, of_length, printout_of, length_answer, write_answer}
 use Rattle.reach.proofs.Base.{clash}
 use Rattle.reach.proofs.Limits.{accepted_keeps}
-use Rattle.results.specs.declared.TextResult.TheVariants as TextResult
 use Rattle.results.specs.Results.{search_result, run_result, text_result, text_length_in}
 use Rattle.search.proofs.Called.{listed_room, written_take, refused_when, complete_when, full_when}
 use Rattle.closed.proofs.Demands.{refused_file, steps_spent, depth_within}
@@ -206,7 +206,7 @@ module _ (file work work' list list' : List ℕ) (a : ℕ) (call : Searches file
           record { program = h.0; checked = h.4; listing = λ why no. clash (cc); cut = rw z refl }
 
   -- the number of a length
-  told_length : (x : TextAnswer) (n : ℕ) → text_result x ≡ TextResult.Length n → text_read x ≡ record { refusal = none; bytes = n }
+  told_length : (x : TextAnswer) (n : ℕ) → text_result x ≡ Ok n → text_read x ≡ record { refusal = none; bytes = n }
   told_length (no_text why) n is = absurd (clash (cc))
   told_length (of_length m) n is = let same : m ≡ n = cc in rw same refl
 

@@ -1,42 +1,35 @@
 // The text that the program `reachlist` prints for a rule file: the search in lent slices, and the text of its answer; and the same with the buffers of
-// that program. Rests on crates results, search, printing and reporting.
+// that program. Rests on crates search, printing and reporting.
 #![tactic(auto)]
 
-ghost use Rattle.std.specs.Prelude.{◌≤◌, length};
-ghost use Rattle.reporting.specs.Answers.{Reports, program_page, Prints};
+ghost use Rattle.reporting.specs.Answers.{Reports, Prints};
 ghost use Rattle.report.specs.Answers.{report_text};
 
 use printing::{list_text, refusal_text};
-use reporting::{INPUT, LIST, PAGE, WORDS, counted};
-use results::SearchResult;
+use reporting::{INPUT, PAGE, printed};
 
 // Searches a rule file in the lent words and list, writes the text of the search's answer to the front of a slice, and answers with the text's length.
 // A slice that is too short has as many bytes of the text as it holds: `text_bound` of the list slice's bytes, four times as many and 64 more, hold it all.
+// (A twin of `names` in namereport: one function for both would take what writes the list, with clauses on it, since `list_names` asks that the list fits the
+// file and `list_text` asks nothing; they would be longer than both bodies.)
 pub fn report<'a>(file: &'a [u8], work: &mut [u32], list: &mut [u8], text: &mut [u8]) -> usize
     ensures { Reports report_text file.now work.old work.new list.old list.new text.old text.new result }
 {
     match search::search(file, work, list) {
-        SearchResult::Refused(why) => return refusal_text(why, text),
-        SearchResult::Complete(n, _) => return list_text(&list[..n], false, text),
-        SearchResult::Full(n) => return list_text(&list[..n], true, text),
+        Err(why) => refusal_text(why, text),
+        Ok(listed) => list_text(&list[..listed.length()], listed.is_full(), text),
     }
 }
 
-// What the program `reachlist` prints for the first `size` bytes that it read, with its buffers: 16,384 words and 32,768 bytes for the list.
-fn printed_text<'a>(input: &'a [u8], size: usize, text: &mut [u8]) -> usize
-    requires { program_page ≤ length text.old }
-    ensures { Prints report_text input.now size text.old text.new result }
-{
-    let mut work = [0u32; WORDS];
-    let mut list = [0u8; LIST];
-    let n = counted(input, size);
-    report(&input[..n], &mut work, &mut list, text)
-}
-
-// The same of slices of the sizes that the program has: one byte more is read than a rule file may have, so that a file that is too long is refused, and
-// the text of the longest list fits.
+// What the program `reachlist` prints for the first `size` bytes that it read, of slices of the sizes that it has: one byte more is read than a rule file may
+// have, so that a file that is too long is refused, and the text of the longest list fits. (A size beside its buffer, for the reason that stands at `printed`.)
 pub fn program_text<'a>(input: &'a [u8; INPUT], size: usize, text: &mut [u8; PAGE]) -> usize
     ensures { Prints report_text input.now size text.old text.new result }
 {
-    printed_text(input, size, text)
+    printed(
+        |file, work, list, page| report(file, work, list, page),
+        input,
+        size,
+        text,
+    )
 }

@@ -18,6 +18,16 @@ use Rattle.writing.specs.Writing.{fronted, Fronts}
 use Rattle.reporting.specs.Answers.{program_input, program_page, printed, Prints, FirstBytes}
 use Rattle.reporting.proofs.Reports.{Refuses}
 
+-- so many of the bytes that were read are the first `size`: as many where there are, else all
+pub first_bytes : (l : List ℕ) {size r : ℕ} → (size ≤ length l → r ≡ size) → (length l ≤ size → r ≡ length l) → FirstBytes l size r
+first_bytes l {size} {r} fewer all = elim (leb size (length l)) as (λ t. leb size (length l) ≡ t → FirstBytes l size r) [
+  | true ↦ λ less. record { there = omega (arith, fewer (leb-true _ _ less), leb-true _ _ less); same = ap (λ (n : ℕ). take n l) (fewer (leb-true _ _ less)) }
+  | false ↦ λ more. record {
+    there = omega (arith, all (omega (arith, leb-false _ _ more)));
+    same = take_all r l (omega (arith, all (omega (arith, leb-false _ _ more)))) ∙ sym (take_all size l (omega (arith, leb-false _ _ more)));
+  }
+] refl
+
 -- a text that fits its slice stands there whole
 module _ {before s after : List ℕ} {r : ℕ} (wrote : Fronts before s after r) (fits : length s ≤ length before) where
   standing : after ≡ s ++ drop (length s) before

@@ -3,11 +3,11 @@
 use Prim.Native.Nat.{ℕ, ◌≤◌}
 use native.Mathlib.Omega.{arith}
 use mathlib.Core.Path.{◌≡◌, sym, ap, subst, ◌∙◌}
-use mathlib.Core.Bool.{Bool, true, false}
+use mathlib.Core.Bool.{Bool}
 use mathlib.Core.List.{List}
 use lib.ListN.{length, take}
+use Rattle.std.specs.Prelude.{Ok, Err}
 use Rattle.reach.specs.declared.Refusal.{Refusal}
-use Rattle.reach.specs.declared.Verdict.{Verdict}
 use Rattle.reach.specs.Base.{pick}
 use Rattle.reach.specs.Lists.{list_bytes}
 use Rattle.reach.specs.Answers.{SearchAnswer, no_search, complete, cut_short, search_answer, listed}
@@ -15,9 +15,9 @@ use Rattle.lists.specs.Text.{refusal_line}
 use Rattle.writing.specs.Writing.{Fronts}
 use Rattle.printing.specs.Bound.{text_bound}
 use Rattle.printing.proofs.Lengths.{refusal_short}
-use Rattle.results.specs.declared.SearchResult.TheVariants as SearchResult
+use Rattle.results.specs.declared.Listed.{Listed}
 use Rattle.exploring.proofs.Cutting.{written_length}
-use Rattle.results.specs.Results.{search_result, list_length_in}
+use Rattle.results.specs.Results.{search_result, length_of, is_cut, list_length_in}
 use Rattle.search.specs.Answering.{Searched}
 use Rattle.search.proofs.Called.{length_is, refused_is, complete_lists, full_lists, listed_room, written_take, room_inside}
 use Rattle.reporting.specs.Answers.{Reports}
@@ -39,7 +39,7 @@ Refuses textFor =
 
 pub refusal_reported : {textFor : List ℕ → ℕ → ℕ → List ℕ} → Refuses textFor
     → {file work work' list list' page page' : List ℕ} {r : ℕ} (why : Refusal) → Searched file work work' list list'
-    → SearchResult.Refused why ≡ search_result (search_answer file (length work) (length list)) → Fronts page (refusal_line why) page' r
+    → Err why ≡ search_result (search_answer file (length work) (length list)) → Fronts page (refusal_line why) page' r
     → Reports textFor file work work' list list' page page' r
 refusal_reported refuses {file} {work} {list = list} why searched is wrote =
     let refused = refused_is (search_answer file (length work) (length list)) why is in
@@ -50,20 +50,18 @@ pub record ListAnswer (a : SearchAnswer) (n : ℕ) (full : Bool) : Type 0 where
   pub is : a ≡ pick full (cut_short (listed a)) (complete (listed a))
   pub long : n ≡ length (list_bytes (listed a))
 
-module _ {file work work' list list' : List ℕ} (searched : Searched file work work' list list') (n : ℕ) where
+module _ {file work work' list list' : List ℕ} (searched : Searched file work work' list list') where
   abbrev answer : SearchAnswer
   answer = search_answer file (length work) (length list)
 
-  pub complete_answer : {v : Verdict} → SearchResult.Complete n v ≡ search_result answer → ListAnswer answer n false
-  complete_answer {v} is = record {
-    is = (complete_lists file (length work) (length list) n v (sym is)).0;
-    long = ap list_length_in is ∙ length_is answer;
+  pub list_answer : (l : Listed) {n : ℕ} {full : Bool} → Ok l ≡ search_result answer → n ≡ length_of l → full ≡ is_cut l → ListAnswer answer n full
+  list_answer (Listed.Complete m v) is long whole = record {
+    is = rw whole (complete_lists file (length work) (length list) m v (sym is)).0;
+    long = long ∙ ap list_length_in is ∙ length_is answer;
   }
-
-  pub full_answer : SearchResult.Full n ≡ search_result answer → ListAnswer answer n true
-  full_answer is = record {
-    is = full_lists file (length work) (length list) n (sym is);
-    long = ap list_length_in is ∙ length_is answer;
+  list_answer (Listed.Full m) is long cut = record {
+    is = rw cut (full_lists file (length work) (length list) m (sym is));
+    long = long ∙ ap list_length_in is ∙ length_is answer;
   }
 
 -- such a list stands at the front of its slice

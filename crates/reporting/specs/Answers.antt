@@ -2,6 +2,7 @@
 -- has, with so many words and so many bytes for the list. Crates report and namereport say which text.
 -- Rests on reach's Limits, search's Answering, writing's Writing and printing's Bound.
 use Rattle.std.specs.Prelude.{ℕ, ◌+◌, ◌≤◌, ◌≡◌, List, length, take, drop}
+use Rattle.std.specs.Borrow.{Bor, MutBor}
 use Rattle.reach.specs.Limits.{file_limit}
 use Rattle.search.specs.Answering.{Searched}
 use Rattle.writing.specs.Writing.{Fronts}
@@ -13,6 +14,13 @@ pub record Reports (textFor : List ℕ → ℕ → ℕ → List ℕ) (file work 
   pub writes : Fronts page (textFor file (length work) (length list)) page' r
   pub short : r ≤ text_bound (length list)
   pub leaves : Searched file work work' list list'
+
+-- Every call of a function that takes a rule file, lent words, a lent list and a slice for its text promises that.
+abbrev pub AllReport : (Bor (List ℕ) → MutBor (List ℕ) → MutBor (List ℕ) → MutBor (List ℕ) → ℕ → MutBor (List ℕ) → MutBor (List ℕ) → MutBor (List ℕ) → Type 0)
+    → (List ℕ → ℕ → ℕ → List ℕ) → Type 0
+AllReport called textFor =
+    (file : Bor (List ℕ)) (work list page : MutBor (List ℕ)) (r : ℕ) (work' list' page' : MutBor (List ℕ)) → called file work list page r work' list' page'
+    → Reports textFor file.now work.now work'.now list.now list'.now page.now page'.now r
 
 -- The buffers of the programs. 01, of `reachlist`: "Its list buffer has 32,768 bytes, its work slice 16,384 words"; 02, Slip 4: `namelist` has the "buffers
 -- [..] of `reachlist`".

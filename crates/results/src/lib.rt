@@ -1,35 +1,45 @@
-// What the public calls hand back: of the check, of the search, of the closed run, and of the two calls about the text of a list. specs/Results.antt says
-// which answer of the definitions each case stands for. There is no code in this crate. Rests on the enums of crate reach.
+// What the public calls hand back where they do not refuse: of the search, and of the closed run. A refusal is an `Err` of crate reach's `Refusal`; the
+// check hands back no more than that, and the two calls about the text of a list the length of the text. specs/Results.antt says which answer of the
+// definitions each result stands for. Rests on the enums of crate reach.
 #![tactic(auto)]
 
-use reach::{Outcome, Refusal, Verdict};
+ghost use Rattle.std.specs.Prelude.{◌≡◌};
+ghost use Rattle.results.specs.Results.{length_of, is_cut};
 
-// Of the check: a refusal is one of 1 to 9, or 15.
-#[derive(Clone, Copy)]
-pub enum CheckResult {
-    Accepted,
-    Refused(Refusal),
-}
+use reach::{Outcome, Verdict};
 
-// Of the search: a refusal of 1 to 9, 11 or 15; the length of a complete list with its verdict; or, with refusal 12, the length of the list
-// that was cut short.
+// The list that a search wrote: the length of a complete list with its verdict; or, with refusal 12, the length of the list that was cut short.
 #[derive(Clone, Copy)]
-pub enum SearchResult {
-    Refused(Refusal),
+pub enum Listed {
     Complete(usize, Verdict),
     Full(usize),
 }
 
-// Of the closed run: how it ended and how deep the input is, or a refusal of 1 to 11 or 15.
-#[derive(Clone, Copy)]
-pub enum RunResult {
-    Ran(Outcome, u8),
-    Refused(Refusal),
+impl Listed {
+    // How many bytes the list has.
+    pub fn length(&self) -> usize
+        ensures { result ≡ length_of self.now }
+    {
+        match self {
+            Listed::Complete(n, _) => *n,
+            Listed::Full(n) => *n,
+        }
+    }
+
+    // Whether it was cut short.
+    pub fn is_full(&self) -> bool
+        ensures { result ≡ is_cut self.now }
+    {
+        match self {
+            Listed::Complete(_, _) => false,
+            Listed::Full(_) => true,
+        }
+    }
 }
 
-// Of a call about the text of a list: the length of the text, or a refusal of 1 to 9 or 13 to 15.
+// Of a closed run: how it ended, and how deep the input is.
 #[derive(Clone, Copy)]
-pub enum TextResult {
-    Refused(Refusal),
-    Length(usize),
+pub struct Ran {
+    pub outcome: Outcome,
+    pub depth: u8,
 }

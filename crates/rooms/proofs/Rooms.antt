@@ -1,41 +1,31 @@
--- The parameters of a function, tested one after another: what the loop over them comes to.
--- Rests on reach's Types and on lookups' Tables.
-use Prim.Native.Nat.{ℕ, ◌+◌, ◌-◌, ◌≤◌, ◌<◌}
-use mathlib.Core.Path.{◌≡◌, refl, sym, ◌∙◌}
-use mathlib.Core.Bool.{Bool, true, false, ◌&&◌}
-use mathlib.Core.List.{List}
+-- The parameters of a function, tested one after another: what the chain over their numbers comes to. Rests on reach's Types and Slots.
+use Prim.Native.Nat.{ℕ, zero, suc, ◌+◌}
+use mathlib.Core.Path.{◌≡◌, refl}
+use mathlib.Core.Bool.{Bool}
+use mathlib.Core.List.{List, [], ◌∷◌}
 use native.Mathlib.Omega.{arith}
 use lib.ListN.{get_or, drop}
+use Rattle.std.specs.List.{range_with_len, list_all}
 use Rattle.reach.specs.Types.{slots, shallow, roomy}
 use Rattle.reach.specs.Places.{bytes_at}
-use Rattle.lookups.proofs.Tables.{slots_more, slots_none}
+use Rattle.reach.proofs.Slots.{slots_from}
 
--- at the beginning all of it is left
-pub roomy_whole : (s : List ℕ) (at n : ℕ) (depths table : List ℕ)
-    → roomy table (slots (bytes_at s (at + 0) (n - 0)) depths) ≡ roomy table (slots (bytes_at s at n) depths)
-roomy_whole s at n depths table =
-    let place : at + 0 ≡ at = omega arith in
-    let all : n - 0 ≡ n = omega arith in
-    rw (place, all) refl
+no_slots : (ds : List ℕ) → slots [] ds ≡ []
+unfolding slots
+no_slots ds = refl
 
--- the test of n types that stand from a place on, with a depth for each, from number i on
-module _ (s : List ℕ) (at n i : ℕ) (depths table : List ℕ) where
-  abbrev left : Bool
-  left = roomy table (slots (bytes_at s (at + i) (n - i)) (drop i depths))
+-- of types that stand from a place on, with a depth for each
+module _ (s : List ℕ) (at : ℕ) (depths table : List ℕ) where
+  -- the type of number i is shallow enough
+  abbrev pub fits : ℕ → Bool
+  fits i = shallow table (get_or depths i 0) (get_or s (at + i) 0 ∷ [])
 
-  pub roomy_done : n ≤ i → true ≡ left
-  unfolding roomy
-  roomy_done h = rw (slots_none s at n i depths h) refl
+  roomy_from : (n i : ℕ) → list_all fits (range_with_len i n) ≡ roomy table (slots (bytes_at s (at + i) n) (drop i depths))
+  unfolding bytes_at roomy
+  roomy_from zero i = rw no_slots
+  roomy_from (suc n) i =
+      let place : at + i + 1 ≡ at + (i + 1) = omega arith in
+      rw (slots_from (get_or s (at + i) 0) (bytes_at s (at + i + 1) n) depths i, place, ← (roomy_from n (i + 1)))
 
-  roomy_more : i < n → {d : ℕ} {r : Bool} → d ≡ get_or depths i 0 → r ≡ shallow table d (bytes_at s (at + i) 1)
-      → left ≡ (r && roomy table (slots (bytes_at s (at + (i + 1)) (n - (i + 1))) (drop (i + 1) depths)))
-  unfolding roomy bytes_at
-  roomy_more more deep told = rw (slots_more s at n i depths more, told, deep) refl
-
-  -- one that fails decides, and one that passes leaves it to the others
-  pub roomy_fails : i < n → {d : ℕ} {r : Bool} → d ≡ get_or depths i 0 → r ≡ shallow table d (bytes_at s (at + i) 1) → r ≡ false → false ≡ left
-  roomy_fails more deep told fails = sym (roomy_more more deep told ∙ rw fails refl)
-
-  pub roomy_next : i < n → {d : ℕ} {r : Bool} → d ≡ get_or depths i 0 → r ≡ shallow table d (bytes_at s (at + i) 1) → r ≡ true
-      → roomy table (slots (bytes_at s (at + (i + 1)) (n - (i + 1))) (drop (i + 1) depths)) ≡ left
-  roomy_next more deep told passes = sym (roomy_more more deep told ∙ rw passes refl)
+  pub roomy_all : (n : ℕ) → list_all fits (range_with_len 0 n) ≡ roomy table (slots (bytes_at s at n) depths)
+  roomy_all n = let place : at + 0 ≡ at = omega arith in rw place at (roomy_from n 0)

@@ -12,6 +12,7 @@ use mathlib.Core.Logic.{◌⊎◌, ⊎_elim, ◌↔◌}
 use mathlib.Core.List.{List, [], ◌∷◌}
 use mathlib.Core.Option.{some}
 use lib.ListN.{length}
+use Rattle.std.specs.Prelude.{Result, Ok, Err}
 use Rattle.reach.specs.declared.Refusal.{Refusal}
 use Rattle.reach.specs.declared.Refusal.TheVariants.{Truncated, UnexpectedMark, OutOfRange, UnknownNumber, UnknownCode, TypeMismatch, TrailingBytes, EmptyType, DepthTooSmall, BadSpelling}
 use Rattle.reach.specs.Base.{◌∈◌}
@@ -27,16 +28,15 @@ use Rattle.reach.specs.Conditions.{FirstPassRefuses, SecondPassRefuses, ThirdPas
 use Rattle.reach.proofs.Base.{clash}
 use Rattle.reach.proofs.Refusals.{turned_back_by}
 use Rattle.reach.proofs.Conditions as Conditions
-use Rattle.results.specs.declared.CheckResult.{CheckResult}
 use Rattle.results.specs.Results.{check_result}
 use Rattle.rulefile.specs.Answering.{CheckPromise}
 
--- what the enum shows of the definition's answer
-accepted_shows : (c : Answers.Checked) → (check_result c ≡ CheckResult.Accepted) ↔ ((p : Program) × (c ≡ Answers.accepted p))
+-- what the result shows of the definition's answer
+accepted_shows : (c : Answers.Checked) → (check_result c ≡ Ok tt) ↔ ((p : Program) × (c ≡ Answers.accepted p))
 accepted_shows (Answers.accepted p) = (λ is. (p, refl), λ h. refl)
 accepted_shows (Answers.turned_back why) = (λ is. absurd (clash (cc)), λ h. absurd (clash (cc h.1)))
 
-refused_shows : (c : Answers.Checked) (why : Refusal) → (check_result c ≡ CheckResult.Refused why) ↔ (c ≡ Answers.turned_back why)
+refused_shows : (c : Answers.Checked) (why : Refusal) → (check_result c ≡ Err why) ↔ (c ≡ Answers.turned_back why)
 refused_shows (Answers.accepted p) why = (λ is. absurd (clash (cc)), λ is. absurd (clash (cc)))
 refused_shows (Answers.turned_back by) why = (λ is. let same : by ≡ why = cc in ap Answers.turned_back same, λ is. ap check_result is)
 
@@ -74,63 +74,63 @@ first_pass_gives file why h = Conditions.first_gives file why h
 pub third_pass_gives : (file : List ℕ) (why : Refusal) → ThirdPassRefuses file why → number_of why ∈ (1 ∷ 3 ∷ 4 ∷ 5 ∷ 6 ∷ 7 ∷ [])
 third_pass_gives file why h = Conditions.third_gives file why h
 
-module _ (file : List ℕ) (r : CheckResult) (call : CheckPromise file r) where
+module _ (file : List ℕ) (r : Result (Unit {0}) Refusal) (call : CheckPromise file r) where
   -- Demand 1: "returns a result or one of the numbered refusals, each under its own condition only".
 
   -- A file is accepted exactly where its size is in the limit, the first pass reads an outline of it, all numbers in that outline exist, every body is
   -- read (these are `Passes`), every type has a closed value, every parameter of the source has a least depth of at most D, and the type that NA names,
   -- if there is an NA, has the form of names.
   pub accepted_exactly :
-      (r ≡ CheckResult.Accepted)
+      (r ≡ Ok tt)
       ↔ ((o : Outline) × Passes file o × ((t : ℕ) → t < length o.declared.types → (v : Parts) × ValueOf o.declared.types t v)
       × ((t : ℕ) → SourceParameter o t → (d : ℕ) × LeastDepth o.declared.types t d × (d ≤ depth_of o.goal.depths))
       × ((t : ℕ) → o.named ≡ some t → Spells o.declared.types t))
   accepted_exactly = rw call.answer_is (Iff.trans (accepted_shows (Answers.check file)) (Iff.trans (Conditions.accepted_exactly file) (acceptable_within file)))
 
   -- A file is refused exactly by the test that it fails first, in the order of 01, "Turned back": the cases of `RefusedBy`.
-  pub refused_exactly : (why : Refusal) → (r ≡ CheckResult.Refused why) ↔ RefusedBy file why
+  pub refused_exactly : (why : Refusal) → (r ≡ Err why) ↔ RefusedBy file why
   refused_exactly why = rw call.answer_is (Iff.trans (refused_shows (Answers.check file) why) (Conditions.turned_back_exactly file why))
 
   -- The conditions one by one, in the order of the numbers; the sentences are those of the table of "Turned back". With each stands which passes can give it.
 
   -- 1: "bytes run out in a record, in a body, or before GO is read".
-  pub short_exactly : (r ≡ CheckResult.Refused Truncated) ↔ (FirstPassRefuses file Truncated ⊎ ThirdPassRefuses file Truncated)
+  pub short_exactly : (r ≡ Err Truncated) ↔ (FirstPassRefuses file Truncated ⊎ ThirdPassRefuses file Truncated)
   short_exactly = Iff.trans (refused_exactly Truncated) (Conditions.short_by file)
 
   -- 2: "a mark is unknown or out of its turn".
-  pub mark_exactly : (r ≡ CheckResult.Refused UnexpectedMark) ↔ FirstPassRefuses file UnexpectedMark
+  pub mark_exactly : (r ≡ Err UnexpectedMark) ↔ FirstPassRefuses file UnexpectedMark
   mark_exactly = Iff.trans (refused_exactly UnexpectedMark) (Conditions.mark_by file)
 
   -- 3: "a count, length, D, S, file size, nesting or view is beyond its limit".
   pub range_exactly :
-      (r ≡ CheckResult.Refused OutOfRange) ↔ ((file_limit < length file) ⊎ (FirstPassRefuses file OutOfRange ⊎ ThirdPassRefuses file OutOfRange))
+      (r ≡ Err OutOfRange) ↔ ((file_limit < length file) ⊎ (FirstPassRefuses file OutOfRange ⊎ ThirdPassRefuses file OutOfRange))
   range_exactly = Iff.trans (refused_exactly OutOfRange) (Conditions.range_by file)
 
   -- 4: "a type, constructor, function or variable number does not exist".
-  pub stranger_exactly : (r ≡ CheckResult.Refused UnknownNumber) ↔ (SecondPassRefuses file ⊎ ThirdPassRefuses file UnknownNumber)
+  pub stranger_exactly : (r ≡ Err UnknownNumber) ↔ (SecondPassRefuses file ⊎ ThirdPassRefuses file UnknownNumber)
   stranger_exactly = Iff.trans (refused_exactly UnknownNumber) (Conditions.stranger_by file)
 
   -- 5: "an expression byte above 5, or an alternative byte above 1".
-  pub code_exactly : (r ≡ CheckResult.Refused UnknownCode) ↔ ThirdPassRefuses file UnknownCode
+  pub code_exactly : (r ≡ Err UnknownCode) ↔ ThirdPassRefuses file UnknownCode
   code_exactly = Iff.trans (refused_exactly UnknownCode) (Conditions.code_by file)
 
   -- 6: "an expression's type is not the one expected".
-  pub misfit_exactly : (r ≡ CheckResult.Refused TypeMismatch) ↔ ThirdPassRefuses file TypeMismatch
+  pub misfit_exactly : (r ≡ Err TypeMismatch) ↔ ThirdPassRefuses file TypeMismatch
   misfit_exactly = Iff.trans (refused_exactly TypeMismatch) (Conditions.misfit_by file)
 
   -- 7: "bytes follow a body's expression, or GO".
-  pub tail_exactly : (r ≡ CheckResult.Refused TrailingBytes) ↔ (FirstPassRefuses file TrailingBytes ⊎ ThirdPassRefuses file TrailingBytes)
+  pub tail_exactly : (r ≡ Err TrailingBytes) ↔ (FirstPassRefuses file TrailingBytes ⊎ ThirdPassRefuses file TrailingBytes)
   tail_exactly = Iff.trans (refused_exactly TrailingBytes) (Conditions.tail_by file)
 
   -- 8: "a type has no closed value". The passes found nothing.
   pub hollow_exactly :
-      (r ≡ CheckResult.Refused EmptyType)
+      (r ≡ Err EmptyType)
       ↔ ((o : Outline) × Passes file o × ((t : ℕ) × (t < length o.declared.types) × ((v : Parts) → ¬ ValueOf o.declared.types t v)))
   hollow_exactly = Iff.trans (refused_exactly EmptyType) (Conditions.hollow_by file)
 
   -- 9: "a source parameter's least depth exceeds D". The passes found nothing, and every type has a closed value.
   pub shallow_exactly :
-      (r ≡ CheckResult.Refused DepthTooSmall)
+      (r ≡ Err DepthTooSmall)
       ↔ ((o : Outline) × Passes file o × ((t : ℕ) → t < length o.declared.types → (v : Parts) × ValueOf o.declared.types t v)
       × ((t : ℕ) × SourceParameter o t × ((d : ℕ) × LeastDepth o.declared.types t d × (depth_of o.goal.depths < d))))
   shallow_exactly = Iff.trans (refused_exactly DepthTooSmall) (Iff.trans (Conditions.shallow_by file) (shallow_beyond file))
@@ -138,14 +138,14 @@ module _ (file : List ℕ) (r : CheckResult) (call : CheckPromise file r) where
   -- 15: "the type named by NA has another form, tested straight after 9" (02, Slip 4). The passes found nothing, every type has a closed value, and each source
   -- parameter has one within D.
   pub spelling_exactly :
-      (r ≡ CheckResult.Refused BadSpelling)
+      (r ≡ Err BadSpelling)
       ↔ ((o : Outline) × Passes file o × ((t : ℕ) → t < length o.declared.types → (v : Parts) × ValueOf o.declared.types t v)
       × ((t : ℕ) → SourceParameter o t → (d : ℕ) × LeastDepth o.declared.types t d × (d ≤ depth_of o.goal.depths))
       × ((t : ℕ) × (o.named ≡ some t) × ¬ Spells o.declared.types t))
   spelling_exactly = Iff.trans (refused_exactly BadSpelling) (Iff.trans (Conditions.spelling_by file) (misspelled_within file))
 
   -- 10 to 14 are never given.
-  pub others_never : (why : Refusal) → 9 < number_of why → number_of why < 15 → ¬ (r ≡ CheckResult.Refused why)
+  pub others_never : (why : Refusal) → 9 < number_of why → number_of why < 15 → ¬ (r ≡ Err why)
   others_never why high low is =
       let turned = (Conditions.turned_back_exactly file why).1 ((refused_exactly why).0 is) in
       ⊎_elim (λ few. omega (arith, high, few)) (λ same. omega (arith, low, same)) (turned_back_by file why turned)

@@ -5,6 +5,7 @@ use Prim.Native.Nat.{ℕ, ◌<◌}
 use mathlib.Core.Path.{◌≡◌, refl, subst}
 use mathlib.Core.List.{List, [], ◌∷◌, map}
 use mathlib.Core.Option.{Option}
+use Rattle.std.specs.Prelude.{Ok, Err}
 use lib.ListN.{length, get_or}
 use Rattle.reach.specs.declared.Refusal.{Refusal}
 use Rattle.reach.specs.Syntax.{Function}
@@ -17,8 +18,7 @@ use Rattle.reach.proofs.Limits.{IfFound, ConstructorKept, TypeKept, HeadKept, Ou
 use Rattle.codes.proofs.Encoding.{BodyInside, outline_inside}
 use Rattle.typerecord.specs.Passed.{passed_of}
 use Rattle.lookups.proofs.Tables.{found}
-use Rattle.bodies.specs.declared.Judged.{Judged}
-use Rattle.expressions.specs.Readers.{TablesSmall}
+use Rattle.expressions.specs.Tables.{TablesSmall}
 use Rattle.bodies.specs.Check.{BodiesThere, functions_at, bodies_of}
 
 -- ---- the tables keep to the limits, and the bodies end inside the file
@@ -64,27 +64,26 @@ module _ (d : Declarations) (s : List ℕ) (i j : ℕ) where
   got_anywhere (h ∷ hs) {m = m} e = (m, e)
 
 -- what the answer of the third pass tells
-step_got : {A : Type 0} (g : Got A) {r : Judged} → r ≡ bodies_of (passed_of g) → r ≡ Judged.Fit → (a : A) × (m : ℕ) × (g ≡ got a m)
-step_got (got a m) told e = (a, m, refl)
-step_got (refused why) told e = absurd (clash (let z = rw e at told in cc))
+step_got : {A : Type 0} (g : Got A) → Ok tt ≡ bodies_of (passed_of g) → (a : A) × (m : ℕ) × (g ≡ got a m)
+step_got (got a m) told = (a, m, refl)
+step_got (refused why) told = absurd (clash (cc))
 
-step_refused : {A : Type 0} (g : Got A) {r : Judged} {why : Refusal} → r ≡ bodies_of (passed_of g) → r ≡ Judged.Refused why → g ≡ refused why
-step_refused (got a m) told e = absurd (clash (let z = rw e at told in cc))
-step_refused (refused w) told e = let z = rw e at told in cc
+step_refused : {A : Type 0} (g : Got A) {why : Refusal} → Err why ≡ bodies_of (passed_of g) → g ≡ refused why
+step_refused (got a m) told = absurd (clash (cc))
+step_refused (refused w) told = cc
 
 module _ (s types functions : List ℕ) (i : ℕ) where
   abbrev bodies_read : Got (List Function)
   bodies_read = functions_of (declarations_at s types functions) (declarations_at s types functions).heads s i
 
-  module _ {r : Judged} (told : r ≡ bodies_of (passed_of (functions_at s types functions))) where
-    pub bodies_got : r ≡ Judged.Fit → (fs : List Function) × (m : ℕ) × (bodies_read ≡ got fs m)
-    unfolding declarations_at
-    bodies_got e =
-        let all = step_got (functions_at s types functions) told e in
-        let here = got_anywhere (declarations_at s types functions) s 0 i (map (head_at s) functions) all.2 in
-        (all.0, here.0, here.1)
+  pub bodies_got : Ok tt ≡ bodies_of (passed_of (functions_at s types functions)) → (fs : List Function) × (m : ℕ) × (bodies_read ≡ got fs m)
+  unfolding declarations_at
+  bodies_got told =
+      let all = step_got (functions_at s types functions) told in
+      let here = got_anywhere (declarations_at s types functions) s 0 i (map (head_at s) functions) all.2 in
+      (all.0, here.0, here.1)
 
-    pub bodies_refused : {why : Refusal} → r ≡ Judged.Refused why → bodies_read ≡ refused why
-    unfolding declarations_at
-    bodies_refused e =
-        refused_anywhere (declarations_at s types functions) s 0 i (map (head_at s) functions) (step_refused (functions_at s types functions) told e)
+  pub bodies_refused : {why : Refusal} → Err why ≡ bodies_of (passed_of (functions_at s types functions)) → bodies_read ≡ refused why
+  unfolding declarations_at
+  bodies_refused told =
+      refused_anywhere (declarations_at s types functions) s 0 i (map (head_at s) functions) (step_refused (functions_at s types functions) told)

@@ -2,7 +2,7 @@
 -- source. For the test of depth, and for whoever goes on with a loaded file.
 -- Rests on Loading of specs/, on goal's Goals, on codes' Encoding for the bodies and reach's Numbers for the source, and on depths' Padded.
 use Prim.Native.Nat.{ℕ, zero, suc, ◌<◌, ◌≤◌}
-use mathlib.Core.Path.{◌≡◌, refl, sym, ◌∙◌, ap}
+use mathlib.Core.Path.{◌≡◌, refl, sym, ap}
 use mathlib.Core.List.{List, [], ◌∷◌, map}
 use mathlib.Core.Option.{Option, none, some}
 use lib.ListN.{length, get_or, get_elem?, length-map}
@@ -72,8 +72,8 @@ module _ {s : List ℕ} {r : Loaded} {p : Program} (t : Tabled s r p) where
   unfolding program_of declarations_at outline_at
   program_types = ap (λ q. q.types) t.program
 
-  pub types_many : length p.types ≡ r.types
-  types_many = rw program_types (length-map (type_places r) (type_at s) ∙ t.types_count)
+  pub types_many : length p.types ≡ length (type_places r)
+  types_many = rw program_types (length-map (type_places r) (type_at s))
 
   -- the goal that is handed on asks for what the program does
   pub program_goal : Asks r.goal p
@@ -96,23 +96,23 @@ module _ {s : List ℕ} {r : Loaded} {p : Program} (t : Tabled s r p) where
   unfolding program_of
   functions_are = ap (λ q. q.functions) t.program
 
-  pub program_function : (f : ℕ) → f < r.functions
+  pub program_function : (f : ℕ) → f < length (function_places r)
       → (g : Function) × (function_at p f ≡ some g) × BodyAt (declarations_at s (type_places r) (function_places r)) s (head_at s (get_or (function_places r) f 0)) g
   unfolding function_at
-  program_function f h = let g = function_found t.passed f (omega (arith, t.functions_count)) in (g.0, rw functions_are g.1, g.2)
+  program_function f h = let g = function_found t.passed f h in (g.0, rw functions_are g.1, g.2)
 
-  pub program_no_function : (f : ℕ) → r.functions ≤ f → function_at p f ≡ none
+  pub program_no_function : (f : ℕ) → length (function_places r) ≤ f → function_at p f ≡ none
   unfolding function_at
-  program_no_function f h = rw functions_are (function_missing t.passed f (omega (arith, t.functions_count)))
+  program_no_function f h = rw functions_are (function_missing t.passed f h)
 
   -- the source is one of them, and these are its parameters
-  pub program_source_there : p.source < r.functions
-  program_source_there = omega (arith, source_there t.passed, t.functions_count, program_goal.source_is)
+  pub program_source_there : p.source < length (function_places r)
+  program_source_there = omega (arith, source_there t.passed, program_goal.source_is)
 
   pub program_source_types : source_types p ≡ (head_at s (get_or (function_places r) p.source 0)).parameters
   unfolding program_of outline_at
   program_source_types = rw (← program_goal.source_is, t.program) (source_parameters t.passed)
 
   -- the least depths, by type
-  pub program_least : (n : ℕ) → get_or r.least n 0 ≡ get_or (least_depths p.types) n 0
+  pub program_least : (n : ℕ) → get_or r.least.of n 0 ≡ get_or (least_depths p.types) n 0
   program_least n = rw t.depths (padded_lookup (least_depths p.types) n)

@@ -1,7 +1,8 @@
 -- What a loaded file holds, in terms of reach's `check`.
 -- Rests on reach's Answers, RuleFile, Places, on goal's Goals, on depths' Table and on the types of src/lib.rt.
-use Rattle.std.specs.Prelude.{ℕ, ◌≤◌, ◌≡◌, Bool, true, List, map, length, get_or, take}
+use Rattle.std.specs.Prelude.{ℕ, ◌≤◌, ◌≡◌, Bool, true, List, map, length, get_or, Result, Ok, Err}
 use Rattle.std.proofs.Math.Option.{Option}
+use Rattle.reach.specs.declared.Refusal.{Refusal}
 use Rattle.reach.specs.Limits.{file_limit, type_limit, function_limit}
 use Rattle.reach.specs.Syntax.{Function, Program}
 use Rattle.reach.specs.Types.{slots, least_depths, roomy}
@@ -12,10 +13,9 @@ use Rattle.reach.specs.RuleFile.{outline, numbers_exist, functions_of, program_o
 use Rattle.reach.specs.Places.{type_at, head_at, declarations_at, outline_at}
 use Rattle.reach.specs.Answers as Answers
 use Rattle.goal.specs.Goals.{goal_of, named_of}
+use Rattle.lookups.specs.declared.Rules.{Rules}
 use Rattle.outline.specs.declared.Outlined.{Outlined}
 use Rattle.depths.specs.Table.{padded}
-use Rattle.results.specs.declared.CheckResult.{CheckResult}
-use Rattle.results.specs.declared.CheckResult.TheVariants.{Accepted, Refused}
 use Rattle.rulefile.specs.declared.Loaded.{Loaded}
 
 -- Tables of places, a named type and a goal as the three passes leave them: each pass over the records that stand there found nothing.
@@ -26,28 +26,18 @@ pub record PassesLeave (s types functions : List ℕ) (named : Option ℕ) (goal
   pub end : ℕ
   pub bodies : functions_of (declarations_at s types functions) (declarations_at s types functions).heads s behind ≡ got fs end
 
--- the places of the records, as the first pass leaves them
-abbrev pub types_in : Outlined → List ℕ
-types_in o = take o.types o.type_at
-
-abbrev pub functions_in : Outlined → List ℕ
-functions_in o = take o.functions o.function_at
-
 -- the first pass found nothing, and left this
-pub record Outlines (s : List ℕ) (o : Outlined) : Type 0 where
-  pub size : length s ≤ file_limit
-  pub behind : ℕ
-  pub read : outline s 0 ≡ got (outline_at s (types_in o) (functions_in o) (named_of o.named) (goal_of o.goal)) behind
-  pub types_limit : o.types ≤ type_limit
-  pub types_held : length o.type_at ≡ type_limit
-  pub functions_limit : o.functions ≤ function_limit
-  pub functions_held : length o.function_at ≡ function_limit
+pub record Outlines (r : Rules) (o : Outlined) : Type 0 where
+  pub size : length r.file.now ≤ file_limit
+  pub types_limit : length r.types.now ≤ type_limit
+  pub functions_limit : length r.functions.now ≤ function_limit
+  pub read : outline r.file.now 0 ≡ got (outline_at r.file.now r.types.now r.functions.now (named_of o.named) (goal_of o.goal)) (length r.file.now)
 
 -- the second and third pass found nothing either
-pub record AllPassed (s : List ℕ) (o : Outlined) : Type 0 where
-  pub outlined : Outlines s o
+pub record AllPassed (r : Rules) (o : Outlined) : Type 0 where
+  pub outlined : Outlines r o
   pub functions : List Function
-  pub passed : PassesLeave s (types_in o) (functions_in o) (named_of o.named) (goal_of o.goal) functions
+  pub passed : PassesLeave r.file.now r.types.now r.functions.now (named_of o.named) (goal_of o.goal) functions
 
 -- each parameter of the source has a closed value that is at most as deep as it may be, by the table
 abbrev pub source_shallow : List ℕ → List ℕ → RuleFile.Goal → List ℕ → Bool
@@ -59,27 +49,23 @@ names_spelled s types named = if_named (λ t. spells (map (type_at s) types) t) 
 
 -- the places of the records of a loaded file
 abbrev pub type_places : Loaded → List ℕ
-type_places r = take r.types r.type_at
+type_places r = r.rules.types.now
 
 abbrev pub function_places : Loaded → List ℕ
-function_places r = take r.functions r.function_at
+function_places r = r.rules.functions.now
 
 -- What an accepted file's tables hold: its program is the one that the places, the named type and the goal give.
 pub record Tabled (s : List ℕ) (r : Loaded) (p : Program) : Type 0 where
+  pub of_file : r.rules.file.now ≡ s
   pub size : length s ≤ file_limit
-  pub types_limit : r.types ≤ type_limit
-  pub types_count : length (type_places r) ≡ r.types
-  pub functions_limit : r.functions ≤ function_limit
-  pub functions_count : length (function_places r) ≡ r.functions
+  pub types_limit : length (type_places r) ≤ type_limit
+  pub functions_limit : length (function_places r) ≤ function_limit
   pub functions : List Function
   pub passed : PassesLeave s (type_places r) (function_places r) (named_of r.named) (goal_of r.goal) functions
   pub program : p ≡ program_of (outline_at s (type_places r) (function_places r) (named_of r.named) (goal_of r.goal)) functions
-  pub depths : r.least ≡ padded (least_depths p.types)
-
-abbrev pub LoadsAs : List ℕ → Loaded → CheckResult → Type 0
-LoadsAs s r Accepted = (p : Program) × (Answers.check s ≡ Answers.accepted p) × Tabled s r p
-LoadsAs s r (Refused why) = Answers.check s ≡ Answers.turned_back why
+  pub depths : r.least.of ≡ padded (least_depths p.types)
 
 -- what a loaded file says is what the check answers
-abbrev pub Loads : List ℕ → Loaded → Type 0
-Loads s r = LoadsAs s r r.answer
+abbrev pub Loads : List ℕ → Result Loaded Refusal → Type 0
+Loads s (Ok r) = (p : Program) × (Answers.check s ≡ Answers.accepted p) × Tabled s r p
+Loads s (Err why) = Answers.check s ≡ Answers.turned_back why

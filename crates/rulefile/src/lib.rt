@@ -1,153 +1,120 @@
-// The check of a rule file: the three passes in their order, then the tests of depth and of the form of names. `check` answers accepted or
-// the one refusal of 1 to 9 or 15; `load` also hands on what later layers need of an accepted file: the places of its types and functions,
-// the type that NA names, its goal by value and the least depths. Rests on crates typerecord, outline, numbers, bodies, depths, rooms,
-// spelling, lookups, goal and results.
+// The check of a rule file: the three passes in their order, then the tests of depth and of the form of names. `check` accepts it or answers
+// the one refusal of 1 to 9 or 15; `load` also hands on what later layers need of an accepted file: the places of its types and functions, which
+// stand in the tables that are lent, the type that NA names, its goal by value and the least depths. Rests on crates typerecord, outline, numbers, bodies,
+// depths, rooms, spelling, lookups, goal and results.
 #![tactic(auto)]
 
-ghost use Rattle.std.specs.Prelude.{◌≡◌};
+ghost use Rattle.std.specs.Prelude.{◌≡◌, ◌≤◌, length};
+ghost use Rattle.outline.specs.Tables.{places_of};
 ghost use Rattle.goal.specs.Goals.{goal_of, named_of};
 ghost use Rattle.rulefile.specs.Answering.{CheckPromise};
 ghost use Rattle.rulefile.specs.Loading.{Outlines, AllPassed, Loads, source_shallow, names_spelled};
 
-use bodies::{Judged, bodies};
-use depths::{Depths, least_depths, none_empty};
-use goal::{Goal, Named, no_goal};
-use lookups::head_of;
+use bodies::bodies;
+use depths::Depths;
+use goal::Goal;
+use lookups::Rules;
 use numbers::numbers_exist;
+use outline::table::Tables;
 use outline::{Outlined, first_pass};
 use reach::Refusal;
-use results::CheckResult;
 use rooms::all_roomy;
 use spelling::spells;
-use typerecord::Passed;
 
 const FILE_LIMIT: usize = 16384;
 
-// A file as the check leaves it. Where it is accepted: how many types and functions there are and where their records stand
-// behind their marks, the type that NA names, what the goal asks for, and the least depth of each type.
+// An accepted file as the check leaves it: with the places of its records, the type that NA names, what the goal asks for, and the least depth of each
+// type.
 #[derive(Clone, Copy)]
-pub struct Loaded {
-    pub answer: CheckResult,
-    pub types: usize,
-    pub type_at: [u16; 32],
-    pub functions: usize,
-    pub function_at: [u16; 64],
-    pub named: Named,
+pub struct Loaded<'a> {
+    pub rules: Rules<'a>,
+    pub named: Option<usize>,
     pub goal: Goal,
-    pub least: [u8; 32],
+    pub least: Depths,
 }
 
-// A file that was refused.
-fn turned_back(why: Refusal) -> Loaded
-    ensures { result.answer ≡ CheckResult.Refused why }
+// A file with the places of its records.
+fn rules_of<'a>(file: &'a [u8], tables: &'a Tables) -> Rules<'a>
+    ensures file { result.file.now ≡ file.now }
+    ensures types { result.types.now ≡ places_of tables.now.types }
+    ensures functions { result.functions.now ≡ places_of tables.now.functions }
+    ensures types_few { length result.types.now ≤ 32 }
+    ensures functions_few { length result.functions.now ≤ 64 }
 {
-    Loaded {
-        answer: CheckResult::Refused(why),
-        types: 0,
-        type_at: [0; 32],
-        functions: 0,
-        function_at: [0; 64],
-        named: Named::Nothing,
-        goal: no_goal(),
-        least: [0; 32],
+    Rules {
+        file,
+        types: tables.types.as_slice(),
+        functions: tables.functions.as_slice(),
     }
 }
 
 // Each parameter of the source has a closed value that is at most as deep as the parameter may be.
-fn source_shallow<'a>(file: &'a [u8], functions: &'a [u16], goal: Goal, least: Depths) -> bool
-    ensures { result ≡ source_shallow file.now functions.now (goal_of goal) least.of }
+fn source_shallow(rules: &Rules, goal: Goal, least: &Depths) -> bool
+    ensures { result ≡ source_shallow rules.now.file.now rules.now.functions.now (goal_of goal) least.now.of }
 {
-    let head = head_of(file, functions, goal.source);
-    let depths = goal.depths;
-    all_roomy(file, head.parameters, head.count, depths, least)
+    let head = rules.head(goal.source);
+    all_roomy(rules.file, head.parameters, goal.depths, least)
 }
 
-// The type that NA names, where there is one, has the form of names.
-fn well_spelled<'a>(file: &'a [u8], types: &'a [u16], named: Named) -> bool
-    ensures { result ≡ names_spelled file.now types.now (named_of named) }
+// The type that NA names, where there is one, has the form of names. (A `match`: the proof of `is_none_or` with a closure over the rules did not close.)
+fn well_spelled(rules: &Rules, named: Option<usize>) -> bool
+    ensures { result ≡ names_spelled rules.now.file.now rules.now.types.now (named_of named) }
 {
     match named {
-        Named::Nothing => true,
-        Named::Type(t) => spells(file, types, t),
+        None => true,
+        Some(t) => spells(rules, t),
     }
 }
 
 // The tests of depth and of the form of names, of a file whose passes found nothing.
-fn with_depths(file: &[u8], o: Outlined) -> Loaded
-    requires { AllPassed file.now o }
-    ensures { Loads file.now result }
+fn with_depths(rules: Rules, o: Outlined) -> Result<Loaded, Refusal>
+    requires { AllPassed rules o }
+    ensures { Loads rules.entry.file.now result }
 {
-    let types = o.types;
-    let functions = o.functions;
-    let type_at = o.type_at;
-    let function_at = o.function_at;
-    let named = o.named;
-    let goal = o.goal;
-    let table = least_depths(file, &type_at[..types]);
-    if !none_empty(table, types) {
-        return turned_back(Refusal::EmptyType);
+    let table = Depths::least(&rules);
+    if !table.none_empty(rules.types.len()) {
+        return Err(Refusal::EmptyType);
     }
-    if !source_shallow(file, &function_at[..functions], goal, table) {
-        return turned_back(Refusal::DepthTooSmall);
+    if !source_shallow(&rules, o.goal, &table) {
+        return Err(Refusal::DepthTooSmall);
     }
-    if !well_spelled(file, &type_at[..types], named) {
-        return turned_back(Refusal::BadSpelling);
+    if !well_spelled(&rules, o.named) {
+        return Err(Refusal::BadSpelling);
     }
-    let least = table.of;
-    Loaded {
-        answer: CheckResult::Accepted,
-        types,
-        type_at,
-        functions,
-        function_at,
-        named,
-        goal,
-        least,
-    }
+    Ok(Loaded {
+        rules,
+        named: o.named,
+        goal: o.goal,
+        least: table,
+    })
 }
 
 // The second and third pass, of a file whose first pass found nothing.
-fn with_outline(file: &[u8], o: Outlined) -> Loaded
-    requires { Outlines file.now o }
-    ensures { Loads file.now result }
+fn with_outline(rules: Rules, o: Outlined) -> Result<Loaded, Refusal>
+    requires { Outlines rules o }
+    ensures { Loads rules.entry.file.now result }
 {
-    let types = o.types;
-    let functions = o.functions;
-    let type_at = o.type_at;
-    let function_at = o.function_at;
-    let named = o.named;
-    if !numbers_exist(
-        file,
-        &type_at[..types],
-        &function_at[..functions],
-        named,
-        o.goal,
-    ) {
-        return turned_back(Refusal::UnknownNumber);
+    if !numbers_exist(&rules, o.named, o.goal) {
+        return Err(Refusal::UnknownNumber);
     }
-    match bodies(file, &type_at[..types], &function_at[..functions]) {
-        Judged::Fit => with_depths(file, o),
-        Judged::Refused(why) => turned_back(why),
-    }
+    bodies(&rules)?;
+    with_depths(rules, o)
 }
 
-pub fn load(file: &[u8]) -> Loaded
+// What later layers need of a rule file, where it is accepted; else the refusal of 1 to 9 or 15. The tables hold the places of its records.
+pub fn load<'a>(file: &'a [u8], tables: &'a mut Tables) -> Result<Loaded<'a>, Refusal>
     ensures { Loads file.now result }
 {
     if FILE_LIMIT < file.len() {
-        return turned_back(Refusal::OutOfRange);
+        return Err(Refusal::OutOfRange);
     }
-    let o = first_pass(file);
-    let step = o.step;
-    match step {
-        Passed::Next(_) => with_outline(file, o),
-        Passed::Refused(why) => turned_back(why),
-    }
+    let outlined = first_pass(file, tables)?;
+    with_outline(rules_of(file, tables), outlined)
 }
 
-pub fn check(file: &[u8]) -> CheckResult
+// Whether a rule file is accepted; else the refusal of 1 to 9 or 15.
+pub fn check(file: &[u8]) -> Result<(), Refusal>
     ensures { CheckPromise file.now result }
 {
-    let loaded = load(file);
-    loaded.answer
+    load(file, &mut Tables::new()).map(|_| ())
 }

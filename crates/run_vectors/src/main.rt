@@ -5,79 +5,69 @@
 ghost use Rattle.std.specs.Prelude.{◌≤◌, length};
 
 use cases::{
-    BYTES, CASES, NO_PART, PART, WORDS, bytes, least, print, print_number, print_refused,
-    read_byte, read_number, read_part, words,
+    Answer, BYTES, PART, WORDS, bytes, each_file, read_byte, read_part, read_within, words,
 };
 use reach::Outcome;
-use results::RunResult;
+use results::Ran;
+use std::fmt;
 use std::io::{self, Read};
 
-fn print_outcome(rt: &impl Print, outcome: Outcome) -> io::Result<()> {
-    match outcome {
-        Outcome::Reached(n) => print_number(rt, b"reached ", n as u64),
-        Outcome::Ended(n) => print_number(rt, b"ended ", n as u64),
-        Outcome::Unfinished(n) => print_number(rt, b"unfinished ", n as u64),
-        Outcome::Missing(n) => print_number(rt, b"missing ", n as u64),
-    }
-}
+// A run as its line shows it: how it ended, after how many steps, and how deep the input is.
+#[derive(Drop)]
+struct Line(Ran);
 
-fn print_answer(rt: &impl Print, answer: RunResult) -> io::Result<()> {
-    match answer {
-        RunResult::Ran(outcome, depth) => {
-            print_outcome(rt, outcome)?;
-            print_number(rt, b" ", depth as u64)?;
+impl fmt::Display for Line {
+    fn fmt<W: fmt::Write>(&self, f: &mut fmt::Formatter<W>) -> fmt::Result {
+        let Ran { outcome, depth } = self.0;
+        match outcome {
+            Outcome::Reached(n) => write!(f, "reached {n} {depth}"),
+            Outcome::Ended(n) => write!(f, "ended {n} {depth}"),
+            Outcome::Unfinished(n) => write!(f, "unfinished {n} {depth}"),
+            Outcome::Missing(n) => write!(f, "missing {n} {depth}"),
         }
-        RunResult::Refused(why) => print_refused(rt, why)?,
     }
-    print(rt, b"\n")
 }
 
 // Reads a number of four bytes, of which the last does not count; `most` where it is larger.
 fn read_count<R: Read>(input: &mut R, most: usize) -> usize
     ensures { result ≤ most }
 {
-    let n = read_number(input);
+    let n = read_within(input, most);
     read_byte(input);
-    least(n, most)
+    n
 }
 
-// Lays a part down so often, one behind the other, from a place of the input on, as far as the input goes. The place behind.
-fn lay(input: &mut [u8], at: usize, part: &[u8], times: usize) -> usize
+// Lays a part down at a place of the input, as far as the input goes. The place behind.
+fn lay(input: &mut [u8], at: usize, part: &[u8]) -> usize
     requires { at ≤ length input.old }
     ensures { result ≤ length input.old }
 {
-    let n = part.len();
-    let mut place = at;
-    let mut next = n;
-    let mut left = times;
-    while place < input.len() {
-        if n <= next {
-            if left == 0 {
-                return place;
-            }
-            left -= 1;
-            next = 0;
-        }
-        if n <= next {
-            return place;
-        }
-        input[place] = part[next];
-        place += 1;
-        next += 1;
-    }
-    place
+    let n = part.len().min(input.len() - at);
+    input[at..at + n].copy_from_slice(&part[..n]);
+    at + n
 }
 
-// Reads an input: a pattern, how often it stands, and what is behind. How many bytes it has.
+// Lays it down so often, one behind the other, from the front on.
+fn lay_often(input: &mut [u8], part: &[u8], times: usize) -> usize
+    ensures { result ≤ length input.old }
+{
+    let mut at = 0;
+    for _ in 0..times {
+        at = lay(input, at, part);
+    }
+    at
+}
+
+// Reads an input: a pattern, how often it stands, and what is behind. How many bytes it has. Where the container has ended the whole buffer counts.
 fn read_input<R: Read>(from: &mut R, input: &mut [u8]) -> usize
     ensures { result ≤ length input.old }
 {
     let mut part = [0u8; PART];
-    let n = read_part(from, &mut part);
+    let n = read_part(from, &mut part).unwrap_or(PART);
     let times = read_count(from, BYTES);
-    let at = lay(input, 0, &part[..n], times);
-    let rest = read_part(from, &mut part);
-    lay(input, at, &part[..rest], 1)
+    let at = lay_often(input, &part[..n], times);
+    let rest = read_part(from, &mut part).unwrap_or(PART);
+    lay(input, at, &part[..rest])
 }
 
 // Reads the input for a rule file and the length of its work slice, runs it, and prints what it answered.
@@ -86,26 +76,10 @@ fn run_file<R: Read>(rt: &impl Print, from: &mut R, file: &[u8]) -> io::Result<(
     let mut work = words(0);
     let i = read_input(from, &mut input);
     let w = read_count(from, WORDS);
-    print_answer(rt, closed::run(file, &input[..i], &mut work[..w]))
-}
-
-// Reads one case and prints its line; false where the container has ended.
-fn run_case<R: Read>(rt: &impl Print, input: &mut R) -> io::Result<bool> {
-    let mut file = [0u8; PART];
-    let n = read_part(input, &mut file);
-    if n == NO_PART {
-        return Ok(false);
-    }
-    run_file(rt, input, &file[..n])?;
-    Ok(true)
+    let answer = closed::run(file, &input[..i], &mut work[..w]);
+    rt.println(Answer(answer.map(|ran| Line(ran))))
 }
 
 fn main(rt: HostRuntime) -> io::Result<()> {
-    let mut input = rt.stdin();
-    for _ in 0..CASES {
-        if !run_case(&rt, &mut input)? {
-            break;
-        }
-    }
-    Ok(())
+    each_file(&mut rt.stdin(), |from, file| run_file(&rt, from, file))
 }

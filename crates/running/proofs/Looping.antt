@@ -54,11 +54,8 @@ stands_there :
 stands_there {cells = cells} {p = p} {s = s} h =
     record { program = p; cells = cells; input = h.running.input; state = s; file_of = h.given.of_file.file_of; stands = h.running.stands }
 
-module _ (file types functions input : List ℕ) (label limit : ℕ) (w₀ : List ℕ) (base first : ℕ) (from : Registers) where
-  pub came_first : LedTo file types functions input label limit w₀ base first from w₀ first 0 from
-  came_first p j s h = let z : limit - 0 ≡ limit = omega arith in (s, h, rw z)
-
-  module _ (w : List ℕ) (cells done : ℕ) (r : Registers) (came : LedTo file types functions input label limit w₀ base first from w cells done r) where
+module _ {file types functions input : List ℕ} {label limit : ℕ} {w₀ : List ℕ} {base first : ℕ} {from : Registers} where
+  module _ {w : List ℕ} {cells done : ℕ} {r : Registers} (came : LedTo file types functions input label limit w₀ base first from w cells done r) where
     module _ (w' : List ℕ) (cells' : ℕ) (n : Next) (advances : AdvancesAll file types functions input label w w' base cells r cells' n) where
       step : (p : Program) (j : Parts) (s : State) (h : Underway file types functions input label limit w₀ base first 0 from p j s)
           → Advances file types functions input label limit w' base done p j (came p j s h).0 cells' n
@@ -141,7 +138,7 @@ module _ (file types functions input : List ℕ) (label limit : ℕ) (w₀ : Lis
       → LedTo file types functions input label limit w₀ base first from w' cells (done + suc n) r'
   far_on {w} {cells = cells} done n {r} {r'} came stepped few =
       let z : done + suc n ≡ done + n + 1 = omega arith in
-      rw z (came_on w cells (done + n) r came cells (went (Next.Goes r') stepped (λ x is. absurd (clash (cc)))) (omega arith))
+      rw z (came_on came cells (went (Next.Goes r') stepped (λ x is. absurd (clash (cc)))) (omega arith))
 
   came_far :
       {w w₁ : List ℕ} {cells done n : ℕ} {r r₁ : Registers} → LedTo file types functions input label limit w₀ base first from w cells done r
@@ -150,13 +147,13 @@ module _ (file types functions input : List ℕ) (label limit : ℕ) (w₀ : Lis
   came_far came no_step few = far_none came
   came_far {done = done} came (one_more {n} led stepped) few = far_on done n (came_far came led (omega arith)) stepped few
 
-  module _ (w : List ℕ) (cells done : ℕ) (r : Registers) (came : LedTo file types functions input label limit w₀ base first from w cells done r) (in_time : done ≤ limit) where
+  module _ {w : List ℕ} {cells done : ℕ} {r : Registers} (came : LedTo file types functions input label limit w₀ base first from w cells done r) (in_time : done ≤ limit) where
     -- wherever the steps that are left lead, the words stand for a state
     pub came_onward : RunBegins file types functions input label limit w₀ base first from → Onward file types functions label w base r (limit - done)
     came_onward (p, j, s, h) n w₁ r₁ few led = stands_there (came_far came led (omega arith) p j s h).1
 
     -- the steps of `run_on` led to where it halted
-    module _ (w' : List ℕ) (x : Ran) (ran : RunsOn file types functions label w w' base r (limit - done) x) where
+    module _ {w' : List ℕ} {x : Ran} (ran : RunsOn file types functions label w w' base r (limit - done) x) where
       halts : (halt : Halt) → x.halt ≡ halt → ComesToHalt file types functions label ran.between w' base x.registers x.steps (limit - done) halt
       halts halt is = subst (ComesToHalt file types functions label ran.between w' base x.registers x.steps (limit - done)) is ran.comes
 
@@ -165,20 +162,20 @@ module _ (file types functions input : List ℕ) (label limit : ℕ) (w₀ : Lis
 
       pub halt_demands : x.halt ≡ Halt.Demands → EndsAs file types functions input label limit w₀ w' base first from (Outcome.Reached (done + x.steps))
       halt_demands is =
-          came_demands ran.between cells (done + x.steps) x.registers came_there cells (went Next.Demands (halts Halt.Demands is) (λ y no. absurd (clash (cc))))
+          came_demands came_there cells (went Next.Demands (halts Halt.Demands is) (λ y no. absurd (clash (cc))))
 
       pub halt_lacks : x.halt ≡ Halt.Lacks → EndsAs file types functions input label limit w₀ w' base first from (Outcome.Missing (done + x.steps))
       halt_lacks is =
-          came_lacks ran.between cells (done + x.steps) x.registers came_there cells (went Next.Lacks (halts Halt.Lacks is) (λ y no. absurd (clash (cc))))
+          came_lacks came_there cells (went Next.Lacks (halts Halt.Lacks is) (λ y no. absurd (clash (cc))))
 
       pub halt_stops : x.halt ≡ Halt.Stops → EndsAs file types functions input label limit w₀ w' base first from (Outcome.Ended (done + x.steps))
       halt_stops is =
-          came_stops ran.between cells (done + x.steps) x.registers came_there cells (went Next.Stops (halts Halt.Stops is) (λ y no. absurd (clash (cc))))
+          came_stops came_there cells (went Next.Stops (halts Halt.Stops is) (λ y no. absurd (clash (cc))))
 
       pub halt_spent : x.halt ≡ Halt.Spent → EndsAs file types functions input label limit w₀ w' base first from (Outcome.Unfinished (done + x.steps))
       halt_spent is =
           let (to, stepped, none) = halts Halt.Spent is in
-          came_last ran.between cells (done + x.steps) x.registers came_there cells (went (Next.Goes to) stepped (λ y no. absurd (clash (cc)))) (omega arith)
+          came_last came_there cells (went (Next.Goes to) stepped (λ y no. absurd (clash (cc)))) (omega arith)
 
       -- where a case waits on the part in a cell
       module _ {y : ℕ} (is : x.halt ≡ Halt.Waits y) where
@@ -193,8 +190,8 @@ module _ (file types functions input : List ℕ) (label limit : ℕ) (w₀ : Lis
           where
             pub halt_enters : done + x.steps < limit → LedTo file types functions input label limit w₀ base first from w'' cells' (done + x.steps + 1) r'
             halt_enters =
-                came_on ran.between cells (done + x.steps) x.registers came_there cells' (enters functions ran.between label filled (halts (Halt.Waits y) is))
+                came_on came_there cells' (enters functions ran.between label filled (halts (Halt.Waits y) is))
 
             pub halt_last : limit ≤ done + x.steps → EndsAs file types functions input label limit w₀ w'' base first from (Outcome.Unfinished (done + x.steps))
             halt_last =
-                came_last ran.between cells (done + x.steps) x.registers came_there cells' (enters functions ran.between label filled (halts (Halt.Waits y) is))
+                came_last came_there cells' (enters functions ran.between label filled (halts (Halt.Waits y) is))

@@ -1,67 +1,50 @@
 // The loop of a closed run: steps one after the other; where a case waits on an open part, the part is bound to what the input has there and the case
-// goes on with it. Rests on crates steps and binding.
+// goes on with it. Rests on crates registers, steps and binding.
 #![tactic(auto)]
 
 ghost use Rattle.std.specs.Prelude.{◌≤◌};
 ghost use Rattle.skipping.specs.Ends.{Ends};
 ghost use Rattle.running.specs.Running.{RunBegins, EndsAs};
 
-use binding::enter_asked;
+use binding::{Entered, enter_asked};
 use reach::Outcome;
-use registers::Registers;
+use registers::{Evaluation, Registers};
 use steps::{Halt, run_on};
 
 // At most so many steps from the registers on. Where a case waits on an open part, the part is bound and the case goes on with it, also where
-// no step is left: then the words stand for all that the run looked at.
-pub fn go_on<'a>(
-    file: &'a [u8],
-    types: &'a [u16],
-    functions: &'a [u16],
-    ends: &'a [u16],
-    label: usize,
-    input: &'a [u8],
+// no step is left: then the words stand for all that the run looked at. (A `loop` and no `for`: each turn takes as many steps as it comes to.)
+pub fn go_on(
+    run: &Evaluation,
+    input: &[u8],
     work: &mut [u32],
-    base: usize,
     first: usize,
     from: Registers,
     limit: usize,
 ) -> Outcome
-    requires limit_bound { (limit ≤ 4096) × RunBegins file.now types.now functions.now input.now label limit work.old base first from }
-    requires ends { Ends file.now types.now functions.now ends.now }
-    ensures { EndsAs file.now types.now functions.now input.now label limit work.old work.new base first from result }
+    requires begins { let rules = run.now.program.rules in
+        (limit ≤ 4096) × RunBegins rules.file.now rules.types.now rules.functions.now input.now run.now.label limit work.old run.now.store.at first from }
+    requires ends { let p = run.now.program in Ends p.rules.file.now p.rules.types.now p.rules.functions.now p.ends.now }
+    ensures { let rules = run.now.program.rules in
+        EndsAs rules.file.now rules.types.now rules.functions.now input.now run.now.label limit work.old work.new run.now.store.at first from result }
 {
-    let mut r = from;
-    let mut cells = first;
+    let mut at = Entered {
+        registers: from,
+        cells: first,
+    };
     let mut done: usize = 0;
     loop {
-        let ran = run_on(
-            file,
-            types,
-            functions,
-            ends,
-            label,
-            work,
-            base,
-            r,
-            limit - done,
-        );
-        let halt = ran.halt;
-        let at = ran.registers;
+        let ran = run_on(run, work, at.registers, limit - done);
         let reached = done + ran.steps;
-        match halt {
-            Halt::Demands => return Outcome::Reached(reached as u16),
-            Halt::Stops => return Outcome::Ended(reached as u16),
-            Halt::Spent => return Outcome::Unfinished(reached as u16),
-            Halt::Lacks => return Outcome::Missing(reached as u16),
-            Halt::Waits(x) => {
-                let entered = enter_asked(file, types, ends, input, work, base, cells, x, at);
-                let to = entered.registers;
-                r = to;
-                cells = entered.cells;
-            }
+        let steps = reached as u16;
+        match ran.halt {
+            Halt::Demands => return Outcome::Reached(steps),
+            Halt::Stops => return Outcome::Ended(steps),
+            Halt::Spent => return Outcome::Unfinished(steps),
+            Halt::Lacks => return Outcome::Missing(steps),
+            Halt::Waits(x) => at = enter_asked(run, input, work, at.cells, x, ran.registers),
         }
         if limit <= reached {
-            return Outcome::Unfinished(reached as u16);
+            return Outcome::Unfinished(steps);
         }
         done = reached + 1;
     }

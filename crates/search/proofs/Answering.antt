@@ -5,6 +5,7 @@ use mathlib.Core.Path.{◌≡◌, refl, sym, ◌∙◌, ap, subst}
 use mathlib.Core.List.{List, ◌++◌}
 use native.Mathlib.Omega.{arith}
 use lib.ListN.{length, take, drop, length-take, length-append, get_or-append}
+use Rattle.std.specs.Prelude.{Ok, Err}
 use Rattle.reach.specs.declared.Refusal.{Refusal}
 use Rattle.reach.specs.declared.Refusal.TheVariants.{WorkTooShort}
 use Rattle.reach.specs.Limits.{work_words}
@@ -13,16 +14,15 @@ use Rattle.reach.specs.Parts.{Parts}
 use Rattle.reach.specs.Types.{source_slots}
 use Rattle.reach.specs.Search.{Entry, open_input, entries}
 use Rattle.reach.specs.Lists.{list_bytes, room_of, written}
-use Rattle.reach.specs.Answers.{check, accepted, no_search, complete, cut_short, search_answer, listed}
+use Rattle.reach.specs.Answers.{check, accepted, turned_back, no_search, complete, cut_short, search_answer, listed}
 use Rattle.machine.specs.Cells.{Cells}
 use Rattle.machine.proofs.Cells.{kept_cells}
-use Rattle.results.specs.declared.CheckResult.TheVariants as CheckResult
 use Rattle.rulefile.specs.declared.Loaded.{Loaded}
-use Rattle.rulefile.specs.Loading.{type_places, function_places, Tabled, Loads}
+use Rattle.rulefile.specs.Loading.{type_places, function_places, Loads}
 use Rattle.rulefile.proofs.Tabled.{program_goal}
 use Rattle.loaded.proofs.Files.{given_file}
-use Rattle.loaded.proofs.Loaded.{loaded_accepted, loaded_refused, behind_kept}
-use Rattle.results.specs.declared.SearchResult.{SearchResult}
+use Rattle.loaded.proofs.Loaded.{behind_kept}
+use Rattle.results.specs.declared.Listed.{Listed}
 use Rattle.search.specs.Answering.{SearchPromise}
 use Rattle.exploring.specs.Exploring.{WholeList, FirstEntries, Explored}
 use Rattle.search.specs.Searching.{Searchable, setting_of}
@@ -33,7 +33,7 @@ refused_list : (why : Refusal) (list : List ℕ) → list ≡ written (listed (n
 unfolding listed
 refused_list why list = sym (written_none list)
 
-keeps_refused : (file work list : List ℕ) (why : Refusal) → search_answer file (length work) (length list) ≡ no_search why → SearchPromise file work work list list (SearchResult.Refused why)
+keeps_refused : (file work list : List ℕ) (why : Refusal) → search_answer file (length work) (length list) ≡ no_search why → SearchPromise file work work list list (Err why)
 keeps_refused file work list why is = record { answer_is = rw is refl; list_is = rw is (refused_list why list); words_are = refl }
 
 listed_complete : (es : List Entry) → listed (complete es) ≡ es
@@ -57,26 +57,23 @@ pub room_inside : (list : List ℕ) {room : ℕ} → room ≡ room_of (length li
 unfolding room_of
 room_inside list is = omega arith
 
-module _ (file : List ℕ) (r : Loaded) (loads : Loads file r) where
-  -- a refused file
-  pub search_refused : (work list : List ℕ) {why : Refusal} → r.answer ≡ CheckResult.Refused why → SearchPromise file work work list list (SearchResult.Refused why)
-  search_refused work list {why} is = keeps_refused file work list why (answer_refused file (length work) (length list) why (loaded_refused file r loads is))
+-- a refused file
+pub search_refused : (file work list : List ℕ) {why : Refusal} → check file ≡ turned_back why → SearchPromise file work work list list (Err why)
+search_refused file work list {why} is = keeps_refused file work list why (answer_refused file (length work) (length list) why is)
 
-  module _ (is : r.answer ≡ CheckResult.Accepted) {words : ℕ} (words_are : words ≡ work_words r.goal.steps) where
-    abbrev here : (p : Program) × (check file ≡ accepted p) × Tabled file r p
-    here = loaded_accepted file r loads is
-
+module _ (file : List ℕ) (r : Loaded) (here : Loads file (Ok r)) where
+  module _ {words : ℕ} (words_are : words ≡ work_words r.goal.steps) where
     limit_is : r.goal.steps ≡ here.0.steps
     limit_is = (program_goal here.2).steps_is
 
     -- too few words
-    pub search_short : (work list : List ℕ) → length work < words → SearchPromise file work work list list (SearchResult.Refused WorkTooShort)
+    pub search_short : (work list : List ℕ) → length work < words → SearchPromise file work work list list (Err WorkTooShort)
     search_short work list short = keeps_refused file work list WorkTooShort (answer_short file (length work) (length list) here.0 here.1 (omega (arith, limit_is)))
 
     -- enough of them
     pub search_able :
         (work : List ℕ) → words ≤ length work
-        → (p : Program) × Searchable file (type_places r) (function_places r) r.least r.goal (take words work) p
+        → (p : Program) × Searchable file (type_places r) (function_places r) r.least.of r.goal (take words work) p
     search_able work enough = (
       here.0,
       record {
@@ -108,8 +105,8 @@ module _ (file : List ℕ) (r : Loaded) (loads : Loads file r) where
             let one : here.0 ≡ p = cc (here.1, checked) in
             subst (λ (x : Program). Cells x.types (source_slots x) work_then top (e x)) one (cells_longer (drop words work) stands)
 
-        keeps_whole : (n : ℕ) (d : Rattle.reach.specs.declared.Verdict.Verdict) → WholeList (setting_of file (type_places r) (function_places r) r.least here.0) (take room list) after v n d
-            → SearchPromise file work work_then list list_then (SearchResult.Complete n d)
+        keeps_whole : (n : ℕ) (d : Rattle.reach.specs.declared.Verdict.Verdict) → WholeList (setting_of file (type_places r) (function_places r) r.least.of here.0) (take room list) after v n d
+            → SearchPromise file work work_then list list_then (Ok (Listed.Complete n d))
         keeps_whole n d whole =
             let es = entries here.0 in
             let fits : length (list_bytes es) ≤ room = omega (arith, whole.fits, whole.length_is, room_taken list room_is) in
@@ -117,7 +114,7 @@ module _ (file : List ℕ) (r : Loaded) (loads : Loads file r) where
             record {
               answer_is = rw (answered, whole.length_is, whole.verdict_is) refl;
               list_is = rw (answered, listed_complete es, whole.list_is) (written_front es list room (room_inside list room_is) fits);
-              words_are = λ p checked. (behind_kept file r loads is v work words_are long p checked, whole_open p checked whole.all_are_open.1);
+              words_are = λ p checked. (behind_kept file r here v work words_are long p checked, whole_open p checked whole.all_are_open.1);
             }
           where
             whole_open :
@@ -127,8 +124,8 @@ module _ (file : List ℕ) (r : Loaded) (loads : Loads file r) where
                 let one : here.0 ≡ p = cc (here.1, checked) in
                 subst (λ (x : Program). Cells x.types (source_slots x) work_then (length (source_types x)) (open_input x)) one (cells_longer (drop words work) stands)
 
-        keeps_first : (n : ℕ) → FirstEntries (setting_of file (type_places r) (function_places r) r.least here.0) (take room list) after v n
-            → SearchPromise file work work_then list list_then (SearchResult.Full n)
+        keeps_first : (n : ℕ) → FirstEntries (setting_of file (type_places r) (function_places r) r.least.of here.0) (take room list) after v n
+            → SearchPromise file work work_then list list_then (Ok (Listed.Full n))
         keeps_first n first =
             let es = first.listed in
             let fits : length (list_bytes es) ≤ room = omega (arith, first.fits, first.length_is, room_taken list room_is) in
@@ -140,7 +137,7 @@ module _ (file : List ℕ) (r : Loaded) (loads : Loads file r) where
               list_is = rw (answered, listed_short es, first.list_is) (written_front es list room (room_inside list room_is) fits);
               words_are = λ p checked.
                   let one : here.0 ≡ p = cc (here.1, checked) in (
-                    behind_kept file r loads is v work words_are long p checked,
+                    behind_kept file r here v work words_are long p checked,
                     (
                       es,
                       first.next,
@@ -154,14 +151,13 @@ module _ (file : List ℕ) (r : Loaded) (loads : Loads file r) where
             }
 
         pub search_done :
-            (a : SearchResult)
-            → ((p : Program) → Searchable file (type_places r) (function_places r) r.least r.goal (take words work) p
-            → Explored (setting_of file (type_places r) (function_places r) r.least p) (take room list) after v a)
-            → SearchPromise file work work_then list list_then a
+            (a : Listed)
+            → ((p : Program) → Searchable file (type_places r) (function_places r) r.least.of r.goal (take words work) p
+            → Explored (setting_of file (type_places r) (function_places r) r.least.of p) (take room list) after v a)
+            → SearchPromise file work work_then list list_then (Ok a)
         unfolding search_able
         search_done a explored = let able = search_able work enough in by_answer a (explored able.0 able.1)
           where
-            by_answer : (b : SearchResult) → Explored (setting_of file (type_places r) (function_places r) r.least here.0) (take room list) after v b → SearchPromise file work work_then list list_then b
-            by_answer (SearchResult.Refused why) none = absurd none
-            by_answer (SearchResult.Complete n d) whole = keeps_whole n d whole
-            by_answer (SearchResult.Full n) first = keeps_first n first
+            by_answer : (b : Listed) → Explored (setting_of file (type_places r) (function_places r) r.least.of here.0) (take room list) after v b → SearchPromise file work work_then list list_then (Ok b)
+            by_answer (Listed.Complete n d) whole = keeps_whole n d whole
+            by_answer (Listed.Full n) first = keeps_first n first

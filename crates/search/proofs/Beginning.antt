@@ -19,7 +19,7 @@ use Rattle.loaded.specs.Beginning.{Opened, start_registers}
 use Rattle.loaded.proofs.Beginning as Begin
 use Rattle.choices.specs.Choices.{Setting, Given, no_choice}
 use Rattle.choices.specs.Returning.{setting}
-use Rattle.results.specs.declared.SearchResult.{SearchResult}
+use Rattle.results.specs.declared.Listed.{Listed}
 use Rattle.exploring.specs.Exploring.{Begins, Explores, Explored}
 use Rattle.search.specs.Searching.{Searchable, setting_of}
 
@@ -31,7 +31,7 @@ module _ {file types functions least : List ℕ} {goal : Goal} {w : List ℕ} {p
       abbrev here : Setting
       here = setting file types functions least p goal.steps base stack
 
-      open_is : open_input p ≡ all_open head.count
+      open_is : open_input p ≡ all_open head.parameters.count
       unfolding open_input
       open_is = ap all_open (sym (Begin.many given.of_file given.asks head head_read))
 
@@ -46,8 +46,8 @@ module _ {file types functions least : List ℕ} {goal : Goal} {w : List ℕ} {p
       }
 
       begins_there :
-          {w' : List ℕ} → Opened file w w' base head.parameters head.count goal.depths
-          → Begins here goal.label w' head.count (start_registers head.body)
+          {w' : List ℕ} → Opened file w w' base head.parameters.at head.parameters.count goal.depths
+          → Begins here goal.label w' head.parameters.count (start_registers head.body)
       begins_there {w'} opened =
           let of_file = given.of_file in
           let asks = given.asks in
@@ -71,20 +71,20 @@ module _ {file types functions least : List ℕ} {goal : Goal} {w : List ℕ} {p
               };
               in_time = omega arith;
               no_higher = omega arith;
-              choices = no_choice {w = w'} {cells = head.count} {records = 2} (omega (arith, many), rw (open_is, ← many) stands.input);
+              choices = no_choice {w = w'} {cells = head.parameters.count} {records = 2} (omega (arith, many), rw (open_is, ← many) stands.input);
             });
           }
 
       pub begins :
-          {w' : List ℕ} {from : Registers} → from ≡ start_registers head.body → Opened file w w' base head.parameters head.count goal.depths
-          → Begins here goal.label w' head.count from
-      begins {w'} from_is opened = subst (Begins here goal.label w' head.count) (sym from_is) (begins_there opened)
+          {w' : List ℕ} {from : Registers} → from ≡ start_registers head.body → Opened file w w' base head.parameters.at head.parameters.count goal.depths
+          → Begins here goal.label w' head.parameters.count from
+      begins {w'} from_is opened = subst (Begins here goal.label w' head.parameters.count) (sym from_is) (begins_there opened)
 
       -- so what is explored from there is the search of the program
       pub explored :
-          {w' : List ℕ} {from : Registers} (w'' before after : List ℕ) (a : SearchResult) → from ≡ start_registers head.body
-          → Opened file w w' base head.parameters head.count goal.depths
-          → Explores file types functions least goal.label w' w'' goal.steps base stack head.count from before after a
+          {w' : List ℕ} {from : Registers} (w'' before after : List ℕ) (a : Listed) → from ≡ start_registers head.body
+          → Opened file w w' base head.parameters.at head.parameters.count goal.depths
+          → Explores file types functions least goal.label w' w'' goal.steps base stack head.parameters.count from before after a
           → Explored (setting_of file types functions least p) before after w'' a
       explored w'' before after a from_is opened explores =
           subst (λ n. Explored (setting file types functions least p n (records_at n) (choices_at n)) before after w'' a) given.asks.steps_is

@@ -9,6 +9,7 @@ use mathlib.Core.Logic.{◌⊎◌, inl, inr, ⊎_elim, ◌↔◌}
 use mathlib.Core.Option.{some}
 use lib.ListN.{length, get_elem?, take, drop}
 use lib.Seq.{take-append_seam, drop-append_seam}
+use Rattle.std.specs.Prelude.{Result, Ok, Err}
 use Rattle.reach.specs.declared.Refusal.{Refusal}
 use Rattle.reach.specs.declared.Refusal.TheVariants.{WorkTooShort}
 use Rattle.reach.specs.declared.Verdict.{Verdict}
@@ -25,13 +26,13 @@ use Rattle.reach.specs.Answers.{Checked, accepted, turned_back, check, SearchAns
 use Rattle.reach.proofs.Base.{clash}
 use Rattle.reach.proofs.Answers.{Means, search_means, search_turned_back}
 use Rattle.reach.proofs.Refusals.{turned_back_by}
-use Rattle.results.specs.declared.SearchResult.{SearchResult}
+use Rattle.results.specs.declared.Listed.{Listed}
 use Rattle.results.specs.Results.{search_result, list_length_in, refusal_in, verdict_in}
 use Rattle.search.specs.Answering.{SearchPromise, Searched}
 use Rattle.exploring.proofs.Cutting.{size_more, answer_complete, answer_full, answer_short, answer_refused}
 
 -- what a call promises of its own answer holds of the definition's
-pub searched_so : {file work work' before after : List ℕ} {r : SearchResult} → SearchPromise file work work' before after r → Searched file work work' before after
+pub searched_so : {file work work' before after : List ℕ} {r : Result Listed Refusal} → SearchPromise file work work' before after r → Searched file work work' before after
 searched_so {file} {work} {work'} {before} {after} call = subst (SearchPromise file work work' before after) call.answer_is call
 
 -- The answer shows the length, the refusal and the verdict of the definition's.
@@ -55,20 +56,20 @@ verdict_is (complete es) = refl
 verdict_is (cut_short es) = refl
 
 -- a refusal other than 12 is one of the definition's
-pub refused_is : (a : SearchAnswer) (why : Refusal) → SearchResult.Refused why ≡ search_result a → a ≡ no_search why
+pub refused_is : (a : SearchAnswer) (why : Refusal) → Err why ≡ search_result a → a ≡ no_search why
 refused_is (no_search by) why is = cc
 refused_is (complete es) why is = absurd (clash (cc))
 refused_is (cut_short es) why is = absurd (clash (cc))
 
 -- a complete list is, and its length and verdict are shown
-complete_shows : (a : SearchAnswer) (n : ℕ) (v : Verdict) → SearchResult.Complete n v ≡ search_result a
+complete_shows : (a : SearchAnswer) (n : ℕ) (v : Verdict) → Ok (Listed.Complete n v) ≡ search_result a
     → (es : List Entry) × (a ≡ complete es) × (n ≡ length (list_bytes es)) × (v ≡ verdict es)
 complete_shows (no_search why) n v is = absurd (clash (cc))
 complete_shows (complete es) n v is = (es, refl, cc, cc)
 complete_shows (cut_short es) n v is = absurd (clash (cc))
 
 -- and a list cut short
-full_shows : (a : SearchAnswer) (n : ℕ) → SearchResult.Full n ≡ search_result a → (es : List Entry) × (a ≡ cut_short es) × (n ≡ length (list_bytes es))
+full_shows : (a : SearchAnswer) (n : ℕ) → Ok (Listed.Full n) ≡ search_result a → (es : List Entry) × (a ≡ cut_short es) × (n ≡ length (list_bytes es))
 full_shows (no_search why) n is = absurd (clash (cc))
 full_shows (complete es) n is = absurd (clash (cc))
 full_shows (cut_short es) n is = (es, refl, cc)
@@ -82,7 +83,7 @@ module _ (file : List ℕ) (work list : ℕ) where
       (OfFile why × (check file ≡ turned_back why))
       ⊎ ((why ≡ WorkTooShort) × ((p : Program) × (check file ≡ accepted p) × (work < work_words p.steps)))
 
-  pub refused_when : (why : Refusal) → (search_result (search_answer file work list) ≡ SearchResult.Refused why) ↔ Refusable why
+  pub refused_when : (why : Refusal) → (search_result (search_answer file work list) ≡ Err why) ↔ Refusable why
   refused_when why = (λ is. from (check file) refl (refused_is (search_answer file work list) why (sym is)), into)
     where
       from : (c : Checked) → check file ≡ c → search_answer file work list ≡ no_search why → Refusable why
@@ -92,10 +93,10 @@ module _ (file : List ℕ) (work list : ℕ) where
           let turned : check file ≡ turned_back why = c ∙ ap turned_back same in
           inl (turned_back_by file why turned, turned)
 
-      into : Refusable why → search_result (search_answer file work list) ≡ SearchResult.Refused why
+      into : Refusable why → search_result (search_answer file work list) ≡ Err why
       into =
           ⊎_elim (λ h. ap search_result (answer_refused file work list why h.1))
-          (λ h. ap search_result (answer_short file work list h.1.0 h.1.1 h.1.2) ∙ ap SearchResult.Refused (sym h.0))
+          (λ h. ap search_result (answer_short file work list h.1.0 h.1.1 h.1.2) ∙ ap Err (sym h.0))
 
   -- the first entries fit the room, and the next one does not fit behind them
   abbrev Fillable : ℕ → Type 0
@@ -103,7 +104,7 @@ module _ (file : List ℕ) (work list : ℕ) where
       (p : Program) × (es : List Entry) × (next : Entry) × (rest : List Entry) × (check file ≡ accepted p) × (work_words p.steps ≤ work)
       × (entries p ≡ es ++ (next ∷ rest)) × (n ≡ length (list_bytes es)) × (n ≤ room_of list) × (room_of list < n + length (entry_bytes next))
 
-  pub full_when : (n : ℕ) → (search_result (search_answer file work list) ≡ SearchResult.Full n) ↔ Fillable n
+  pub full_when : (n : ℕ) → (search_result (search_answer file work list) ≡ Ok (Listed.Full n)) ↔ Fillable n
   full_when n = (λ is. let (es, a, long) = full_shows (search_answer file work list) n (sym is) in from (check file) refl es a long, into)
     where
       from : (c : Checked) → check file ≡ c → (es : List Entry) → search_answer file work list ≡ cut_short es → n ≡ length (list_bytes es) → Fillable n
@@ -113,9 +114,9 @@ module _ (file : List ℕ) (work list : ℕ) where
           (p, es, next, m.1.1, c, m.0, m.1.2, long, omega (arith, m.1.3), omega (arith, m.1.4, size_more es next))
       from (turned_back by) c es is long = absurd (clash (cc (answer_refused file work list by c)))
 
-      into : Fillable n → search_result (search_answer file work list) ≡ SearchResult.Full n
+      into : Fillable n → search_result (search_answer file work list) ≡ Ok (Listed.Full n)
       into (p, es, next, rest, c, enough, all, long, fits, over) =
-          ap search_result (answer_full file work list p c enough es next rest all (omega arith) (omega arith)) ∙ ap SearchResult.Full (sym long)
+          ap search_result (answer_full file work list p c enough es next rest all (omega arith) (omega arith)) ∙ ap (λ (m : ℕ). Ok (Listed.Full m)) (sym long)
 
   -- all entries fit the room
   abbrev Completable : ℕ → Verdict → Type 0
@@ -123,7 +124,7 @@ module _ (file : List ℕ) (work list : ℕ) where
       (p : Program) × (check file ≡ accepted p) × (work_words p.steps ≤ work) × (n ≡ length (list_bytes (entries p))) × (n ≤ room_of list)
       × (v ≡ verdict (entries p))
 
-  pub complete_when : (n : ℕ) (v : Verdict) → (search_result (search_answer file work list) ≡ SearchResult.Complete n v) ↔ Completable n v
+  pub complete_when : (n : ℕ) (v : Verdict) → (search_result (search_answer file work list) ≡ Ok (Listed.Complete n v)) ↔ Completable n v
   complete_when n v =
       (λ is. let (es, a, long, by) = complete_shows (search_answer file work list) n v (sym is) in from (check file) refl es a long by, into)
     where
@@ -134,12 +135,12 @@ module _ (file : List ℕ) (work list : ℕ) where
           (p, c, m.0, long ∙ ap (λ (l : List Entry). length (list_bytes l)) m.1, omega (arith, m.2), by ∙ ap verdict m.1)
       from (turned_back refusal) c es is long by = absurd (clash (cc (answer_refused file work list refusal c)))
 
-      into : Completable n v → search_result (search_answer file work list) ≡ SearchResult.Complete n v
+      into : Completable n v → search_result (search_answer file work list) ≡ Ok (Listed.Complete n v)
       into (p, c, enough, long, fits, by) =
           ap search_result (answer_complete file work list p c enough (omega arith)) ∙ rw (long, by)
 
   -- a complete list is the search's, entry for entry
-  pub complete_lists : (n : ℕ) (v : Verdict) → search_result (search_answer file work list) ≡ SearchResult.Complete n v
+  pub complete_lists : (n : ℕ) (v : Verdict) → search_result (search_answer file work list) ≡ Ok (Listed.Complete n v)
       → (search_answer file work list ≡ complete (listed (search_answer file work list))) × (v ≡ verdict (listed (search_answer file work list)))
   unfolding listed
   complete_lists n v is =
@@ -147,13 +148,13 @@ module _ (file : List ℕ) (work list : ℕ) where
       rw a (refl, by)
 
   -- and so is a list cut short, as far as it goes
-  pub full_lists : (n : ℕ) → search_result (search_answer file work list) ≡ SearchResult.Full n
+  pub full_lists : (n : ℕ) → search_result (search_answer file work list) ≡ Ok (Listed.Full n)
       → search_answer file work list ≡ cut_short (listed (search_answer file work list))
   unfolding listed
   full_lists n is = let (es, a, long) = full_shows (search_answer file work list) n (sym is) in rw a
 
   -- with any other refusal nothing is listed
-  pub refused_lists : (why : Refusal) → search_result (search_answer file work list) ≡ SearchResult.Refused why → listed (search_answer file work list) ≡ []
+  pub refused_lists : (why : Refusal) → search_result (search_answer file work list) ≡ Err why → listed (search_answer file work list) ≡ []
   unfolding listed
   refused_lists why is = rw (refused_is (search_answer file work list) why (sym is))
 

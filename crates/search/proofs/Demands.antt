@@ -13,6 +13,7 @@ use mathlib.Core.Logic.{◌⊎◌, ◌↔◌, ◌≢◌}
 use mathlib.Core.List.{List, [], ◌∷◌, ◌++◌}
 use mathlib.Core.Option.{none, some}
 use lib.ListN.{length, get_elem?, take, drop}
+use Rattle.std.specs.Prelude.{Result, Ok, Err}
 use Rattle.reach.specs.declared.Refusal.{Refusal}
 use Rattle.reach.specs.declared.Refusal.TheVariants.{WorkTooShort}
 use Rattle.reach.specs.declared.Verdict.{Verdict}
@@ -38,14 +39,14 @@ use Rattle.reach.proofs.Answers.{listed_in, complete_is}
 use Rattle.lists.proofs.ReadBack.{listed_fits, written_read_back}
 use Rattle.reach.proofs.Before.{search_before, same_search}
 use Rattle.reach.proofs.Demands as Reach
-use Rattle.results.specs.declared.SearchResult.{SearchResult}
+use Rattle.results.specs.declared.Listed.{Listed}
 use Rattle.results.specs.Results.{search_result, list_length_in, refusal_in, verdict_in}
 use Rattle.search.specs.Answering.{WordsAfter, SearchPromise, ReadsAs}
 use Rattle.exploring.proofs.Cutting.{size_more, written_none, written_length}
 use Rattle.search.proofs.Called.{length_is, refusal_is, verdict_is, refused_when, full_when, complete_when, complete_lists, full_lists, refused_lists, listed_room, room_inside, written_take, written_drop, member_number, says_spent, says_missing}
 use Rattle.search.proofs.Reading.{part_of, reads_exactly, reads_or_empty}
 
-module _ (file work work' before after : List ℕ) (r : SearchResult) (call : SearchPromise file work work' before after r) where
+module _ (file work work' before after : List ℕ) (r : Result Listed Refusal) (call : SearchPromise file work work' before after r) where
   -- the definition's answer, which the call shows, and the entries listed
   abbrev answer : SearchAnswer
   answer = search_answer file (length work) (length before)
@@ -83,7 +84,7 @@ module _ (file work work' before after : List ℕ) (r : SearchResult) (call : Se
   -- The refusals of 1 to 9 and 15 are the check's, in the order of tests of 01 that `check` takes; 11 is given for an accepted file where "the work slice
   -- of 32-bit words is shorter than 64 × S + 1,024". No other number comes with this answer.
   pub refused_exactly : (why : Refusal)
-      → (r ≡ SearchResult.Refused why)
+      → (r ≡ Err why)
       ↔ ((OfFile why × (check file ≡ turned_back why))
       ⊎ ((why ≡ WorkTooShort) × ((p : Program) × (check file ≡ accepted p) × (length work < work_words p.steps))))
   refused_exactly why = rw call.answer_is (refused_when file (length work) (length before) why)
@@ -91,20 +92,20 @@ module _ (file work work' before after : List ℕ) (r : SearchResult) (call : Se
   -- 01, "Turned back", refusal 12: "the next entry does not fit the list slice". It is given exactly where some next entry does not fit behind the first ones,
   -- and "the list holds all earlier entries": their length is the one returned.
   pub full_exactly : (n : ℕ)
-      → (r ≡ SearchResult.Full n)
+      → (r ≡ Ok (Listed.Full n))
       ↔ ((p : Program) × (es : List Entry) × (next : Entry) × (rest : List Entry) × (check file ≡ accepted p) × (work_words p.steps ≤ length work)
       × (entries p ≡ es ++ (next ∷ rest)) × (n ≡ length (list_bytes es)) × (n ≤ room_of (length before)) × (room_of (length before) < n + length (entry_bytes next)))
   full_exactly n = rw call.answer_is (full_when file (length work) (length before) n)
 
   -- A complete list is given exactly where all entries fit: its length and its verdict are theirs.
   pub complete_exactly : (n : ℕ) (v : Verdict)
-      → (r ≡ SearchResult.Complete n v)
+      → (r ≡ Ok (Listed.Complete n v))
       ↔ ((p : Program) × (check file ≡ accepted p) × (work_words p.steps ≤ length work) × (n ≡ length (list_bytes (entries p))) × (n ≤ room_of (length before))
       × (v ≡ verdict (entries p)))
   complete_exactly n v = rw call.answer_is (complete_when file (length work) (length before) n v)
 
   -- 01, "Turned back": "Refusals 1 to 11 change no buffer." 02, Slip 4: nor does 15.
-  pub refused_unchanged : (why : Refusal) → r ≡ SearchResult.Refused why → (after ≡ before) × (work' ≡ work)
+  pub refused_unchanged : (why : Refusal) → r ≡ Err why → (after ≡ before) × (work' ≡ work)
   refused_unchanged why is = (
     call.list_is
         ∙ rw (refused_lists file (length work) (length before) why (sym call.answer_is ∙ is)) (written_none before),
@@ -169,18 +170,18 @@ module _ (file work work' before after : List ℕ) (r : SearchResult) (call : Se
 
     -- 01, "Turned back": "With 12 the list holds all earlier entries, the bytes after them are as before, and no verdict is given." The list is that of the
     -- first entries, and the next one does not fit behind it.
-    pub full_reads : (n : ℕ) → r ≡ SearchResult.Full n
+    pub full_reads : (n : ℕ) → r ≡ Ok (Listed.Full n)
         → (es : List Entry) × (next : Entry) × (rest : List Entry) × (entries p ≡ es ++ (next ∷ rest)) × (n ≡ length (list_bytes es))
         × (room_of (length before) < n + length (entry_bytes next)) × ((k : ℕ) (e : Entry) → ReadsAs p (take n after) k e ↔ (get_elem? es k ≡ some e))
     full_reads n is =
         let part = full_lists file (length work) (length before) n (sym call.answer_is ∙ is) in
         let (next, rest, all, fits, over) = Reach.full_prefix file (length work) (length before) p checked shown part in
-        let long : n ≡ length (list_bytes shown) = subst (λ (a : SearchResult). list_length_in a ≡ length (list_bytes shown)) is shown_length in
-        let reads = subst (λ (a : SearchResult). (k : ℕ) (e : Entry) → ReadsAs p (take (list_length_in a) after) k e ↔ (get_elem? shown k ≡ some e)) is entry_reads in
+        let long : n ≡ length (list_bytes shown) = subst (λ (a : Result Listed Refusal). list_length_in a ≡ length (list_bytes shown)) is shown_length in
+        let reads = subst (λ (a : Result Listed Refusal). (k : ℕ) (e : Entry) → ReadsAs p (take (list_length_in a) after) k e ↔ (get_elem? shown k ≡ some e)) is entry_reads in
         (shown, next, rest, all, long, omega (arith, over, size_more shown next), reads)
 
     -- A complete list.
-    module _ (n : ℕ) (v : Verdict) (is : r ≡ SearchResult.Complete n v) where
+    module _ (n : ℕ) (v : Verdict) (is : r ≡ Ok (Listed.Complete n v)) where
       whole : answer ≡ complete shown
       whole = (complete_lists file (length work) (length before) n v (sym call.answer_is ∙ is)).0
 
@@ -188,7 +189,7 @@ module _ (file work work' before after : List ℕ) (r : SearchResult) (call : Se
       all_shown = complete_is file (length work) (length before) p checked shown whole
 
       reads_at : (k : ℕ) (e : Entry) → ReadsAs p (take n after) k e ↔ (get_elem? shown k ≡ some e)
-      reads_at = subst (λ (a : SearchResult). (k : ℕ) (e : Entry) → ReadsAs p (take (list_length_in a) after) k e ↔ (get_elem? shown k ≡ some e)) is entry_reads
+      reads_at = subst (λ (a : Result Listed Refusal). (k : ℕ) (e : Entry) → ReadsAs p (take (list_length_in a) after) k e ↔ (get_elem? shown k ≡ some e)) is entry_reads
 
       -- 01, "The list": "The search's list, entry for entry and in order, and its verdict, where one is given, are those that the papers define."
       pub complete_reads : (k : ℕ) (e : Entry) → ReadsAs p (take n after) k e ↔ (get_elem? (entries p) k ≡ some e)
@@ -210,7 +211,7 @@ module _ (file work work' before after : List ℕ) (r : SearchResult) (call : Se
           → ((k : ℕ) × (e : Entry) × ReadsAs p (take n after) k e × Completes j e.input × (e.kind ≡ MI) × (e.steps ≡ steps)) ↔ MissingAfter p j steps
       missing_exactly j within steps = (
         λ h. let (k, e, reads, completes, kind, same) = h in
-            let e-reads = subst (λ (a : SearchResult). ReadsAs p (take (list_length_in a) after) k e) (sym is) reads in
+            let e-reads = subst (λ (a : Result Listed Refusal). ReadsAs p (take (list_length_in a) after) k e) (sym is) reads in
             (Reach.missing_exactly p j steps).0 (entry_true k e e-reads j within.0 completes ∙ ap (λ (x : Kind). says x e.steps) kind ∙ ap missing same),
         λ m. let ends = (Reach.missing_exactly p j steps).1 m in
             let (k, e, reads, completes, so) = list_covers j within (rw ends tt) in

@@ -1,7 +1,8 @@
 -- What a caller of `search` reads: the answer, the list in the caller's slice and the words afterwards, in terms of reach's definition; and what a caller
 -- takes from the bytes of its list.
 -- Rests on reach's Answers, Search and Lists, on machine's Cells for what the words stand for, and on Results of crate results.
-use Rattle.std.specs.Prelude.{ℕ, ◌≡◌, List, [], ◌∷◌, ◌++◌, length, drop}
+use Rattle.std.specs.Prelude.{ℕ, ◌≡◌, List, [], ◌∷◌, ◌++◌, length, drop, Result, Ok, Err}
+use Rattle.reach.specs.declared.Refusal.{Refusal}
 use Rattle.reach.specs.Limits.{work_words}
 use Rattle.reach.specs.Syntax.{Program, source_types}
 use Rattle.reach.specs.Types.{Typed, source_slots}
@@ -9,18 +10,18 @@ use Rattle.reach.specs.Search.{Entry, open_input, entries}
 use Rattle.reach.specs.Lists.{list_bytes, written, entry_part, saying_of, decoded}
 use Rattle.reach.specs.Answers.{check, accepted, search_answer, listed}
 use Rattle.machine.specs.Cells.{Cells}
-use Rattle.results.specs.declared.SearchResult.{SearchResult}
+use Rattle.results.specs.declared.Listed.{Listed}
 use Rattle.results.specs.Results.{search_result}
 
 -- A refusal but 12 changes no word, and a search none behind its first 64 S + 1,024 words. Those first words are its own: where the list is complete,
 -- every parameter is open in its cell again; where it was cut short, the cells stand for the input of the entry that did not fit.
-abbrev pub WordsAfter : SearchResult → List ℕ → List ℕ → List ℕ → Type 0
-WordsAfter (SearchResult.Refused why) file w w' = w' ≡ w
-WordsAfter (SearchResult.Complete n v) file w w' =
+abbrev pub WordsAfter : Result Listed Refusal → List ℕ → List ℕ → List ℕ → Type 0
+WordsAfter (Err why) file w w' = w' ≡ w
+WordsAfter (Ok (Listed.Complete n v)) file w w' =
     (p : Program) → check file ≡ accepted p
     → (drop (work_words p.steps) w' ≡ drop (work_words p.steps) w)
     × Cells p.types (source_slots p) w' (length (source_types p)) (open_input p)
-WordsAfter (SearchResult.Full n) file w w' =
+WordsAfter (Ok (Listed.Full n)) file w w' =
     (p : Program) → check file ≡ accepted p
     → (drop (work_words p.steps) w' ≡ drop (work_words p.steps) w)
     × ((listed : List Entry) × (next : Entry) × (rest : List Entry) × (cells : ℕ) × (entries p ≡ listed ++ (next ∷ rest)) × (n ≡ length (list_bytes listed))
@@ -28,7 +29,7 @@ WordsAfter (SearchResult.Full n) file w w' =
 
 -- What the call promises, and all that it promises: of its answer; of the list slice, which held the bytes `before` (the entries of the definition's
 -- answer stand at its front, and the bytes after them are as before); and of the words.
-pub record SearchPromise (file work work' before after : List ℕ) (r : SearchResult) : Type 0 where
+pub record SearchPromise (file work work' before after : List ℕ) (r : Result Listed Refusal) : Type 0 where
   pub answer_is : r ≡ search_result (search_answer file (length work) (length before))
   pub list_is : after ≡ written (listed (search_answer file (length work) (length before))) before
   pub words_are : WordsAfter r file work work'

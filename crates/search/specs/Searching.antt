@@ -11,7 +11,7 @@ use Rattle.loaded.specs.Beginning.{GivenFile}
 use Rattle.depths.specs.Table.{padded}
 use Rattle.choices.specs.Choices.{Setting}
 use Rattle.choices.specs.Returning.{setting}
-use Rattle.results.specs.declared.SearchResult.{SearchResult}
+use Rattle.results.specs.declared.Listed.{Listed}
 use Rattle.exploring.specs.Exploring.{Explored}
 
 -- A checked file with its tables, its least depths and its goal, and as many words as its search needs.
@@ -30,6 +30,6 @@ abbrev pub SomeSearchable : (file types functions least : List ℕ) (goal : Goal
 SomeSearchable file types functions least goal w = (p : Program) × Searchable file types functions least goal w p
 
 -- the list and the answer are those of every program that is
-abbrev pub ExploresThem : (file types functions least : List ℕ) (goal : Goal) (w w' l l' : List ℕ) → SearchResult → Type 0
+abbrev pub ExploresThem : (file types functions least : List ℕ) (goal : Goal) (w w' l l' : List ℕ) → Listed → Type 0
 ExploresThem file types functions least goal w w' l l' a =
     (p : Program) → Searchable file types functions least goal w p → Explored (setting_of file types functions least p) l l' w' a

@@ -16,10 +16,12 @@ use Rattle.reach.specs.Places.{bytes_at, constructors_at, type_at, head_at, decl
 use Rattle.reach.specs.RuleFile.{Declarations}
 use Rattle.codes.proofs.Encoding.{places}
 use Rattle.reach.proofs.Places.{bytes_length}
-use Rattle.lookups.specs.Fields.{fields_of, fields_in}
+use Rattle.std.specs.Prelude.{Some, None}
+use Rattle.std.specs.Prelude as Std
+use Rattle.lookups.specs.Fields.{field_types, fields_in}
 use Rattle.lookups.specs.Heads.{head_of}
 use Rattle.lookups.specs.declared.Constructors.{Constructors}
-use Rattle.lookups.specs.declared.Fields.{Fields}
+use Rattle.lookups.specs.declared.FieldTypes.{FieldTypes}
 use Rattle.lookups.specs.declared.Head.{Head}
 use Rattle.lookups.proofs.Tables.{parameters_many, constructors_many}
 use Rattle.machine.specs.Records.{Code, CodeAll, CodeAlternatives}
@@ -77,46 +79,46 @@ module _ (file types functions ends : List ℕ) (k : ℕ) (filled : EndsFrom fil
 
     -- a call has as many operands as the function has parameters
     call_end : (head : Head) → head_of file head ≡ head_at file (get_or functions (get_or file (i + 1) 0) 0) → (x : Expr) → Coded 1 x → Code file d i x
-        → passed_operands ends head.count (i + 2) ≡ i + length (encode x)
+        → passed_operands ends head.parameters.count (i + 2) ≡ i + length (encode x)
     unfolding encode declarations_at
     call_end head told x (a_call {f} {es}) there =
         let at = code_call file d i f es there in
         let (h, known, many, _) = there.1 in
         let same : head_of file head ≡ h = told ∙ (ap (λ (n : ℕ). head_at file (get_or functions n 0)) at.1.1 ∙ mapped (head_at file) functions f h known) in
-        let z : head.count ≡ count es = sym (parameters_many file head same) ∙ sym many in
+        let z : head.parameters.count ≡ count es = sym (parameters_many file head same) ∙ sym many in
         rw z (omega (arith, passed_all (i + 2) es (omega arith) at.2))
 
     pub end_call : get_or file i 0 ≡ 1 → (head : Head) → head_of file head ≡ head_at file (get_or functions (get_or file (i + 1) 0) 0)
-        → EndAt file types functions i (passed_operands ends head.count (i + 2))
+        → EndAt file types functions i (passed_operands ends head.parameters.count (i + 2))
     end_call is head told x there = call_end head told x (kind x is there) there
 
     -- a construction has as many operands as its constructor has fields
-    construct_end : {first n : ℕ} (r : Fields) → fields_of file r ≡ fields_in file types (get_or file (i + 1) 0) (get_or file (i + 2) 0) → r ≡ Fields.At first n
-        → (x : Expr) → Coded 2 x → Code file d i x → passed_operands ends n (i + 3) ≡ i + length (encode x)
+    construct_end : {found : FieldTypes} (r : Std.Option FieldTypes) → field_types file r ≡ fields_in file types (get_or file (i + 1) 0) (get_or file (i + 2) 0) → r ≡ Some found
+        → (x : Expr) → Coded 2 x → Code file d i x → passed_operands ends found.count (i + 3) ≡ i + length (encode x)
     unfolding encode declarations_at
-    construct_end {first} {n} r told found x (a_construct {t} {c} {es}) there =
+    construct_end {found} r told is x (a_construct {t} {c} {es}) there =
         let at = code_construct file d i t c es there in
         let (us, known, many, _) = there.1 in
-        let same : some (bytes_at file first n) ≡ some us =
-        ap (fields_of file) (sym found) ∙ (told ∙ (ap₂ (fields_in file types) at.1.1 at.2.1 ∙ known)) in
-        let z : n ≡ count es = sym (bytes_length file first n) ∙ (ap length (some-injective _ _ same) ∙ sym many) in
+        let same : some (bytes_at file found.at found.count) ≡ some us =
+        ap (field_types file) (sym is) ∙ (told ∙ (ap₂ (fields_in file types) at.1.1 at.2.1 ∙ known)) in
+        let z : found.count ≡ count es = sym (bytes_length file found.at found.count) ∙ (ap length (some-injective _ _ same) ∙ sym many) in
         rw z (omega (arith, passed_all (i + 3) es (omega arith) at.3))
 
-    pub end_construct : {first n : ℕ} → get_or file i 0 ≡ 2 → (r : Fields) → fields_of file r ≡ fields_in file types (get_or file (i + 1) 0) (get_or file (i + 2) 0)
-        → r ≡ Fields.At first n → EndAt file types functions i (passed_operands ends n (i + 3))
-    end_construct is r told found x there = construct_end r told found x (kind x is there) there
+    pub end_construct : {found : FieldTypes} → get_or file i 0 ≡ 2 → (r : Std.Option FieldTypes) → field_types file r ≡ fields_in file types (get_or file (i + 1) 0) (get_or file (i + 2) 0)
+        → r ≡ Some found → EndAt file types functions i (passed_operands ends found.count (i + 3))
+    end_construct is r told that x there = construct_end r told that x (kind x is there) there
 
     -- where the constructor is unknown, no construction stands
-    construct_no_end : (r : Fields) → fields_of file r ≡ fields_in file types (get_or file (i + 1) 0) (get_or file (i + 2) 0) → r ≡ Fields.Unknown
+    construct_no_end : (r : Std.Option FieldTypes) → field_types file r ≡ fields_in file types (get_or file (i + 1) 0) (get_or file (i + 2) 0) → r ≡ None
         → (x : Expr) → Coded 2 x → Code file d i x → ⊥
     unfolding declarations_at
     construct_no_end r told unknown x (a_construct {t} {c} {es}) there =
         let at = code_construct file d i t c es there in
         let (us, known, many, _) = there.1 in
-        none-ne-some us (ap (fields_of file) (sym unknown) ∙ (told ∙ (ap₂ (fields_in file types) at.1.1 at.2.1 ∙ known)))
+        none-ne-some us (ap (field_types file) (sym unknown) ∙ (told ∙ (ap₂ (fields_in file types) at.1.1 at.2.1 ∙ known)))
 
-    pub no_end : get_or file i 0 ≡ 2 → (r : Fields) → fields_of file r ≡ fields_in file types (get_or file (i + 1) 0) (get_or file (i + 2) 0)
-        → r ≡ Fields.Unknown → (end : ℕ) → EndAt file types functions i end
+    pub no_end : get_or file i 0 ≡ 2 → (r : Std.Option FieldTypes) → field_types file r ≡ fields_in file types (get_or file (i + 1) 0) (get_or file (i + 2) 0)
+        → r ≡ None → (end : ℕ) → EndAt file types functions i end
     no_end is r told unknown end x there = absurd (construct_no_end r told unknown x (kind x is there) there)
 
     -- a case has as many alternatives as its type has constructors

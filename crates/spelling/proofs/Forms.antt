@@ -1,23 +1,26 @@
 -- The tests of a name's type, at the places where the types' records stand.
 -- Rests on reach's Names and Places, and on the tables of lookups.
-use Prim.Native.Nat.{ℕ, zero, suc, ◌+◌, ◌-◌, ◌≤◌, ◌<◌}
+use Prim.Native.Nat.{ℕ, zero, suc, ◌+◌, ◌≤◌, ◌<◌}
 use mathlib.Core.Path.{◌≡◌, refl, sym, ap, ◌∙◌}
-use mathlib.Core.Bool.{false, ◌&&◌}
+use mathlib.Core.Bool.{false, ◌&&◌, and_assoc}
 use mathlib.Core.List.{List, [], ◌∷◌, map}
 use mathlib.Core.Option.{none, some, some-injective, none-ne-some}
 use native.Mathlib.Omega.{arith}
 use lib.ListN.{length, get_or, get_elem?}
 use lib.Dec.{eqb}
-use borrow.Author.Tests.{eq-eqb, ne_eqb}
-use Rattle.reach.specs.Syntax.{Types, field_types}
+use borrow.Author.Tests.{ne_eqb}
+use Rattle.std.specs.Prelude.{Option, Some, None}
+use Rattle.reach.specs.Syntax.{Types}
+use Rattle.reach.specs.Syntax as Syntax
 use Rattle.reach.specs.Places.{bytes_at, constructors_at, type_at}
 use Rattle.reach.specs.Names.{fieldless, is_half, is_letter, is_name, spells}
 use Rattle.reach.proofs.Places.{bytes_length}
 use Rattle.lookups.specs.declared.Constructors.{Constructors}
-use Rattle.lookups.specs.declared.Fields.{Fields}
-use Rattle.lookups.specs.Fields.{fields_of, fields_in}
+use Rattle.lookups.specs.declared.FieldTypes.{FieldTypes}
+use Rattle.std.specs.List.{list_all}
+use Rattle.lookups.specs.Fields.{field_types, fields_in, places_at}
 use Rattle.spelling.specs.Letter.{has_letter}
-use Rattle.lookups.proofs.Tables.{entry, no_entry, constructors_more, constructors_length}
+use Rattle.lookups.proofs.Tables.{entry, no_entry, constructors_length}
 
 -- the element of a number, and what stands for none
 at_some : {A : Type 0} (xs : List A) (n : ℕ) (d : A) {x : A} → get_elem? xs n ≡ some x → get_or xs n d ≡ x
@@ -31,17 +34,12 @@ at_none (y ∷ xs) zero d e = absurd (none-ne-some y (sym e))
 at_none (y ∷ xs) (suc n) d e = at_none xs n d e
 
 module _ (s : List ℕ) where
-  -- Constructors without fields: the first of those from a place on has one, or it has none and the next begins behind its count.
+  -- Constructors without fields, by the number of fields of each.
 
-  pub field_here : (i n : ℕ) → 0 < n → (get_or s i 0 ≡ 0 → ⊥) → fieldless (constructors_at s i n) ≡ false
-  unfolding fieldless
-  field_here i n h k = rw (constructors_more s i n h, bytes_length s, ne_eqb _ _ k)
-
-  pub none_here : (i n : ℕ) → 0 < n → get_or s i 0 ≡ 0 → fieldless (constructors_at s i n) ≡ fieldless (constructors_at s (i + 1) (n - 1))
-  unfolding fieldless
-  none_here i n h k =
-      let z : i + 1 + get_or s i 0 ≡ i + 1 = omega (arith, k) in
-      rw (constructors_more s i n h, bytes_length s, eq-eqb _ _ k, z)
+  pub none_has : (at n : ℕ) → list_all (λ p. eqb p.1 0) (places_at s at n) ≡ fieldless (constructors_at s at n)
+  unfolding places_at constructors_at fieldless
+  none_has at zero = refl
+  none_has at (suc n) = rw (bytes_length s (at + 1) (get_or s at 0), none_has (at + 1 + get_or s at 0) n)
 
   -- The constructors of a type that is there, and of one that is not.
 
@@ -59,23 +57,26 @@ module _ (s : List ℕ) where
 
     -- The fields of a letter, by the answer to where those of constructor 1 stand.
 
-    module _ (r : Fields) (told : fields_of s r ≡ fields_in s places t 1) where
-      pub no_letter : r ≡ Fields.Unknown → has_letter types t ≡ false
-      unfolding field_types is_letter
-      no_letter is = rw (at_none (get_or types t []) 1 [] (sym told ∙ ap (fields_of s) is))
+    module _ (r : Option FieldTypes) (told : field_types s r ≡ fields_in s places t 1) where
+      pub no_letter : r ≡ None → has_letter types t ≡ false
+      unfolding Syntax.field_types is_letter
+      no_letter is = rw (at_none (get_or types t []) 1 [] (sym told ∙ ap (field_types s) is))
 
-      fields_are : {i n : ℕ} → r ≡ Fields.At i n → get_or (get_or types t []) 1 [] ≡ bytes_at s i n
-      unfolding field_types
-      fields_are is = at_some (get_or types t []) 1 [] (sym told ∙ ap (fields_of s) is)
+      module _ {fields : FieldTypes} (is : r ≡ Some fields) where
+        fields_are : get_or (get_or types t []) 1 [] ≡ bytes_at s fields.at fields.count
+        unfolding Syntax.field_types
+        fields_are = at_some (get_or types t []) 1 [] (sym told ∙ ap (field_types s) is)
 
-      pub not_three : {i n : ℕ} → r ≡ Fields.At i n → (n ≡ 3 → ⊥) → has_letter types t ≡ false
-      unfolding is_letter
-      not_three {i} {n} is k = rw (fields_are is, bytes_length s i n, ne_eqb n 3 k)
+        pub not_three : (fields.count ≡ 3 → ⊥) → has_letter types t ≡ false
+        unfolding is_letter
+        not_three k = rw (fields_are, bytes_length s fields.at fields.count, ne_eqb fields.count 3 k)
 
-      pub three : {i n : ℕ} → r ≡ Fields.At i n → n ≡ 3
-          → has_letter types t ≡ is_half types (get_or s i 0) && (is_half types (get_or s (i + 1) 0) && eqb (get_or s (i + 2) 0) t)
-      unfolding is_letter bytes_at
-      three {i} {n} is k = let z : i + 1 + 1 ≡ i + 2 = omega arith in rw (fields_are is, k, z)
+        pub three : fields.count ≡ 3
+            → has_letter types t ≡ (is_half types (get_or s fields.at 0) && is_half types (get_or s (fields.at + 1) 0)) && eqb (get_or s (fields.at + 2) 0) t
+        unfolding is_letter bytes_at
+        three k =
+            let z : fields.at + 1 + 1 ≡ fields.at + 2 = omega arith in
+            rw (fields_are, k, z) (sym (and_assoc (is_half types (get_or s fields.at 0)) _ _))
 
     -- How many constructors there are, and what the first two have.
 

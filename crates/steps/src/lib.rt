@@ -1,5 +1,5 @@
 // The evaluation in the lent words: one step, and steps one after the other. Records of environments, of waiting cases and of waiting fields are added at
-// the top and never changed; expressions are read where they stand in the file. Rests on crates registers, unfolding, choosing and turning.
+// the top and never changed; expressions are read where they stand in the file. Rests on crates marks, registers, unfolding, choosing and turning.
 #![tactic(auto)]
 
 ghost use Rattle.std.specs.Prelude.{◌≡◌};
@@ -10,7 +10,7 @@ ghost use Rattle.steps.specs.Running.{Onward, RunsToResult, RunsOn};
 
 use choosing::{step_construct, step_part};
 use marks::byte_or_zero;
-use registers::{EXPRESSION, Next, PART, Registers};
+use registers::{EXPRESSION, Evaluation, Next, PART, Registers};
 use turning::step_result;
 use unfolding::{step_call, step_case, step_let, step_target, step_variable};
 
@@ -33,147 +33,101 @@ pub struct Ran {
     pub steps: usize,
 }
 
-// An expression's step, by its code, in the order of 000, section 3.3: construction, target, variable, call, let, case.
-fn step_expression<'a>(
-    file: &'a [u8],
-    types: &'a [u16],
-    functions: &'a [u16],
-    ends: &'a [u16],
-    label: usize,
-    work: &mut [u32],
-    base: usize,
-    at: usize,
-    env: usize,
-    r: Registers,
-) -> Next
-    requires { Ends file.now types.now functions.now ends.now × Standing file.now types.now functions.now work.old base r × (control_in r ≡ expression_at at env) }
-    ensures { Looked file.now types.now functions.now work.old work.new base label r result }
+// An expression's step, by its code, in the order of 000, section 3.3: construction, target, variable, call, let, case. (Here and below a clause asks that the
+// table of ends is filled, and not `Evaluation`: `step_construct`, `step_part` and `enter_part` promise for any table. The codes are numbers, as they stand in
+// the file: an enum made from the byte would be matched on at once, and nowhere else.)
+fn step_expression(run: &Evaluation, work: &mut [u32], r: Registers) -> Next
+    requires standing { let rules = run.now.program.rules in
+        Standing rules.file.now rules.types.now rules.functions.now work.old run.now.store.at r × (control_in r ≡ expression_at r.place r.env) }
+    requires ends { let p = run.now.program in Ends p.rules.file.now p.rules.types.now p.rules.functions.now p.ends.now }
+    ensures { let rules = run.now.program.rules in
+        Looked rules.file.now rules.types.now rules.functions.now work.old work.new run.now.store.at run.now.label r result }
 {
-    let code = byte_or_zero(file, at);
+    let code = byte_or_zero(run.program.rules.file, r.place);
     match code {
-        2 => step_construct(file, types, ends, work, base, at, env, r),
-        5 => step_target(file, label, at, env, r),
-        0 => Next::Goes(step_variable(file, ends, work, base, at, env, r)),
-        1 => Next::Goes(step_call(file, functions, work, base, at, env, r)),
-        4 => Next::Goes(step_let(file, ends, work, base, at, env, r)),
-        _ => Next::Goes(step_case(file, ends, work, base, at, env, r)),
+        2 => step_construct(run, work, r),
+        5 => step_target(run, r),
+        0 => Next::Goes(step_variable(run, work, r)),
+        1 => Next::Goes(step_call(run, work, r)),
+        4 => Next::Goes(step_let(run, work, r)),
+        _ => Next::Goes(step_case(run, work, r)),
     }
 }
 
 // One step; a result is left alone.
-fn step<'a>(
-    file: &'a [u8],
-    types: &'a [u16],
-    functions: &'a [u16],
-    ends: &'a [u16],
-    label: usize,
-    work: &mut [u32],
-    base: usize,
-    r: Registers,
-) -> Next
-    requires { Ends file.now types.now functions.now ends.now × Standing file.now types.now functions.now work.old base r }
-    ensures { Looked file.now types.now functions.now work.old work.new base label r result }
+fn step(run: &Evaluation, work: &mut [u32], r: Registers) -> Next
+    requires standing { let rules = run.now.program.rules in
+        Standing rules.file.now rules.types.now rules.functions.now work.old run.now.store.at r }
+    requires ends { let p = run.now.program in Ends p.rules.file.now p.rules.types.now p.rules.functions.now p.ends.now }
+    ensures { let rules = run.now.program.rules in
+        Looked rules.file.now rules.types.now rules.functions.now work.old work.new run.now.store.at run.now.label r result }
 {
-    let kind = r.kind;
-    match kind {
-        EXPRESSION => step_expression(
-            file, types, functions, ends, label, work, base, r.place, r.env, r,
-        ),
-        PART => step_part(file, types, ends, work, base, r.place, r),
+    match r.kind {
+        EXPRESSION => step_expression(run, work, r),
+        PART => step_part(run, work, r),
         _ => Next::Lacks,
     }
 }
 
-// Steps end here.
-fn halted(registers: Registers, halt: Halt, steps: usize) -> Ran
-    ensures { result ≡ record { registers = registers; halt = halt; steps = steps } }
-{
-    Ran {
-        registers,
-        halt,
-        steps,
-    }
-}
-
-// Steps one after the other from registers on, at most so many, up to the first result.
-fn run_to_result<'a>(
-    file: &'a [u8],
-    types: &'a [u16],
-    functions: &'a [u16],
-    ends: &'a [u16],
-    label: usize,
-    work: &mut [u32],
-    base: usize,
-    from: Registers,
-    left: usize,
-) -> Ran
-    requires ends { Ends file.now types.now functions.now ends.now }
-    requires onward { Onward file.now types.now functions.now label work.old base from left }
-    ensures { RunsToResult file.now types.now functions.now label work.old work.new base from left result }
+// Steps one after the other from registers on, at most so many, up to the first result. (A `loop` and no `for` over them: with none left it looks once
+// more, for what comes next there, and that look behind a `for` would be a second call of `step`, docs/DECISIONS.md 48.)
+fn run_to_result(run: &Evaluation, work: &mut [u32], from: Registers, left: usize) -> Ran
+    requires onward { let rules = run.now.program.rules in
+        Onward rules.file.now rules.types.now rules.functions.now run.now.label work.old run.now.store.at from left }
+    requires ends { let p = run.now.program in Ends p.rules.file.now p.rules.types.now p.rules.functions.now p.ends.now }
+    ensures { let rules = run.now.program.rules in
+        RunsToResult rules.file.now rules.types.now rules.functions.now run.now.label work.old work.new run.now.store.at from left result }
 {
     let mut r = from;
     let mut done: usize = 0;
     loop {
-        let next = step(file, types, functions, ends, label, work, base, r);
-        match next {
-            Next::Demands => return halted(r, Halt::Demands, done),
-            Next::Lacks => return halted(r, Halt::Lacks, done),
-            Next::Stops => return halted(r, Halt::Stops, done),
-            Next::Waits(x) => return halted(r, Halt::Waits(x), done),
+        let next = step(run, work, r);
+        let halt = match next {
+            Next::Demands => Halt::Demands,
+            Next::Lacks => Halt::Lacks,
+            Next::Stops => Halt::Stops,
+            Next::Waits(x) => Halt::Waits(x),
+            Next::Goes(_) if left <= done => Halt::Spent,
             Next::Goes(to) => {
-                if left <= done {
-                    return halted(r, Halt::Spent, done);
-                }
                 r = to;
+                done += 1;
+                continue;
             }
-        }
-        done += 1;
+        };
+        return Ran {
+            registers: r,
+            halt,
+            steps: done,
+        };
     }
 }
 
 // Steps one after the other from registers on, at most so many. (Results have a loop of their own around the other: what goes on behind them would cost the
-// other its registers.)
-pub fn run_on<'a>(
-    file: &'a [u8],
-    types: &'a [u16],
-    functions: &'a [u16],
-    ends: &'a [u16],
-    label: usize,
-    work: &mut [u32],
-    base: usize,
-    from: Registers,
-    left: usize,
-) -> Ran
-    requires ends { Ends file.now types.now functions.now ends.now }
-    requires onward { Onward file.now types.now functions.now label work.old base from left }
-    ensures { RunsOn file.now types.now functions.now label work.old work.new base from left result }
+// other its registers. A `loop` and no `for`: each turn takes as many steps as it comes to.)
+pub fn run_on(run: &Evaluation, work: &mut [u32], from: Registers, left: usize) -> Ran
+    requires onward { let rules = run.now.program.rules in
+        Onward rules.file.now rules.types.now rules.functions.now run.now.label work.old run.now.store.at from left }
+    requires ends { let p = run.now.program in Ends p.rules.file.now p.rules.types.now p.rules.functions.now p.ends.now }
+    ensures { let rules = run.now.program.rules in
+        RunsOn rules.file.now rules.types.now rules.functions.now run.now.label work.old work.new run.now.store.at from left result }
 {
     let mut r = from;
     let mut done: usize = 0;
     loop {
-        let ran = run_to_result(
-            file,
-            types,
-            functions,
-            ends,
-            label,
-            work,
-            base,
-            r,
-            left - done,
-        );
+        let ran = run_to_result(run, work, r, left - done);
         done += ran.steps;
-        let at = ran.registers;
-        let halt = ran.halt;
-        let Halt::Stops = halt else {
-            return halted(at, halt, done);
+        let here = Ran { steps: done, ..ran };
+        let Halt::Stops = ran.halt else {
+            return here;
         };
-        let next = step_result(file, types, ends, work, base, at);
-        let Next::Goes(to) = next else {
-            return halted(at, Halt::Stops, done);
+        let Some(to) = step_result(run, work, ran.registers) else {
+            return here;
         };
         if done >= left {
-            return halted(at, Halt::Spent, done);
+            return Ran {
+                halt: Halt::Spent,
+                ..here
+            };
         }
         r = to;
         done += 1;

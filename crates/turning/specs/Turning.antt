@@ -1,6 +1,6 @@
 -- What comes behind a result: its own fields, those that wait, or the end.
 -- Rests on registers' Stepping, machine's Records and lookups' Fields.
-use Rattle.std.specs.Prelude.{ℕ, ◌+◌, ◌*◌, ◌≤◌, ◌<◌, ◌≡◌, ◌⊎◌, List, get_or}
+use Rattle.std.specs.Prelude.{ℕ, ◌+◌, ◌*◌, ◌≤◌, ◌<◌, ◌≡◌, List, get_or, Option, Some, None}
 use Rattle.machine.specs.Records.{record_word, no_case, FrameBelow, OnlyTop}
 use Rattle.skipping.specs.Ends.{Ends}
 use Rattle.registers.specs.declared.Registers.{Registers}
@@ -33,6 +33,7 @@ pub data GoesOn (file types functions w w' : List ℕ) (base : ℕ) (r : Registe
 abbrev pub GoesOnBy : (file ends w w' : List ℕ) (base : ℕ) (r : Registers) → Next → Type 0
 GoesOnBy file ends w w' base r n = (types functions : List ℕ) → Ends file types functions ends → GoesOn file types functions w w' base r n
 
--- the end, or a turn to a field
-abbrev pub TurnsOrEnds : Next → Type 0
-TurnsOrEnds n = (n ≡ Next.Stops) ⊎ ((to : Registers) × (n ≡ Next.Goes to))
+-- what comes next behind a result: a turn to a field, or the end
+abbrev pub turned : Option Registers → Next
+turned (Some to) = Next.Goes to
+turned None = Next.Stops

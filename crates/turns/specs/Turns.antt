@@ -1,6 +1,7 @@
 -- What follows a mark, as a turn says.
 -- Rests on reach's RuleFile and on the enum of src/lib.rt.
-use Rattle.std.specs.Prelude.{ℕ, pred, ◌<◌, List, [], ◌∷◌}
+use Rattle.std.specs.Prelude.{ℕ, pred, ◌<◌, List, [], ◌∷◌, Result, Ok, Err}
+use Rattle.reach.specs.declared.Refusal.{Refusal}
 use Rattle.reach.specs.Syntax.{Types}
 use Rattle.reach.specs.Reader.{Got, got, refused, Reader, ◌>>=◌, give}
 use Rattle.reach.specs.RuleFile.{TY, in_turn, mark, type_record, more_types, Head, function_record, more_functions}
@@ -20,23 +21,23 @@ functions_from k = do
   fs ← more_functions k
   give (f ∷ fs)
 
-abbrev pub on_turn : {A : Type 0} → (ℕ → Got (List A)) → Turn → Got (List A)
-on_turn again (Turn.Again next) = again next
-on_turn again (Turn.Done next) = got [] next
-on_turn again (Turn.Refused why) = refused why
+abbrev pub on_turn : {A : Type 0} → (ℕ → Got (List A)) → Result Turn Refusal → Got (List A)
+on_turn again (Ok (Turn.Again next)) = again next
+on_turn again (Ok (Turn.Done next)) = got [] next
+on_turn again (Err why) = refused why
 
 -- what follows a mark, as the turn says
-abbrev pub types_turn : List ℕ → ℕ → Turn → Got Types
+abbrev pub types_turn : List ℕ → ℕ → Result Turn Refusal → Got Types
 types_turn s more t = on_turn (λ next. types_from (pred more) s next) t
 
-abbrev pub functions_turn : List ℕ → ℕ → Turn → Got (List Head)
+abbrev pub functions_turn : List ℕ → ℕ → Result Turn Refusal → Got (List Head)
 functions_turn s more t = on_turn (λ next. functions_from (pred more) s next) t
 
 -- one more record is called for only where one may come
-abbrev pub Room : ℕ → Turn → Type 0
-Room more (Turn.Again next) = 0 < more
-Room more (Turn.Done next) = Unit {0}
-Room more (Turn.Refused why) = Unit {0}
+abbrev pub Room : ℕ → Result Turn Refusal → Type 0
+Room more (Ok (Turn.Again next)) = 0 < more
+Room more (Ok (Turn.Done next)) = Unit {0}
+Room more (Err why) = Unit {0}
 
 -- the first mark must be that of a type
 unfoldable pub first_mark : Reader (Unit {0})

@@ -1,31 +1,31 @@
 -- What a step tells of its reader. A step forgets the value that was read; the definitions go on with it.
 -- Rests on Passed and on reach's Reader.
 use Prim.Native.Nat.{ℕ}
-use mathlib.Core.Path.{◌≡◌, refl, sym, ◌∙◌}
+use mathlib.Core.Path.{◌≡◌, refl, sym}
 use mathlib.Core.List.{List}
+use Rattle.std.specs.Prelude.{Ok, Err}
 use Rattle.reach.specs.declared.Refusal.{Refusal}
 use Rattle.reach.specs.Reader.{Got, got, refused, on_got, byte, times}
 use Rattle.reach.proofs.Base.{clash}
 use Rattle.typerecord.specs.Passed.{passed_of}
-use Rattle.typerecord.specs.declared.Passed.{Passed}
 
 -- a reader whose step goes on has found some value
-pub step_got : {A : Type 0} (g : Got A) {next : ℕ} → passed_of g ≡ Passed.Next next → (a : A) × (g ≡ got a next)
+pub step_got : {A : Type 0} (g : Got A) {next : ℕ} → passed_of g ≡ Ok next → (a : A) × (g ≡ got a next)
 step_got (got a next) e = (a, (cc))
 step_got (refused why) e = absurd (clash (cc))
 
 -- a step that is refused keeps the reason
-pub step_refused : {A : Type 0} (g : Got A) {why : Refusal} → passed_of g ≡ Passed.Refused why → g ≡ refused why
+pub step_refused : {A : Type 0} (g : Got A) {why : Refusal} → passed_of g ≡ Err why → g ≡ refused why
 step_refused (got a next) e = absurd (clash (cc))
 step_refused (refused why) e = cc
 
 -- so many bytes were read, or not: the code counts them by w
-module _ (s : List ℕ) (at : ℕ) {w n : ℕ} {r : Passed} (told : r ≡ passed_of (times w byte s at)) (same : w ≡ n) where
-  pub bytes_got : {next : ℕ} → r ≡ Passed.Next next → (us : List ℕ) × (times n byte s at ≡ got us next)
-  bytes_got found = step_got (times n byte s at) (sym (rw same at told) ∙ found)
+module _ (s : List ℕ) (at : ℕ) {w n : ℕ} (same : w ≡ n) where
+  pub bytes_got : {next : ℕ} → Ok next ≡ passed_of (times w byte s at) → (us : List ℕ) × (times n byte s at ≡ got us next)
+  bytes_got told = step_got (times n byte s at) (sym (rw same at told))
 
-  pub bytes_refused : {why : Refusal} → r ≡ Passed.Refused why → times n byte s at ≡ refused why
-  bytes_refused found = step_refused (times n byte s at) (sym (rw same at told) ∙ found)
+  pub bytes_refused : {why : Refusal} → Err why ≡ passed_of (times w byte s at) → times n byte s at ≡ refused why
+  bytes_refused told = step_refused (times n byte s at) (sym (rw same at told))
 
 -- a value that is turned into another one leaves the step as it is
 pub step_mapped : {A B : Type 0} (f : A → B) (g : Got A) → passed_of {A = B} (on_got {B = Got B} (λ a next. got (f a) next) (λ why. refused why) g) ≡ passed_of g

@@ -6,7 +6,8 @@ use mathlib.Core.Bool.{true, false, ◌&&◌}
 use mathlib.Core.List.{List}
 use lib.Dec.{leb}
 use borrow.Author.Tests.{le-leb, lt-leb}
-use Rattle.reach.specs.declared.Refusal.TheVariants.{OutOfRange, Truncated}
+use Rattle.reach.specs.declared.Refusal.{Refusal}
+use Rattle.reach.specs.declared.Refusal.TheVariants.{OutOfRange}
 use Rattle.reach.specs.Reader.{got, refused, byte}
 use Rattle.reach.specs.RuleFile.{counted}
 
@@ -27,9 +28,9 @@ module _ (least most : ℕ) (s : List ℕ) (at : ℕ) where
   unfolding counted
   counted_got {n} e l h = rw (e, between least most n l h)
 
-  pub counted_short : byte s at ≡ refused Truncated → counted least most s at ≡ refused Truncated
+  pub counted_refused : {why : Refusal} → byte s at ≡ refused why → counted least most s at ≡ refused why
   unfolding counted
-  counted_short e = rw e
+  counted_refused e = rw e
 
   pub counted_under : {n next : ℕ} → byte s at ≡ got n next → n < least → counted least most s at ≡ refused OutOfRange
   unfolding counted

@@ -3,6 +3,7 @@
 use Prim.Native.Nat.{ℕ, zero, suc, ◌+◌, ◌-◌, ◌≤◌, ◌<◌}
 use mathlib.Core.Path.{◌≡◌, refl, ◌∙◌}
 use mathlib.Core.List.{List, ◌∷◌}
+use Rattle.std.specs.Prelude.{Ok, Err}
 use lib.ListN.{length}
 use native.Mathlib.Omega.{arith}
 use native.Mathlib.Decide.{dec_le}
@@ -12,7 +13,6 @@ use Rattle.reach.specs.declared.Refusal.TheVariants.{Truncated}
 use Rattle.reach.specs.Reader.{got, refused, Reader, byte, times, passed}
 use Rattle.marks.proofs.Answers.{byte_there, byte_none}
 use Rattle.typerecord.specs.Passed.{passed_of}
-use Rattle.typerecord.specs.declared.Passed.{Passed}
 use Rattle.typerecord.proofs.Answers.{step_got, step_refused, step_mapped}
 
 -- n bytes from a place on that lie within the length, and that do not
@@ -29,35 +29,35 @@ module _ {A : Type 0} (m : Reader A) (s : List ℕ) where
   unfolding times
   times_got n at {a} {next} e = rw e (step_mapped (λ rest. a ∷ rest) (times n m s next))
 
-  times_refused : (n at : ℕ) {why : Refusal} → m s at ≡ refused why → passed_of (times (suc n) m s at) ≡ Passed.Refused why
+  times_refused : (n at : ℕ) {why : Refusal} → m s at ≡ refused why → passed_of (times (suc n) m s at) ≡ Err why
   unfolding times
   times_refused n at e = rw e
 
   -- one reading of more than none, which goes on
-  pub times_next : (more at : ℕ) {next : ℕ} → 0 < more → passed_of (m s at) ≡ Passed.Next next → passed_of (times more m s at) ≡ passed_of (times (more - 1) m s next)
+  pub times_next : (more at : ℕ) {next : ℕ} → 0 < more → passed_of (m s at) ≡ Ok next → passed_of (times more m s at) ≡ passed_of (times (more - 1) m s next)
   times_next zero at h e = absurd (omega arith)
   times_next (suc n) at h e = let z : suc n - 1 ≡ n = omega arith in rw z (times_got n at (step_got (m s at) e).1)
 
   -- no reading is left
-  pub times_done : (more at : ℕ) → more ≤ 0 → passed_of (times more m s at) ≡ Passed.Next at
+  pub times_done : (more at : ℕ) → more ≤ 0 → passed_of (times more m s at) ≡ Ok at
   unfolding times
   times_done zero at h = refl
   times_done (suc n) at h = absurd (omega arith)
 
   -- one reading of more than none, which is refused
-  pub times_stops : (more at : ℕ) {why : Refusal} → 0 < more → passed_of (m s at) ≡ Passed.Refused why → passed_of (times more m s at) ≡ Passed.Refused why
+  pub times_stops : (more at : ℕ) {why : Refusal} → 0 < more → passed_of (m s at) ≡ Err why → passed_of (times more m s at) ≡ Err why
   times_stops zero at h e = absurd (omega arith)
   times_stops (suc n) at h e = times_refused n at (step_refused (m s at) e)
 
 module _ (s : List ℕ) where
-  bytes_there : (n at : ℕ) → at + n ≤ length s → passed_of (times n byte s at) ≡ Passed.Next (at + n)
+  bytes_there : (n at : ℕ) → at + n ≤ length s → passed_of (times n byte s at) ≡ Ok (at + n)
   unfolding times
   bytes_there zero at h = let z : at + 0 ≡ at = omega arith in rw z
   bytes_there (suc n) at h =
       let z : at + suc n ≡ suc at + n = omega arith in
       rw z (times_got byte s n at (byte_there s at (omega arith)) ∙ bytes_there n (suc at) (omega arith))
 
-  bytes_none : (n at : ℕ) → length s < at + suc n → passed_of (times (suc n) byte s at) ≡ Passed.Refused Truncated
+  bytes_none : (n at : ℕ) → length s < at + suc n → passed_of (times (suc n) byte s at) ≡ Err Truncated
   bytes_none zero at h = times_refused byte s zero at (byte_none s at (omega arith))
   bytes_none (suc n) at h =
       elim (dec_le (length s) at) [

@@ -1,16 +1,16 @@
--- What the readers of crate reach find, as the enum Passed shows it; and the parts of two records that have a function of their own.
--- Rests on the enum and on reach's Reader and RuleFile.
-use Rattle.std.specs.Prelude.{ℕ, ◌&&◌, leb}
+-- What the readers of crate reach find, with their values forgotten; and the parts of two records that have a function of their own.
+-- Rests on reach's Reader and RuleFile.
+use Rattle.std.specs.Prelude.{ℕ, ◌&&◌, leb, Result, Ok, Err}
+use Rattle.reach.specs.declared.Refusal.{Refusal}
 use Rattle.reach.specs.declared.Refusal.TheVariants.{OutOfRange}
 use Rattle.reach.specs.Limits.{body_limit, depth_limit, step_limit}
 use Rattle.reach.specs.Reader.{Got, got, refused, Reader, ◌>>=◌, ◌>>◌, give, demand, word, passed}
 use Rattle.reach.specs.RuleFile.{counted}
-use Rattle.typerecord.specs.declared.Passed.{Passed}
 
 -- any reader, with its value forgotten
-abbrev pub passed_of : {A : Type 0} → Got A → Passed
-passed_of (got a next) = Passed.Next next
-passed_of (refused why) = Passed.Refused why
+abbrev pub passed_of : {A : Type 0} → Got A → Result ℕ Refusal
+passed_of (got a next) = Ok next
+passed_of (refused why) = Err why
 
 -- the end of a function's record: the body's length, then the body
 unfoldable pub body_part : Reader ℕ

@@ -55,8 +55,8 @@ call_next p e f es env fs g is = rw is
 
 module _
     (file functions w w' : List ℕ) (base i env : ℕ) (r : Registers) (head : Looked.Head) (ready : Ready file w base r 1 i env)
-    (is : head_of file head ≡ head_at file (get_or functions (get_or file (i + 1) 0) 0)) (small : head.count ≤ 255)
-    (wrote : Wrote w w' base r.records 0 head.count (i + 2) (env + 1))
+    (is : head_of file head ≡ head_at file (get_or functions (get_or file (i + 1) 0) 0)) (small : head.parameters.count ≤ 255)
+    (wrote : Wrote w w' base r.records 0 head.parameters.count (i + 2) (env + 1))
   where
     call_after : Registers
     call_after = record { kind = expression_kind; place = head.body; env = r.records; frame = r.frame; records = r.records + 1 }
@@ -72,7 +72,7 @@ module _
         let known = called file types functions f es arity.0 arity.1 arity.2 in
         let there = file_of.function_there f known.0 in
         let here : head_of file head ≡ head_at file (get_or functions f 0) = is ∙ ap (λ (k : ℕ). head_at file (get_or functions k 0)) bytes.1.1 in
-        let many : head.count ≡ count es = sym (known.1 ∙ parameters_many file head here) in
+        let many : head.parameters.count ≡ count es = sym (known.1 ∙ parameters_many file head here) in
         let body : (head_at file (get_or functions f 0)).body ≡ head.body = ap (λ (g : Head). g.body) (sym here) in (
           Eval.evaluating there.0.body (operands empty es env') fs,
           call_next p e f es env' fs there.0 there.1,

@@ -1,163 +1,131 @@
 // The steps of the expressions that look at no value: a variable, a call, a case that turns to its scrutinee, a let, a target. Rests on crates
-// machine, skipping, lookups and registers.
+// marks, machine, lookups and registers.
 #![tactic(auto)]
 
 ghost use Rattle.std.specs.Prelude.{◌≡◌, List, ℕ, ◌≤◌, ◌<◌};
 ghost use Rattle.machine.specs.Walks.{outside_of};
 ghost use Rattle.registers.specs.Stepping.{Standing, Ready, Leads, LeadsBy, Looked, VariableThere, Group};
 
-use lookups::{head_of, place_or_zero};
-use machine::{put_record, record_word};
+use machine::Store;
 use marks::byte_or_zero;
-use registers::{EXPRESSION, Next, PART, Registers};
-use skipping::pass_operands;
+use registers::{EXPRESSION, Evaluation, Next, PART, Registers};
 
 // How many variables are in view outside a group.
-fn outside_of(work: &[u32], base: usize, group: usize) -> usize
-    requires { (base ≤ 1000000) × (group < 4294967296) }
-    ensures { result ≡ outside_of work.now base group }
+fn outside_of(store: Store, work: &[u32], group: usize) -> usize
+    requires { group < 4294967296 }
+    ensures { result ≡ outside_of work.now store.at group }
 {
-    record_word(work, base, record_word(work, base, group, 0), 1)
+    store.word(work, store.word(work, group, 0), 1)
 }
 
-// The record of the group that holds variable n, from an environment outward.
-fn group_of(work: &[u32], base: usize, env: usize, n: usize) -> usize
-    requires { VariableThere work.now base n env × (base ≤ 1000000) × (env ≤ 1000000) }
-    ensures { Group work.now base n env result }
+// The record of the group that holds variable n, from an environment outward. (A `while`: the records say how many groups there are.)
+fn group_of(store: Store, work: &[u32], env: usize, n: usize) -> usize
+    requires { VariableThere work.now store.at n env × (env ≤ 1000000) }
+    ensures { Group work.now store.at n env result }
 {
     let mut group = env;
-    while n < outside_of(work, base, group) {
-        group = record_word(work, base, group, 0);
+    while n < outside_of(store, work, group) {
+        group = store.word(work, group, 0);
     }
     group
 }
 
 // A variable is followed to what it stands for.
-pub fn step_variable<'a>(
-    file: &'a [u8],
-    ends: &'a [u16],
-    work: &'a [u32],
-    base: usize,
-    at: usize,
-    env: usize,
-    r: Registers,
-) -> Registers
-    requires { ((types functions : List ℕ) × Standing file.now types functions work.now base r) × Ready file.now work.now base r 0 at env }
-    ensures { LeadsBy file.now ends.now work.now work.now base r result }
+pub fn step_variable(run: &Evaluation, work: &[u32], r: Registers) -> Registers
+    requires { let file = run.now.program.rules.file.now in
+        ((types functions : List ℕ) × Standing file types functions work.now run.now.store.at r) × Ready file work.now run.now.store.at r 0 r.place r.env }
+    ensures { let p = run.now.program in LeadsBy p.rules.file.now p.ends.now work.now work.now run.now.store.at r result }
 {
-    let n = byte_or_zero(file, at + 1);
-    let group = group_of(work, base, env, n);
-    let slot = n - outside_of(work, base, group);
-    let first = record_word(work, base, group, 2);
-    let inner = record_word(work, base, group, 3);
+    let store = run.store;
+    let n = byte_or_zero(run.program.rules.file, r.place + 1);
+    let group = group_of(store, work, r.env, n);
+    let slot = n - outside_of(store, work, group);
+    let first = store.word(work, group, 2);
+    let inner = store.word(work, group, 3);
     if inner == 0 {
         return Registers {
             kind: PART,
             place: first + slot,
             env: 0,
-            frame: r.frame,
-            records: r.records,
+            ..r
         };
     }
-    let place = pass_operands(ends, first, slot);
+    let place = run.program.pass_operands(first, slot);
     Registers {
         kind: EXPRESSION,
         place,
         env: inner - 1,
-        frame: r.frame,
-        records: r.records,
+        ..r
     }
 }
 
 // A call is unfolded: its operands become the variables of the function's body.
-pub fn step_call<'a>(
-    file: &'a [u8],
-    functions: &'a [u16],
-    work: &mut [u32],
-    base: usize,
-    at: usize,
-    env: usize,
-    r: Registers,
-) -> Registers
-    requires { Ready file.now work.old base r 1 at env }
-    ensures { (types : List ℕ) → Leads file.now types functions.now work.old work.new base r result }
+pub fn step_call(run: &Evaluation, work: &mut [u32], r: Registers) -> Registers
+    requires { Ready run.now.program.rules.file.now work.old run.now.store.at r 1 r.place r.env }
+    ensures { let p = run.now.program in
+        (types : List ℕ) → Leads p.rules.file.now types p.rules.functions.now work.old work.new run.now.store.at r result }
 {
-    let head = head_of(file, functions, byte_or_zero(file, at + 1));
+    let rules = &run.program.rules;
+    let head = rules.head(byte_or_zero(rules.file, r.place + 1));
     let top = r.records;
-    put_record(work, base, top, 0, head.count, at + 2, env + 1);
+    run.store.put(work, top, 0, head.parameters.count, r.place + 2, r.env + 1);
     Registers {
         kind: EXPRESSION,
         place: head.body,
         env: top,
-        frame: r.frame,
         records: top + 1,
+        ..r
     }
 }
 
 // A case turns to its scrutinee and waits.
-pub fn step_case<'a>(
-    file: &'a [u8],
-    ends: &'a [u16],
-    work: &mut [u32],
-    base: usize,
-    at: usize,
-    env: usize,
-    r: Registers,
-) -> Registers
-    requires { Ready file.now work.old base r 3 at env }
-    ensures { LeadsBy file.now ends.now work.old work.new base r result }
+pub fn step_case(run: &Evaluation, work: &mut [u32], r: Registers) -> Registers
+    requires { Ready run.now.program.rules.file.now work.old run.now.store.at r 3 r.place r.env }
+    ensures { let p = run.now.program in LeadsBy p.rules.file.now p.ends.now work.old work.new run.now.store.at r result }
 {
     let top = r.records;
-    let alternatives = place_or_zero(ends, at + 2);
-    put_record(work, base, top, alternatives, 0, env, r.frame);
+    let alternatives = run.program.end(r.place + 2);
+    run.store.put(work, top, alternatives, 0, r.env, r.frame);
     Registers {
         kind: EXPRESSION,
-        place: at + 2,
-        env,
+        place: r.place + 2,
         frame: top,
         records: top + 1,
+        ..r
     }
 }
 
 // A let is opened: its body sees one more variable.
-pub fn step_let<'a>(
-    file: &'a [u8],
-    ends: &'a [u16],
-    work: &mut [u32],
-    base: usize,
-    at: usize,
-    env: usize,
-    r: Registers,
-) -> Registers
-    requires { Ready file.now work.old base r 4 at env }
-    ensures { LeadsBy file.now ends.now work.old work.new base r result }
+pub fn step_let(run: &Evaluation, work: &mut [u32], r: Registers) -> Registers
+    requires { Ready run.now.program.rules.file.now work.old run.now.store.at r 4 r.place r.env }
+    ensures { let p = run.now.program in LeadsBy p.rules.file.now p.ends.now work.old work.new run.now.store.at r result }
 {
     let top = r.records;
-    let body = place_or_zero(ends, at + 2);
-    let seen = record_word(work, base, env, 1);
-    put_record(work, base, top, env, seen + 1, at + 2, env + 1);
+    let body = run.program.end(r.place + 2);
+    let seen = run.store.word(work, r.env, 1);
+    run.store
+        .put(work, top, r.env, seen + 1, r.place + 2, r.env + 1);
     Registers {
         kind: EXPRESSION,
         place: body,
         env: top,
-        frame: r.frame,
         records: top + 1,
+        ..r
     }
 }
 
 // A target of another label is passed to its inner expression; the sought one is demanded.
-pub fn step_target(file: &[u8], label: usize, at: usize, env: usize, r: Registers) -> Next
-    requires { at ≤ 1000000 }
-    ensures { (types functions w : List ℕ) (base : ℕ) → Ready file.now w base r 5 at env → Looked file.now types functions w w base label r result }
+pub fn step_target(run: &Evaluation, r: Registers) -> Next
+    requires { r.place ≤ 1000000 }
+    ensures { let file = run.now.program.rules.file.now in
+        (types functions w : List ℕ) (base : ℕ) → Ready file w base r 5 r.place r.env → Looked file types functions w w base run.now.label r result }
 {
-    if byte_or_zero(file, at + 1) == label {
+    if byte_or_zero(run.program.rules.file, r.place + 1) == run.label {
         return Next::Demands;
     }
     Next::Goes(Registers {
         kind: EXPRESSION,
-        place: at + 2,
-        env,
-        frame: r.frame,
-        records: r.records,
+        place: r.place + 2,
+        ..r
     })
 }

@@ -1,12 +1,12 @@
 -- The rule of the table of encodings: an entry stands for the UTF-8 of its place, and fits two bytes.
 -- Rests on Table and on names' NameList.
-use Prim.Native.Nat.{ℕ, ◌<◌}
+use Prim.Native.Nat.{ℕ, ◌/◌, ◌%◌, ◌≤◌, ◌<◌}
 use mathlib.Core.Path.{◌≡◌, refl}
+use mathlib.Core.Logic.{◌≢◌}
+use native.Mathlib.Omega.{arith}
+use borrow.Author.Tests.{lt-ltb, le-ltb}
 use mathlib.Core.Bool.{Bool, true, false, ◌&&◌}
 use mathlib.Core.List.{List, [], ◌∷◌}
-use mir.Syntax.{w64}
-use mir.Val.{Fits}
-use native.Mathlib.Omega.{arith}
 use lib.Dec.{T, eqb, ltb, eqb→eq, ltb→lt}
 use lib.ListN.{length, get_or}
 use Rattle.names.specs.NameList.{utf8}
@@ -45,5 +45,18 @@ module _ (table : List ℕ) (k : ℕ) (within : k < length table) (passed : T (e
   pub entry_small : get_or table k 0 < 65536
   entry_small = ltb→lt (get_or table k 0) 65536 parts.1
 
-  pub entry_fits : Fits w64 (get_or table k 0)
-  entry_fits = omega (arith, entry_small)
+-- The bytes of a number of the table, low byte first, by the second of them.
+module _ (n b : ℕ) (small : n < 65536) (is : encoding_bytes n ≡ utf8 b) where
+  pub one_byte : n / 256 % 256 ≡ 0 → n % 256 ∷ [] ≡ utf8 b
+  unfolding encoding_bytes
+  one_byte none =
+      let few : n < 256 = omega arith in
+      let same : n % 256 ≡ n = omega arith in
+      rw same (rw (lt-ltb n 256 few) at is)
+
+  pub two_bytes : n / 256 % 256 ≢ 0 → n % 256 ∷ n / 256 % 256 ∷ [] ≡ utf8 b
+  unfolding encoding_bytes
+  two_bytes some =
+      let many : 256 ≤ n = omega arith in
+      let same : n / 256 % 256 ≡ n / 256 = omega arith in
+      rw same (rw (le-ltb n 256 many) at is)

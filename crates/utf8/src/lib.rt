@@ -1,10 +1,10 @@
-// The UTF-8 of the Latin-1 bytes, as a table. An entry is the first byte of an encoding plus 256 times the second, which is 0 where there is none.
-// Rests on the definitions of crate names.
+// The UTF-8 of the Latin-1 bytes, as a table. An entry is the first byte of an encoding plus 256 times the second, which is 0 where there is none:
+// no second byte is 0. Rests on the definitions of crate names.
 #![tactic(auto)]
 
-ghost use Rattle.std.specs.Prelude.{◌≡◌, ◌<◌};
+ghost use Rattle.std.specs.Prelude.{◌≡◌};
 ghost use Rattle.names.specs.NameList.{utf8};
-ghost use Rattle.utf8.specs.Encodings.{encoding_bytes};
+ghost use Rattle.utf8.specs.Encodings.{bytes_of};
 
 const ENCODINGS: [u16; 256] = [
     0, 1, 2, 3, 4, 5, 6, 7, 8, 9, 10, 11, 12, 13, 14, 15, 16, 17, 18, 19, 20, 21, 22, 23, 24, 25,
@@ -25,10 +25,13 @@ const ENCODINGS: [u16; 256] = [
     47811, 48067, 48323, 48579, 48835, 49091,
 ];
 
-// The encoding of a Latin-1 byte.
-pub fn encoding(b: u8) -> u64
-    ensures result_value { encoding_bytes result ≡ utf8 b }
-    ensures small { result < 65536 }
+// The encoding of a Latin-1 byte: its first byte, and its second one, if there is one.
+pub fn encoding(b: u8) -> (u8, Option<u8>)
+    ensures { bytes_of result ≡ utf8 b }
 {
-    ENCODINGS[b as usize] as u64
+    let [first, second] = ENCODINGS[usize::from(b)].to_le_bytes();
+    match second {
+        0 => (first, None),
+        _ => (first, Some(second)),
+    }
 }

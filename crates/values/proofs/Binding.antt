@@ -8,7 +8,7 @@ use mathlib.Core.Option.{some}
 use native.Mathlib.Omega.{arith}
 use lib.ListN.{length}
 use Rattle.reach.specs.Syntax.{Types, Program, source_types}
-use Rattle.reach.specs.Parts.{Parts, end, opened, all_open, Place, here, after, inside, Seen, free, has, at, part, within, bind_at, ◌⊑◌, ⊑-end, ⊑-open, ⊑-bind, ⊑-same, There}
+use Rattle.reach.specs.Parts.{Parts, end, opened, all_open, Place, here, after, inside, free, has, at, part, within, bind_at, ◌⊑◌, ⊑-end, ⊑-open, ⊑-bind, ⊑-same, There}
 use Rattle.reach.specs.Types.{Slot, field_slots, slot_at, source_slots}
 use Rattle.reach.specs.Input.{input_of}
 use Rattle.reach.specs.Answers.{check, accepted}
@@ -19,17 +19,11 @@ use Rattle.reach.proofs.Depths.{typed_width}
 use Rattle.reach.proofs.Places.{bytes_length}
 use Rattle.reach.proofs.WellTyped.{open_apart}
 use Rattle.machine.specs.Cells.{cell_word, cell_of, Cells, Binds, Unmoved}
-use Rattle.machine.proofs.Cells.{field, walk_part, walk_kept, OneOf, bind_places, bind_elsewhere}
+use Rattle.machine.proofs.Cells.{field, free_there, has_there, walk_part, walk_kept, OneOf, bind_places, bind_elsewhere}
 use Rattle.cells.proofs.Binding.{bound_cells}
 use Rattle.values.specs.Positions.{ClosedRowStands, byte_of}
 use Rattle.values.specs.Notes.{noted_place, Noted, NotesStand, FollowsInput}
 use Rattle.values.proofs.Standing.{ValueStands, PartStands, input_stands, input_part_law}
-
-free_there : {s : Seen} → s ≡ free → There s
-free_there h = subst There (sym h) tt
-
-has_there : {s : Seen} {c k : ℕ} → s ≡ has c k → There s
-has_there h = subst There (sym h) tt
 
 -- a part keeps its slot in every row that binds at least as much
 pub ⊑-slot : (types : Types) {e j : Parts} → e ⊑ j → (q : Place) (ss : List Slot) → There (at e q) → slot_at types j q ss ≡ slot_at types e q ss

@@ -1,6 +1,6 @@
 -- Noting where the values of a row stand, one after the other: one note, and what the loop over a row of values has noted so far.
 -- Rests on specs/Notes and on Standing.
-use Prim.Native.Nat.{ℕ, ◌+◌, ◌*◌, ◌-◌, ◌/◌, ◌%◌, ◌≤◌, ◌<◌}
+use Prim.Native.Nat.{ℕ, ◌+◌, ◌*◌, ◌/◌, ◌%◌, ◌≤◌, ◌<◌}
 use mathlib.Core.Path.{◌≡◌, refl, sym, ◌∙◌, ap}
 use mathlib.Core.List.{List, map}
 use mathlib.Core.Logic.{◌≢◌}
@@ -82,24 +82,18 @@ module _ (file types input : List ℕ) (ts : List ℕ) (at : ℕ) where
             let high = note_other v (first + n) place (5 * (first + m) + 1) (omega arith) (omega arith) in
             rw (low, high)
 
--- the same where the types are bytes of the file, of which `more` are left: the next cell is noted, and the next type is the byte at the next place
-module _ (file types input : List ℕ) (fields k at more : ℕ) (some : 0 < more) (left : more ≤ k) where
+-- the same where the types are bytes of the file
+module _ (file types input : List ℕ) (fields k at : ℕ) {n place : ℕ} (some : n < k)
+    (reached : Reached file types input (bytes_at file fields k) at n place) where
   pub noted_next :
-      {w v v' : List ℕ} {place : ℕ} (first cell : ℕ) → NotedFirst file types input w v first (bytes_at file fields k) at (k - more)
-      → Reached file types input (bytes_at file fields k) at (k - more) place → 5 * (first + k) ≤ length w → cell + more ≡ first + k
-      → v' ≡ note_place v cell place → NotedFirst file types input w v' first (bytes_at file fields k) at (k - (more - 1))
-  noted_next first cell noted reached fits number written =
-      let n = k - more in
-      let count : k - (more - 1) ≡ n + 1 = omega arith in
-      let spot : cell ≡ first + n = omega arith in
-      rw (written, count, spot) (noted_more file types input (bytes_at file fields k) at first noted reached (omega (arith, noted.same_length)))
+      {w v v' : List ℕ} (first : ℕ) → NotedFirst file types input w v first (bytes_at file fields k) at n
+      → 5 * (first + k) ≤ length w → v' ≡ note_place v (first + n) place → NotedFirst file types input w v' first (bytes_at file fields k) at (n + 1)
+  noted_next first noted fits written =
+      rw written (noted_more file types input (bytes_at file fields k) at first noted reached (omega (arith, noted.same_length)))
 
   pub reached_more :
-      {place next t : ℕ} (field : ℕ) → Reached file types input (bytes_at file fields k) at (k - more) place → field + more ≡ fields + k
-      → t ≡ get_or file field 0 → next ≡ behind_value file types input place t → Reached file types input (bytes_at file fields k) at (k - (more - 1)) next
-  reached_more field reached number read told =
-      let n = k - more in
-      let count : k - (more - 1) ≡ n + 1 = omega arith in
-      let spot : field ≡ fields + n = omega arith in
+      {next t : ℕ} → t ≡ get_or file (fields + n) 0 → next ≡ behind_value file types input place t
+      → Reached file types input (bytes_at file fields k) at (n + 1) next
+  reached_more read told =
       let typed : get_or (bytes_at file fields k) n 0 ≡ get_or file (fields + n) 0 = bytes_nth file fields k n (omega arith) in
-      rw (told, count, read, spot, ← typed) (reached_next file types input (bytes_at file fields k) at n (omega (arith, bytes_length file fields k)) reached)
+      rw (told, read, ← typed) (reached_next file types input (bytes_at file fields k) at n (omega (arith, bytes_length file fields k)) reached)

@@ -1,6 +1,6 @@
 -- Where the values of a closed input stand, noted in open cells: the place in one cell, and the places of a row of values.
 -- Rests on machine's Cells, on rows' Values and on Positions.
-use Rattle.std.specs.Prelude.{ℕ, ◌+◌, ◌*◌, ◌/◌, ◌%◌, ◌<◌, ◌≡◌, List, [], map, ◌≢◌, length, get_or, set}
+use Rattle.std.specs.Prelude.{ℕ, ◌+◌, ◌*◌, ◌/◌, ◌%◌, ◌<◌, ◌≡◌, List, map, ◌≢◌, length, get_or, set, Option, Some, None}
 use Rattle.reach.specs.Limits.{depth_limit}
 use Rattle.reach.specs.Syntax.{Types}
 use Rattle.reach.specs.Parts.{Parts, Place, free, at, part, ◌⊑◌}
@@ -21,13 +21,13 @@ unfoldable pub note_place : List ℕ → ℕ → ℕ → List ℕ
 note_place w x i = set (set w (5 * x + 1) (i / 4294967296)) (5 * x + 4) (i % 4294967296)
 
 -- the place behind what was read, or this one if nothing was
-abbrev pub place_or : ℕ → Measured → ℕ
-place_or i (Measured.At next deep) = next
-place_or i Measured.Bad = i
+abbrev pub place_or : ℕ → Option Measured → ℕ
+place_or i (Some m) = m.next
+place_or i None = i
 
 -- the place behind the closed value of type t that stands at place i; i itself where there is none
 unfoldable pub behind_value : List ℕ → List ℕ → List ℕ → ℕ → ℕ → ℕ
-behind_value file types input i t = place_or i (of_value (value_at file types [] depth_limit t input i))
+behind_value file types input i t = place_or i (of_value (value_at file types None depth_limit t input i))
 
 -- Cells from cell `first` on, one for each of these types, and closed values of the types that stand one behind the other from a place of the input on: in
 -- each of the first n cells is noted where its value stands. Only words 1 and 4 of these cells may differ from before.

@@ -1,9 +1,7 @@
 -- What one entry more makes of a verdict. Rests on reach's Search.
-use Rattle.std.specs.Prelude.{◌≡◌}
+use Rattle.std.specs.Prelude.{◌≡◌, Option, Some, None}
 use Rattle.reach.specs.declared.Verdict.{Verdict}
 use Rattle.reach.specs.declared.Kind.{Kind}
-use Rattle.reach.specs.declared.PathEnd.{PathEnd}
-use Rattle.reach.specs.declared.PathEnd.TheVariants.{Unlisted, Listed}
 use Rattle.reach.specs.declared.Counts.{Counts}
 use Rattle.reach.specs.Search.{one_more, verdict_by}
 
@@ -12,6 +10,6 @@ abbrev pub WithEntry : Verdict → Kind → Verdict → Type 0
 WithEntry v kind r = (c : Counts) → v ≡ verdict_by c → r ≡ verdict_by (one_more kind c)
 
 -- the verdict after what a path lists
-abbrev pub VerdictAfter : Verdict → PathEnd → Verdict → Type 0
-VerdictAfter v Unlisted r = r ≡ v
-VerdictAfter v (Listed kind) r = WithEntry v kind r
+abbrev pub VerdictAfter : Verdict → Option Kind → Verdict → Type 0
+VerdictAfter v None r = r ≡ v
+VerdictAfter v (Some kind) r = WithEntry v kind r

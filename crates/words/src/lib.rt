@@ -1,5 +1,5 @@
-// The words of a printed line, each written into a lent slice: a byte of the prefix form, a kind, the verdict that counts give; and the unfinished share.
-// Rests on crates marks and writing.
+// The words of a printed line, each written to a page: a byte of the prefix form, a kind, the verdict that counts give; and the unfinished share.
+// Rests on crate writing.
 #![tactic(auto)]
 
 ghost use Rattle.std.specs.Prelude.{◌≡◌, ◌∷◌, ◌≤◌, ◌<◌};
@@ -9,31 +9,32 @@ ghost use Rattle.lists.specs.Share.{nearest, share};
 ghost use Rattle.lists.specs.Text.{space, kind_word, part_word};
 ghost use Rattle.writing.specs.Writing.{Puts};
 
-use marks::wide;
-use reach::{Counts, Kind};
-use writing::{put_bytes, put_number};
+use reach::{Counts, Kind, OPEN};
+use std::cmp::Ordering;
+use writing::Page;
 
-// Writes a space and a byte of the prefix form.
-pub fn put_part(text: &mut [u8], at: usize, b: u8) -> usize
-    requires { at < 2305843009213693952 }
-    ensures { Puts text.old at (space ∷ part_word b) text.new result }
+// Puts a space and a byte of the prefix form.
+pub fn put_part(page: &mut Page, b: u8)
+    requires { page.old.at < 2305843009213693952 }
+    ensures { Puts page.old (space ∷ part_word b) page.new }
 {
-    if b == 255 {
-        return put_bytes(b" _", text, at);
+    match b {
+        OPEN => page.bytes(b" _"),
+        _ => page.number(u64::from(b)),
     }
-    put_number(text, at, wide(b) as u64)
 }
 
-// Writes the word for a kind.
-pub fn put_kind(kind: Kind, text: &mut [u8], at: usize) -> usize
-    requires { at < 4611686018427387904 }
-    ensures { Puts text.old at (kind_word kind) text.new result }
+// Puts the word for a kind.
+pub fn put_kind(page: &mut Page, kind: Kind)
+    requires { page.old.at < 4611686018427387904 }
+    ensures { Puts page.old (kind_word kind) page.new }
 {
-    match kind {
-        Kind::RE => return put_bytes(b"reach", text, at),
-        Kind::UN => return put_bytes(b"unfinished", text, at),
-        Kind::MI => return put_bytes(b"missing", text, at),
-    }
+    let word: &[u8] = match kind {
+        Kind::RE => b"reach",
+        Kind::UN => b"unfinished",
+        Kind::MI => b"missing",
+    };
+    page.bytes(word);
 }
 
 // The whole number nearest to a quotient, an exact half to the even one.
@@ -43,13 +44,11 @@ fn nearest_to(over: u64, under: u64) -> u64
 {
     let whole = over / under;
     let twice = 2 * (over % under);
-    if under < twice {
-        return whole + 1;
+    match twice.cmp(&under) {
+        Ordering::Less => whole,
+        Ordering::Equal => whole + whole % 2,
+        Ordering::Greater => whole + 1,
     }
-    if twice == under {
-        return whole + whole % 2;
-    }
-    whole
 }
 
 // The unfinished share of both counts in whole per cent.
@@ -58,23 +57,21 @@ pub fn share_of(reach: u64, unfinished: u64) -> u64
     ensures value { result ≡ share reach unfinished }
     ensures small { result ≤ 100 }
 {
-    let both = reach + unfinished;
-    if both == 0 {
-        return 0;
+    match reach + unfinished {
+        0 => 0,
+        both => nearest_to(100 * unfinished, both),
     }
-    nearest_to(100 * unfinished, both)
 }
 
-// Writes a space and the verdict that the counts give.
-pub fn put_verdict(text: &mut [u8], at: usize, counts: Counts) -> usize
-    requires { at < 4611686018427387904 }
-    ensures { Puts text.old at (space ∷ verdict_word (verdict_by counts)) text.new result }
+// Puts a space and the verdict that the counts give.
+pub fn put_verdict(page: &mut Page, counts: Counts)
+    requires { page.old.at < 4611686018427387904 }
+    ensures { Puts page.old (space ∷ verdict_word (verdict_by counts)) page.new }
 {
-    if 0 < counts.reach {
-        return put_bytes(b" found", text, at);
-    }
-    if 0 < counts.unfinished {
-        return put_bytes(b" undecided", text, at);
-    }
-    put_bytes(b" none", text, at)
+    let word: &[u8] = match (counts.reach, counts.unfinished) {
+        (0, 0) => b" none",
+        (0, _) => b" undecided",
+        _ => b" found",
+    };
+    page.bytes(word);
 }

@@ -8,8 +8,8 @@ use native.Mathlib.Omega.{arith}
 use Rattle.arriving.proofs.arrive.Goals as goal
 
 pub run_on-ran-requires : goal.run_on-ran-requires
-run_on-ran-requires c = let (least, p, e, s, cs, given, sought, under) = c.requires.some_under_way in
-    record { ends = c.requires.ends; onward = λ n w₁ r₁ few steps. led_standing given under sought few steps }
+run_on-ran-requires c = let (least, p, e, s, cs, given, sought, under) = c.requires in
+    record { onward = λ n w₁ r₁ few steps. led_standing given under sought few steps; ends = c.args.search.now.filled }
 
 pub returns-in-Demands : goal.returns-in-Demands
 returns-in-Demands c = let last = comes_so _ _ _ _ c.run_on-ran.ensures Halt.Demands c.in-Demands.is in
@@ -35,25 +35,25 @@ returns-in-Lacks c = let last = comes_so _ _ _ _ c.run_on-ran.ensures Halt.Lacks
     let (s₁, led) = led_by given under sought c.run_on-ran.ensures.led (omega (arith, c.run_on-ran.ensures.no_more, under.in_time)) in
     rw c.over-in-Lacks.ensures (arrive_lacks given led sought last refl)
 
-pub returns-then-limit-total : goal.returns-then-limit-total
-returns-then-limit-total c = let last = comes_so _ _ _ _ c.run_on-ran.ensures (Halt.Waits _) c.in-Waits.is in
-    λ least p e s cs given sought under.
-    let (s₁, led) = led_by given under sought c.run_on-ran.ensures.led (omega (arith, c.run_on-ran.ensures.no_more, under.in_time)) in
-    rw c.over-then-limit-total.ensures (arrive_spent_waiting given led sought last (omega (arith, c.if-limit-total.true)) refl)
-
-pub push_choice-requires : goal.push_choice-requires
-push_choice-requires c = let last = comes_so _ _ _ _ c.run_on-ran.ensures (Halt.Waits _) c.in-Waits.is in
-    let (least, p, e, s, cs, given, sought, under) = c.requires.some_under_way in
-    let (s₁, led) = led_by given under sought c.run_on-ran.ensures.led (omega (arith, c.run_on-ran.ensures.no_more, under.in_time)) in
-    let bounds = push_bounds given led sought last (omega (arith, c.if-limit-total.false)) refl in
-    record { h_in_bounds = bounds.0; frame_bound = bounds.1 }
-
-pub overflow_add-height : goal.overflow_add-height
-overflow_add-height c = let (least, p, e, s, cs, given, sought, under) = c.requires.some_under_way in
-    omega (arith, under.no_higher, under.in_time, limit_few given)
-
 pub returns-in-Waits : goal.returns-in-Waits
 returns-in-Waits c = let last = comes_so _ _ _ _ c.run_on-ran.ensures (Halt.Waits _) c.in-Waits.is in
     λ least p e s cs given sought under.
     let (s₁, led) = led_by given under sought c.run_on-ran.ensures.led (omega (arith, c.run_on-ran.ensures.no_more, under.in_time)) in
-    rw c.over-in-Waits.ensures (arrive_waits given led sought last (omega (arith, c.if-limit-total.false)) refl c.push_choice.ensures)
+    rw c.over-in-Waits.ensures (arrive_spent_waiting given led sought last (omega (arith, c.if-search-total.true)) refl)
+
+pub push_choice-requires : goal.push_choice-requires
+push_choice-requires c = let last = comes_so _ _ _ _ c.run_on-ran.ensures (Halt.Waits _) c.in-Waits-2.is in
+    let (least, p, e, s, cs, given, sought, under) = c.requires in
+    let (s₁, led) = led_by given under sought c.run_on-ran.ensures.led (omega (arith, c.run_on-ran.ensures.no_more, under.in_time)) in
+    let bounds = push_bounds given led sought last (omega (arith, c.if-search-total.false)) refl in
+    record { h_in_bounds = bounds.0; frame_bound = bounds.1 }
+
+pub overflow_add-height : goal.overflow_add-height
+overflow_add-height c = let (least, p, e, s, cs, given, sought, under) = c.requires in
+    omega (arith, under.no_higher, under.in_time, limit_few given)
+
+pub returns-in-Waits-2 : goal.returns-in-Waits-2
+returns-in-Waits-2 c = let last = comes_so _ _ _ _ c.run_on-ran.ensures (Halt.Waits _) c.in-Waits-2.is in
+    λ least p e s cs given sought under.
+    let (s₁, led) = led_by given under sought c.run_on-ran.ensures.led (omega (arith, c.run_on-ran.ensures.no_more, under.in_time)) in
+    rw c.over-in-Waits-2.ensures (arrive_waits given led sought last (omega (arith, c.if-search-total.false)) refl c.push_choice.ensures)

@@ -17,9 +17,9 @@ pub overflow_sub-more : goal.overflow_sub-more
 overflow_sub-more c = more_cells c.requires.8 c.requires.9 c.bind_asked-more.ensures
 
 pub enter_part-registers-requires : goal.enter_part-registers-requires
-enter_part-registers-requires c = (c.args.types.now, c.requires.0, c.args.x, entering c.requires.8 c.requires.9 c.bind_asked-more.ensures c.cell_word-head.ensures.0 c.cell_word-head.ensures.1)
+enter_part-registers-requires c = (c.args.run.now.program.rules.types.now, c.requires.0, c.args.x, entering c.requires.8 c.requires.9 c.bind_asked-more.ensures c.cell_word-head.ensures.0 c.cell_word-head.ensures.1)
 
 pub returns : goal.returns
 returns c = λ functions w label filled stepped limit done p j s h.
     went_bound h stepped c.bind_asked-more.ensures
-    (c.enter_part-registers.ensures c.args.types.now functions c.args.x label (entering h stepped c.bind_asked-more.ensures c.cell_word-head.ensures.0 c.cell_word-head.ensures.1) filled)
+    (c.enter_part-registers.ensures c.args.run.now.program.rules.types.now functions c.args.x label (entering h stepped c.bind_asked-more.ensures c.cell_word-head.ensures.0 c.cell_word-head.ensures.1) filled)

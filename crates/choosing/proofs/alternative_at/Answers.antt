@@ -5,8 +5,8 @@ use Rattle.choosing.proofs.alternative_at.Goals as goal
 
 pub returns-then-byte_or_zero-eq0 : goal.returns-then-byte_or_zero-eq0
 returns-then-byte_or_zero-eq0 c = λ types functions filled.
-    found_absent c.args.file.now types functions c.args.ends.now filled c.args.at c.args.c c.pass_alternatives-place.ensures.value (sym c.byte_or_zero.ensures ∙ c.if-byte_or_zero-eq0.true)
+    found_absent _ types functions _ filled c.args.at c.args.c c.pass_alternatives-place.ensures.value (sym c.byte_or_zero.ensures.value ∙ c.if-byte_or_zero-eq0.true)
 
 pub returns-else-byte_or_zero-eq0 : goal.returns-else-byte_or_zero-eq0
 returns-else-byte_or_zero-eq0 c = λ types functions filled.
-    found_present c.args.file.now types functions c.args.ends.now filled c.args.at c.args.c c.pass_alternatives-place.ensures.value (λ is. c.if-byte_or_zero-eq0.false (c.byte_or_zero.ensures ∙ is))
+    found_present _ types functions _ filled c.args.at c.args.c c.pass_alternatives-place.ensures.value (λ is. c.if-byte_or_zero-eq0.false (c.byte_or_zero.ensures.value ∙ is))

@@ -5,15 +5,15 @@ use Rattle.choosing.proofs.choose.Goals as goal
 
 pub returns-in_default : goal.returns-in_default
 returns-in_default c = λ types functions filled.
-    chose_absent c.args.file.now types functions c.args.work.now c.record_word-alternatives.ensures.0 (c.alternative_at.ensures types functions filled) c.in_default.is
+    chose_absent _ types functions _ c.word-alternatives.ensures.0 (c.alternative_at.ensures types functions filled) c.in_default.is
 
-pub put_record-requires : goal.put_record-requires
-put_record-requires c = omega (arith, c.record_word-seen.ensures.0, c.record_word-env.ensures.0, c.record_word-env.ensures.1, c.requires.space.few c.record_word-env.result (omega (arith, c.record_word-env.ensures.0, c.requires.c_bound.1)), c.requires.space.room, c.requires.space.narrow, c.requires.c_bound.1, c.requires.c_bound.2, c.requires.c_bound.3, c.requires.c_bound.4)
+pub put-requires : goal.put-requires
+put-requires c = omega (arith, c.word-seen.ensures.0, c.word-env.ensures.0, c.word-env.ensures.1, c.requires.space.few c.word-env.result (omega (arith, c.word-env.ensures.0, c.requires.frame)), c.requires.space.room, c.requires.space.narrow, c.requires.frame, c.args.value.small.1, c.args.value.small.2, c.args.value.small.3)
 
 pub overflow_add-result : goal.overflow_add-result
 overflow_add-result c = omega (arith, c.requires.space.room, c.requires.space.narrow)
 
 pub returns : goal.returns
 returns c = λ types functions filled.
-    chose_present c.args.file.now types functions c.args.work.now c.record_word-alternatives.ensures.0 (c.alternative_at.ensures types functions filled)
-    c.record_word-env.ensures.0 c.record_word-seen.ensures.0 c.record_word-next.ensures.0 c.in-Present.is c.put_record.ensures
+    chose_present _ types functions _ c.word-alternatives.ensures.0 (c.alternative_at.ensures types functions filled)
+    c.word-env.ensures.0 c.word-seen.ensures.0 c.word-next.ensures.0 c.in-Some.is c.put.ensures

@@ -5,37 +5,40 @@ use Rattle.closed.proofs.Beginning.{begins, whole_run_law, whole_looked}
 use native.Mathlib.Omega.{arith}
 use Rattle.closed.proofs.evaluate.Goals as goal
 
-pub records_at-base-requires : goal.records_at-base-requires
-records_at-base-requires c = limit_few c.requires.2.of_file c.requires.3
+pub invariant_of-store : goal.invariant_of-store
+invariant_of-store c = record { few = limit_few c.requires.2.of_file c.requires.3 }
 
 pub open_input-from-requires : goal.open_input-from-requires
 open_input-from-requires c =
-    opens c.requires.2.of_file c.requires.3 c.head_of-head.result c.head_of-head.ensures.result_value c.args.work.now
-    c.records_at-base.ensures c.requires.4 c.head_of-head.ensures.near
+    opens c.requires.2.of_file c.requires.3 c.head-head.result c.head-head.ensures.result_value c.args.work.now
+    c.store.ensures c.requires.4
 
 pub note_values-requires : goal.note_values-requires
 note_values-requires c =
     let able =
-    opens c.requires.2.of_file c.requires.3 c.head_of-head.result c.head_of-head.ensures.result_value c.args.work.now
-    c.records_at-base.ensures c.requires.4 c.head_of-head.ensures.near in
+    opens c.requires.2.of_file c.requires.3 c.head-head.result c.head-head.ensures.result_value c.args.work.now
+    c.store.ensures c.requires.4 in
     let same =
-    opened_length c.requires.2.of_file c.requires.3 c.head_of-head.result c.head_of-head.ensures.result_value c.args.work.now
-    c.records_at-base.ensures c.requires.4 c.open_input-from.ensures.words in
-    (omega (arith, able.0, able.1, same), able.2, able.3)
+    opened_length c.requires.2.of_file c.requires.3 c.head-head.result c.head-head.ensures.result_value c.args.work.now
+    c.store.ensures c.requires.4 c.open_input-from.ensures.words in
+    omega (arith, able.0, able.1, same)
 
 pub go_on-requires : goal.go_on-requires
 go_on-requires c =
     let under =
-    begins c.requires.2 c.requires.3 c.head_of-head.result c.head_of-head.ensures.result_value c.records_at-base.ensures c.requires.4
+    begins c.requires.2 c.requires.3 c.head-head.result c.head-head.ensures.result_value c.store.ensures c.requires.4
     c.open_input-from.ensures.value c.open_input-from.ensures.words c.note_values.ensures in
-    record { limit_bound = (limit_few c.requires.2.of_file c.requires.3, (c.requires.0, c.requires.1, start c.requires.0, under)); ends = c.fill_ends.ensures }
+    record {
+      begins = rw c.with_ends.ensures.rules (limit_few c.requires.2.of_file c.requires.3, (c.requires.0, c.requires.1, start c.requires.0, under));
+      ends = c.with_ends.ensures.ends;
+    }
 
 pub returns : goal.returns
 returns c =
     λ p j given asks.
     let under =
-    begins given asks c.head_of-head.result c.head_of-head.ensures.result_value c.records_at-base.ensures
+    begins given asks c.head-head.result c.head-head.ensures.result_value c.store.ensures
     (omega (arith, c.requires.4, c.requires.3.steps_is, asks.steps_is))
     c.open_input-from.ensures.value c.open_input-from.ensures.words c.note_values.ensures in
-    let ends = c.go_on.ensures p j (start p) under in
+    let ends = (rw c.with_ends.ensures.rules at c.go_on.ensures) p j (start p) under in
     (whole_run_law given asks ends.0, whole_looked given asks ends.1)

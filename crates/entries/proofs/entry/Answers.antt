@@ -21,12 +21,12 @@ returns-in_default c =
 
 pub overflow_add-stop : goal.overflow_add-stop
 overflow_add-stop c =
-    omega (arith, part_inside _ _ _ c.room-end.ensures c.span_of.ensures c.in-At.is)
+    omega (arith, part_inside _ _ _ c.room-end.ensures c.span_of.ensures c.in-Some.is)
 
 pub slice_bounds-result-end-2 : goal.slice_bounds-result-end-2
 slice_bounds-result-end-2 c =
-    part_inside _ _ _ c.room-end.ensures c.span_of.ensures c.in-At.is
+    part_inside _ _ _ c.room-end.ensures c.span_of.ensures c.in-Some.is
 
 pub returns : goal.returns
 returns c =
-    record { result_value = part_found _ _ _ c.room-end.ensures c.span_of.ensures c.in-At.is; place = points_on _ (place_found _ _ _ c.room-end.ensures c.span_of.ensures c.in-At.is) }
+    record { result_value = part_found _ _ _ c.room-end.ensures c.span_of.ensures c.in-Some.is; place = points_on _ (place_found _ _ _ c.room-end.ensures c.span_of.ensures c.in-Some.is) }

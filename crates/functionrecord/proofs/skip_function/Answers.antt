@@ -4,45 +4,44 @@ use mathlib.Core.Path.{sym, ◌∙◌}
 use native.Mathlib.Omega.{arith}
 use Rattle.reach.specs.Limits.{parameter_limit}
 use Rattle.reach.specs.RuleFile.{function_record}
-use Rattle.marks.proofs.Answers.{byte_got, byte_short}
+use Rattle.marks.proofs.Answers.{read, unread, handed_on}
 use Rattle.typerecord.proofs.Answers.{bytes_got, bytes_refused}
-use Rattle.typerecord.proofs.Counts.{counted_got, counted_short, counted_over}
+use Rattle.typerecord.proofs.Counts.{counted_got, counted_refused, counted_over}
 use Rattle.typerecord.proofs.Tails.{function_tail}
 use Rattle.functionrecord.proofs.skip_function.Goals as goal
 
-pub returns-in_default : goal.returns-in_default
+pub returns-in_err-n : goal.returns-in_err-n
 unfolding function_record
-returns-in_default c = rw (counted_short 0 parameter_limit _ _ (byte_short _ _ c.take_byte.ensures c.in_default.is))
+returns-in_err-n c = rw (counted_refused 0 parameter_limit _ _ (unread _ c.in_err-n.ensures)) (handed_on _ c.from_residual.ensures)
 
-pub returns-then-wide-gt-PARAMETER_LIMIT : goal.returns-then-wide-gt-PARAMETER_LIMIT
+pub returns-then-from-gt-PARAMETER_LIMIT : goal.returns-then-from-gt-PARAMETER_LIMIT
 unfolding function_record
-returns-then-wide-gt-PARAMETER_LIMIT c =
-    rw
-    (counted_over 0 parameter_limit _ _ (byte_got _ _ c.take_byte.ensures c.in-Byte.is) (omega arith) (omega arith))
+returns-then-from-gt-PARAMETER_LIMIT c = rw (counted_over 0 parameter_limit _ _ (read _ c.in_ok-n.ensures) (omega arith) (omega arith))
 
-pub returns-in_default-step : goal.returns-in_default-step
+pub returns-in_err-result : goal.returns-in_err-result
 unfolding function_record
-returns-in_default-step c =
+returns-in_err-result c =
     rw (
-      counted_got 0 parameter_limit _ _ (byte_got _ _ c.take_byte.ensures c.in-Byte.is) (omega arith) (omega arith),
-      bytes_refused _ _ c.skip_bytes-step.ensures c.wide-2.ensures c.in_default-step.is,
+      counted_got 0 parameter_limit _ _ (read _ c.in_ok-n.ensures) (omega arith) (omega arith),
+      bytes_refused _ _ c.from-2.ensures c.in_err-result.ensures,
     )
-    c.in_default-step.is
+    (handed_on _ c.from_residual-in_err-result.ensures)
 
-pub returns-in_default-take_byte : goal.returns-in_default-take_byte
+pub returns-in_err-length : goal.returns-in_err-length
 unfolding function_record
-returns-in_default-take_byte c =
+returns-in_err-length c =
     rw (
-      counted_got 0 parameter_limit _ _ (byte_got _ _ c.take_byte.ensures c.in-Byte.is) (omega arith) (omega arith),
-      (bytes_got _ _ c.skip_bytes-step.ensures c.wide-2.ensures c.in-Next.is).1,
-      byte_short _ _ c.take_byte-2.ensures c.in_default-take_byte.is,
+      counted_got 0 parameter_limit _ _ (read _ c.in_ok-n.ensures) (omega arith) (omega arith),
+      (bytes_got _ _ c.from-2.ensures c.in_ok-result.ensures).1,
+      unread _ c.in_err-length.ensures,
     )
+    (handed_on _ c.from_residual-in_err-length.ensures)
 
 pub returns : goal.returns
 returns c =
     c.skip_body.ensures
     ∙ sym
     (function_tail _ _
-    (counted_got 0 parameter_limit _ _ (byte_got _ _ c.take_byte.ensures c.in-Byte.is) (omega arith) (omega arith))
-    (bytes_got _ _ c.skip_bytes-step.ensures c.wide-2.ensures c.in-Next.is).1
-    (byte_got _ _ c.take_byte-2.ensures c.in-Byte-take_byte.is))
+    (counted_got 0 parameter_limit _ _ (read _ c.in_ok-n.ensures) (omega arith) (omega arith))
+    (bytes_got _ _ c.from-2.ensures c.in_ok-result.ensures).1
+    (read _ c.in_ok-length.ensures))

@@ -1,20 +1,24 @@
 -- `goal::goal_of` meets its contract: the bytes of the goal's record, of which the last two make one number, and the one before them is the depth of all
--- parameters. Bytes are small, so the sum fits.
-use Prim.Native.Nat.{◌+◌}
-use mathlib.Core.Path.{◌≡◌}
-use native.Mathlib.Omega.{arith}
-use Rattle.reach.specs.Places.{goal_at, word_at}
+-- parameters. Where a place is too high for a number, it is past the end. Rests on the answers of crate marks.
+use Prim.Native.Nat.{◌+◌, ◌≤◌}
+use lib.ListN.{length}
+use Rattle.std.proofs.Common.{rules}
+use Rattle.reach.specs.Places.{goal_at}
+use Rattle.marks.proofs.Answers.{byte_far, word_far}
 use Rattle.goal.proofs.goal_of.Goals as goal
 
 pub returns : goal.returns
-unfolding goal_at word_at
+unfolding goal_at
 returns c =
-    let next : c.args.at + 3 + 1 ≡ c.args.at + 4 = omega arith in
+    let s = c.args.file.now in
+    let at = c.args.at in
+    let short : length s ≤ 9223372036854775807 = search rules in
     rw (
-      next,
-      ← c.byte_or_zero-source.ensures,
-      ← c.byte_behind-label.ensures.value,
-      ← c.byte_behind-depth.ensures.value,
-      ← c.byte_behind.ensures.value,
-      ← c.byte_behind-2.ensures.value,
+      ← (byte_far s (at + 1) short c.saturating_add-2.ensures),
+      ← (byte_far s (at + 2) short c.saturating_add.ensures),
+      ← (word_far s (at + 3) short c.saturating_add-3.ensures),
+      c.byte_or_zero.ensures.value,
+      c.byte_or_zero-2.ensures.value,
+      c.byte_or_zero-depth.ensures.value,
+      c.word_or_zero.ensures.value,
     )

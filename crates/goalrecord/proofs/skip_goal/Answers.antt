@@ -2,26 +2,17 @@
 -- Rests on typerecord's Tails and on the answers of crate marks.
 use mathlib.Core.Path.{sym, ◌∙◌}
 use Rattle.reach.specs.RuleFile.{goal_record}
-use Rattle.marks.proofs.Answers.{byte_got, byte_short}
+use Rattle.marks.proofs.Answers.{read, unread, handed_on}
 use Rattle.typerecord.proofs.Tails.{goal_tail}
 use Rattle.goalrecord.proofs.skip_goal.Goals as goal
 
-pub returns-in_default : goal.returns-in_default
+pub returns-in_err-label : goal.returns-in_err-label
 unfolding goal_record
-returns-in_default c = rw (byte_short _ _ c.take_byte.ensures c.in_default.is)
+returns-in_err-label c = rw (unread _ c.in_err-label.ensures) (handed_on _ c.from_residual.ensures)
 
-pub returns-in_default-take_byte : goal.returns-in_default-take_byte
+pub returns-in_err-limits : goal.returns-in_err-limits
 unfolding goal_record
-returns-in_default-take_byte c =
-    rw (
-      byte_got _ _ c.take_byte.ensures c.in-Byte.is,
-      byte_short _ _ c.take_byte-2.ensures c.in_default-take_byte.is,
-    )
+returns-in_err-limits c = rw (read _ c.in_ok-label.ensures, unread _ c.in_err-limits.ensures) (handed_on _ c.from_residual-in_err-limits.ensures)
 
 pub returns : goal.returns
-returns c =
-    c.skip_limits.ensures
-    ∙ sym
-    (goal_tail _ _
-    (byte_got _ _ c.take_byte.ensures c.in-Byte.is)
-    (byte_got _ _ c.take_byte-2.ensures c.in-Byte-take_byte.is))
+returns c = c.skip_limits.ensures ∙ sym (goal_tail _ _ (read _ c.in_ok-label.ensures) (read _ c.in_ok-limits.ensures))

@@ -1,59 +1,66 @@
--- `handed::list_fits` meets its contract: the entries one behind the other, up to the end of the list. Rests on Lists.
-use Prim.Native.Nat.{ℕ, ◌+◌}
-use mathlib.Core.Path.{◌≡◌, refl, sym, ◌∙◌, ap, subst}
-use mathlib.Core.Bool.{true, false}
+-- `handed::list_fits` meets its contract: the entries one behind the other, up to the end of the list. Rests on Lists and on entries' Walk.
+use Prim.Native.Nat.{◌-◌}
+use mathlib.Core.Path.{◌≡◌, refl, sym, ◌∙◌, ap}
 use native.Mathlib.Omega.{arith}
 use lib.ListN.{length}
-use Rattle.lists.specs.Handed.{entry, entries_by}
-use Rattle.lists.proofs.ReadBack.{size_inside}
-use Rattle.sizes.specs.Sizes.{size_of}
-use Rattle.handed.proofs.Lists.{found, all_read, too_long, at_last, over, none_there, unfit, fit}
+use Rattle.entries.specs.declared.EachEntry.{EachEntry}
+use Rattle.entries.proofs.Walk.{size_least}
+use Rattle.handed.proofs.Lists.{all_read, too_long, ended, unfit, fit}
 use Rattle.handed.proofs.list_fits.Goals as goal
 
-pub returns-then-end-gt16777216 : goal.returns-then-end-gt16777216
-returns-then-end-gt16777216 c p given = too_long given c.args.list.now c.if-end-gt16777216.true
+pub returns-then-limit-end : goal.returns-then-limit-end
+returns-then-limit-end c p given = too_long given c.args.list.now c.if-limit-end.true
 
-pub loop-more-init : goal.loop-more-init
-loop-more-init c = (refl, omega arith, λ p given. refl)
-
-pub returns-then-end-at : goal.returns-then-end-at
-returns-then-end-at c p given =
-    all_read given c.args.list.now true (omega (arith, c.if-end-gt16777216.false)) (sym (over given c.args.list.now c.loop-more.more c.loop-more.at (omega (arith, c.loop-more.invariant.0, c.if-end-at.true))) ∙ c.loop-more.invariant.2 p given)
-
-pub size_at-requires : goal.size_at-requires
-size_at-requires c = c.loop-more.invariant.1
-
-pub returns-in_default : goal.returns-in_default
-returns-in_default c p given =
-    let size = sym c.size_at.ensures ∙ ap size_of c.in_default.is in
-    all_read given c.args.list.now false (omega (arith, c.if-end-gt16777216.false))
-    (sym (none_there given c.args.list.now c.loop-more.more c.loop-more.at c.loop-more-test.true (omega (arith, c.loop-more.invariant.0, c.if-end-at.false)) (λ i. omega (arith, c.type_inv.list i)) size)
-    ∙ c.loop-more.invariant.2 p given)
+pub loop-entry-init : goal.loop-entry-init
+loop-entry-init c =
+    let gives = c.into_iter-entry-iterator.ensures.into_iter_gives in
+    let start = ap (λ (e : EachEntry). e.at) gives ∙ c.each_entry-entry-items.ensures.1 in
+    let same = ap (λ (e : EachEntry). e.list.now) gives ∙ c.each_entry-entry-items.ensures.0 in
+    (tt, tt, same, start, (length c.args.list.now, omega arith, λ p given. refl))
 
 pub entry_fits-requires : goal.entry_fits-requires
-entry_fits-requires c = sym c.size_at.ensures ∙ ap size_of c.in-Bytes.is
+entry_fits-requires c =
+    let (begins, sized, next, list) = c.in-Some.ensures.steps in
+    rw begins (rw c.loop-entry.invariant.2 at sized)
 
 pub returns-then-not-entry_fits : goal.returns-then-not-entry_fits
 returns-then-not-entry_fits c p given =
-    all_read given c.args.list.now false (omega (arith, c.if-end-gt16777216.false))
-    (sym (unfit given c.args.list.now c.loop-more.more c.loop-more.at c.loop-more-test.true (omega (arith, c.loop-more.invariant.0, c.if-end-at.false)) (c.loop-more.at + c.in-Bytes.n) c.entry_fits.result
-    c.entry_fits.ensures c.if-not-entry_fits.true)
-    ∙ c.loop-more.invariant.2 p given)
+    let (begins, sized, next, list) = c.in-Some.ensures.steps in
+    let (more, long, left) = c.loop-entry.invariant.4 in
+    let inside = size_least c.args.list.now c.loop-entry.entry-iterator.at _ (rw c.loop-entry.invariant.2 at sized) in
+    let here : c.in-Some.entry.at ≡ c.loop-entry.at = begins ∙ c.loop-entry.invariant.3 in
+    all_read given c.args.list.now _ (omega (arith, c.if-limit-end.false))
+    (sym (unfit given c.args.list.now more c.loop-entry.at (omega (arith, inside, long, c.loop-entry.invariant.3)) (omega (arith, inside, c.loop-entry.invariant.3)) _ c.entry_fits.result
+    (rw here at c.entry_fits.ensures) c.if-not-entry_fits.true)
+    ∙ left p given)
 
 pub overflow_add-at : goal.overflow_add-at
-overflow_add-at c = omega (arith, size_inside c.args.list.now c.loop-more.at c.in-Bytes.n (sym c.size_at.ensures ∙ ap size_of c.in-Bytes.is))
+overflow_add-at c =
+    let (begins, sized, next, list) = c.in-Some.ensures.steps in
+    omega (arith, begins, size_least c.args.list.now c.loop-entry.entry-iterator.at _ (rw c.loop-entry.invariant.2 at sized))
 
-pub loop-more-preserved : goal.loop-more-preserved
-loop-more-preserved c = (
-  c.loop-more.invariant.0,
-  size_inside c.args.list.now c.loop-more.at c.in-Bytes.n (sym c.size_at.ensures ∙ ap size_of c.in-Bytes.is),
-  λ p given. sym (fit given c.args.list.now c.loop-more.more c.loop-more.at c.loop-more-test.true (omega (arith, c.loop-more.invariant.0, c.if-end-at.false)) (c.loop-more.at + c.in-Bytes.n) c.entry_fits.result
-      c.entry_fits.ensures c.if-not-entry_fits.false)
-      ∙ c.loop-more.invariant.2 p given,
-)
+pub loop-entry-preserved : goal.loop-entry-preserved
+loop-entry-preserved c =
+    let (begins, sized, next, list) = c.in-Some.ensures.steps in
+    let (more, long, left) = c.loop-entry.invariant.4 in
+    let inside = size_least c.args.list.now c.loop-entry.entry-iterator.at _ (rw c.loop-entry.invariant.2 at sized) in
+    let here : c.in-Some.entry.at ≡ c.loop-entry.at = begins ∙ c.loop-entry.invariant.3 in (
+      tt,
+      tt,
+      list ∙ c.loop-entry.invariant.2,
+      omega (arith, next, begins),
+      (
+        more - 1,
+        omega (arith, inside, long, c.loop-entry.invariant.3, begins),
+        λ p given. rw here (sym (fit given c.args.list.now more c.loop-entry.at (omega (arith, inside, long, c.loop-entry.invariant.3)) (omega (arith, inside, c.loop-entry.invariant.3)) _ c.entry_fits.result
+            (rw here at c.entry_fits.ensures) c.if-not-entry_fits.false)
+            ∙ left p given),
+      ),
+    )
 
 pub returns : goal.returns
 returns c p given =
-    let none : c.loop-more.more ≡ 0 = omega (arith, c.loop-more-test.false) in
-    all_read given c.args.list.now _ (omega (arith, c.if-end-gt16777216.false))
-    (sym (at_last given c.args.list.now c.loop-more.at) ∙ subst (λ (m : ℕ). found (entries_by (entry p) m c.args.list.now c.loop-more.at) ≡ found (entries_by (entry p) (length c.args.list.now) c.args.list.now 0)) none (c.loop-more.invariant.2 p given))
+    let (more, long, left) = c.loop-entry.invariant.4 in
+    let none_here = rw (c.loop-entry.invariant.2, c.loop-entry.invariant.3) at c.in-None.ensures.steps.0 in
+    all_read given c.args.list.now _ (omega (arith, c.if-limit-end.false))
+    (ended given c.args.list.now more c.loop-entry.at long (λ i. omega (arith, c.type_inv.list i)) none_here ∙ left p given)

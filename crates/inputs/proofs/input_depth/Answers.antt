@@ -10,17 +10,20 @@ use Rattle.lookups.proofs.Tables.{parameters_are}
 use Rattle.inputs.proofs.Whole.{none_read, more_left, all_read}
 use Rattle.inputs.proofs.input_depth.Goals as goal
 
-pub returns-in_default : goal.returns-in_default
-returns-in_default c =
-    sym (none_read (map (type_at c.args.file.now) c.args.types.now) (slots (head_at c.args.file.now (get_or c.args.functions.now c.args.goal.source 0)).parameters c.args.goal.depths) c.args.input.now
-    (rw (parameters_are _ c.head_of-head.result c.head_of-head.ensures.result_value) at c.slots-row.ensures) c.in_default.is)
+pub returns-in_err-read : goal.returns-in_err-read
+returns-in_err-read c =
+    let r = c.args.rules.now in
+    rw c.from_residual.ensures (sym (none_read (map (type_at r.file.now) r.types.now) (slots (head_at r.file.now (get_or r.functions.now c.args.goal.source 0)).parameters c.args.goal.depths) c.args.input.now
+    (rw (parameters_are _ c.head-head.result c.head-head.ensures.result_value) at c.slots.ensures) c.in_err-read.was))
 
-pub returns-then-end-input : goal.returns-then-end-input
-returns-then-end-input c =
-    sym (more_left (map (type_at c.args.file.now) c.args.types.now) (slots (head_at c.args.file.now (get_or c.args.functions.now c.args.goal.source 0)).parameters c.args.goal.depths) c.args.input.now
-    (rw (parameters_are _ c.head_of-head.result c.head_of-head.ensures.result_value) at c.slots-row.ensures) c.in-At.is c.if-end-input.true)
+pub returns-then-read-input : goal.returns-then-read-input
+returns-then-read-input c =
+    let r = c.args.rules.now in
+    sym (more_left (map (type_at r.file.now) r.types.now) (slots (head_at r.file.now (get_or r.functions.now c.args.goal.source 0)).parameters c.args.goal.depths) c.args.input.now
+    (rw (parameters_are _ c.head-head.result c.head-head.ensures.result_value) at c.slots.ensures) c.in_ok-read.was c.if-read-input.true)
 
 pub returns : goal.returns
 returns c =
-    sym (all_read (map (type_at c.args.file.now) c.args.types.now) (slots (head_at c.args.file.now (get_or c.args.functions.now c.args.goal.source 0)).parameters c.args.goal.depths) c.args.input.now
-    (rw (parameters_are _ c.head_of-head.result c.head_of-head.ensures.result_value) at c.slots-row.ensures) c.in-At.is (omega (arith, c.if-end-input.false)))
+    let r = c.args.rules.now in
+    sym (all_read (map (type_at r.file.now) r.types.now) (slots (head_at r.file.now (get_or r.functions.now c.args.goal.source 0)).parameters c.args.goal.depths) c.args.input.now
+    (rw (parameters_are _ c.head-head.result c.head-head.ensures.result_value) at c.slots.ensures) c.in_ok-read.was (omega (arith, c.if-read-input.false)))

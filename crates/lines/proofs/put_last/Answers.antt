@@ -7,6 +7,6 @@ pub returns-then-full : goal.returns-then-full
 unfolding last_line
 returns-then-full c = rw c.if-full.true c.put_refusal.ensures
 
-pub returns : goal.returns
+pub returns-else-full : goal.returns-else-full
 unfolding last_line
-returns c = rw c.if-full.false c.put_total.ensures
+returns-else-full c = rw c.if-full.false c.put_total.ensures

@@ -1,67 +1,26 @@
 -- `lines::put_total` meets its contract: the pieces stand in the definition's order.
--- Rests on Lines.
+-- Rests on Lines and crate writing's Digits.
 use native.Mathlib.Omega.{arith}
-use Rattle.reach.specs.Search.{verdict_by}
-use Rattle.lines.proofs.Lines.{total_put, number_end, verdict_end}
+use Rattle.writing.proofs.Digits.{decimal_few}
+use Rattle.lines.proofs.Lines.{total_put, verdict_few}
 use Rattle.lines.proofs.put_total.Goals as goal
 
-pub put_number-second-requires : goal.put_number-second-requires
-put_number-second-requires c = omega (arith, c.put_bytes-first.ensures.place)
+pub number-requires-2 : goal.number-requires-2
+number-requires-2 c = omega (arith, decimal_few)
 
-pub put_number-third-requires : goal.put_number-third-requires
-put_number-third-requires c =
-    omega (arith, c.put_bytes-first.ensures.place, number_end _ c.put_number-second.ensures)
+pub number-requires-3 : goal.number-requires-3
+number-requires-3 c = omega (arith, decimal_few)
 
-pub put_number-fourth-requires : goal.put_number-fourth-requires
-put_number-fourth-requires c =
-    omega (
-      arith,
-      c.requires,
-      c.put_bytes-first.ensures.place,
-      number_end _ c.put_number-second.ensures,
-      number_end _ c.put_number-third.ensures,
-    )
+pub number-requires-4 : goal.number-requires-4
+number-requires-4 c = omega (arith, decimal_few)
 
-pub put_number-verdict-requires : goal.put_number-verdict-requires
-put_number-verdict-requires c =
-    omega (
-      arith,
-      c.requires,
-      c.put_bytes-first.ensures.place,
-      number_end _ c.put_number-second.ensures,
-      number_end _ c.put_number-third.ensures,
-      number_end _ c.put_number-fourth.ensures,
-      c.share_of.ensures.small,
-    )
+pub put_verdict-requires : goal.put_verdict-requires
+put_verdict-requires c = omega (arith, decimal_few)
 
-pub put_verdict-end-requires : goal.put_verdict-end-requires
-put_verdict-end-requires c =
-    omega (
-      arith,
-      c.requires,
-      c.put_bytes-first.ensures.place,
-      number_end _ c.put_number-second.ensures,
-      number_end _ c.put_number-third.ensures,
-      number_end _ c.put_number-fourth.ensures,
-      number_end _ c.put_number-verdict.ensures,
-      c.share_of.ensures.small,
-    )
-
-pub put_byte-requires : goal.put_byte-requires
-put_byte-requires c =
-    omega (
-      arith,
-      c.requires,
-      c.put_bytes-first.ensures.place,
-      number_end _ c.put_number-second.ensures,
-      number_end _ c.put_number-third.ensures,
-      number_end _ c.put_number-fourth.ensures,
-      number_end _ c.put_number-verdict.ensures,
-      c.share_of.ensures.small,
-      verdict_end (verdict_by c.args.counts) c.put_verdict-end.ensures,
-    )
+pub byte-requires : goal.byte-requires
+byte-requires c = omega (arith, decimal_few, verdict_few)
 
 pub returns : goal.returns
 returns c =
-    total_put c.args.counts c.put_bytes-first.ensures c.put_number-second.ensures c.put_number-third.ensures c.put_number-fourth.ensures
-    (rw c.share_of.ensures.value at c.put_number-verdict.ensures) c.put_verdict-end.ensures c.put_byte.ensures
+    total_put c.args.counts c.bytes.ensures c.number.ensures c.number-2.ensures c.number-3.ensures
+    (rw c.share_of.ensures.value at c.number-4.ensures) c.put_verdict.ensures c.byte.ensures

@@ -4,5 +4,5 @@ use Prim.Native.Nat.{ℕ}
 use lib.ListN.{get_or-eq_default}
 use Rattle.marks.proofs.byte_or_zero.Goals as goal
 
-pub returns-else-at-s : goal.returns-else-at-s
-returns-else-at-s c = rw (get_or-eq_default {A = ℕ} _ 0 c.if-at-s.false)
+pub returns-else-at-s-clause-value : goal.returns-else-at-s-clause-value
+returns-else-at-s-clause-value c = rw (get_or-eq_default {A = ℕ} _ 0 c.if-at-s.false)

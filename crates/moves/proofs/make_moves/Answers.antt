@@ -4,17 +4,23 @@ use Rattle.moves.proofs.make_moves.Goals as goal
 
 pub resume-from-requires : goal.resume-from-requires
 resume-from-requires c =
-    let ((p, position, cs, given, sought, stands), active) = c.requires.search_stands in
-    record { resumable = ((p, c.args.limit, position, cs, given, stands), active); ends = c.requires.ends }
-
-pub returns-in_default : goal.returns-in_default
-returns-in_default c =
-    rw c.over.ensures (none_moves c.args.file.now c.args.types.now c.args.functions.now c.args.least.of c.args.label c.args.work.now _ c.args.limit c.args.base c.args.stack c.args.walk c.resume-from.result c.resume-from.ensures c.position_of-position.ensures c.in_default.is)
+    let ((p, position, cs, given, sought, stands), active) = c.requires in
+    ((p, c.args.search.now.limit, position, cs, given, stands), active)
 
 pub arrive-requires : goal.arrive-requires
 arrive-requires c =
-    record { some_under_way = on_some c.args.file.now c.args.types.now c.args.functions.now c.args.least.of c.args.label c.args.work.now _ c.args.limit c.args.base c.args.stack c.args.walk c.resume-from.result c.resume-from.ensures c.position_of-position.ensures c.in-On.is c.requires.search_stands.0; ends = c.requires.ends }
+    let s = c.args.search.now in
+    let r = s.run.program.rules in
+    on_some r.file.now r.types.now r.functions.now s.least.of s.run.label c.args.work.now _ s.limit s.run.store.at s.stack.at c.args.walk c.resume-from.result c.resume-from.ensures c.in-Some.is c.requires.0
 
-pub returns : goal.returns
-returns c =
-    on_moves c.args.file.now c.args.types.now c.args.functions.now c.args.least.of c.args.label c.args.work.now _ c.args.limit c.args.base c.args.stack c.args.walk c.resume-from.result c.resume-from.ensures c.position_of-position.ensures c.in-On.is c.arrive.ensures
+pub returns-in-Some : goal.returns-in-Some
+returns-in-Some c =
+    let s = c.args.search.now in
+    let r = s.run.program.rules in
+    on_moves r.file.now r.types.now r.functions.now s.least.of s.run.label c.args.work.now _ s.limit s.run.store.at s.stack.at c.args.walk c.resume-from.result c.resume-from.ensures c.in-Some.is c.arrive.ensures
+
+pub returns-in-None : goal.returns-in-None
+returns-in-None c =
+    let s = c.args.search.now in
+    let r = s.run.program.rules in
+    rw c.over.ensures (none_moves r.file.now r.types.now r.functions.now s.least.of s.run.label c.args.work.now _ s.limit s.run.store.at s.stack.at c.args.walk c.resume-from.result c.resume-from.ensures c.in-None.is)

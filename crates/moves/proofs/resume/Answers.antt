@@ -2,9 +2,11 @@
 use Rattle.moves.proofs.Returning.{on_resumes}
 use Rattle.moves.proofs.resume.Goals as goal
 
-pub returns-then-walk : goal.returns-then-walk
-returns-then-walk c =
-    on_resumes c.args.file.now c.args.types.now c.args.functions.now c.args.least.of c.args.work.now c.args.base c.args.stack c.args.walk c.if-walk.true
+pub returns-in-Some : goal.returns-in-Some
+returns-in-Some c =
+    let s = c.args.search.now in
+    let r = s.run.program.rules in
+    on_resumes r.file.now r.types.now r.functions.now s.least.of c.args.work.now s.run.store.at s.stack.at c.args.walk c.in-Some.is
 
 pub go_back-requires : goal.go_back-requires
-go_back-requires c = record { resumable = (c.requires.resumable.0, c.if-walk.false, c.requires.resumable.1); ends = c.requires.ends }
+go_back-requires c = (c.requires.0, c.in-None.is, c.requires.1)

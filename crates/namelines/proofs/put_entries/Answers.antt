@@ -1,69 +1,44 @@
--- `namelines::put_entries` meets its contract: each turn of the loop writes the lines of one entry, and goes on behind it.
--- Rests on Entries.
-use Prim.Native.Nat.{ℕ}
+-- `namelines::put_entries` meets its contract: each turn of the loop writes the lines of one entry.
+-- Rests on Entries and on entries' Walk.
+use Prim.Native.Nat.{◌<◌}
 use mathlib.Core.Path.{◌≡◌, sym, ◌∙◌, ap}
-use mathlib.Core.List.{List}
-use mathlib.Core.Option.{some, some-injective, none-ne-some}
+use mathlib.Core.Option.{some-injective}
 use native.Mathlib.Omega.{arith}
-use Rattle.reach.specs.Lists.{entry_size}
-use Rattle.writing.proofs.Writing.{puts_length}
-use Rattle.sizes.specs.declared.Size.{Size}
-use Rattle.sizes.specs.Sizes.{size_of}
+use lib.ListN.{length}
+use Rattle.entries.specs.declared.EachEntry.{EachEntry}
+use Rattle.entries.proofs.Walk.{size_least}
 use Rattle.namelines.proofs.Entries.{going_whole, going_end, going_more, going_done}
 use Rattle.namelines.proofs.put_entries.Goals as goal
 
--- the size that was told is that of the entry
-size_is : (list : List ℕ) (at m : ℕ) {r : Size} {n : ℕ} → size_of r ≡ entry_size list at → r ≡ Size.Bytes n → entry_size list at ≡ some m → n ≡ m
-size_is list at m {r} {n} told is here = some-injective n m (sym (ap size_of is) ∙ told ∙ here)
+pub loop-entry-init : goal.loop-entry-init
+loop-entry-init c =
+    let each = c.into_iter-entry-iterator.result in
+    let gives = c.into_iter-entry-iterator.ensures.into_iter_gives in
+    let start : each.at ≡ 0 = ap (λ (e : EachEntry). e.at) gives ∙ c.each_entry-entry-items.ensures.1 in
+    let same : each.list.now ≡ c.args.values.now.list.now = ap (λ (e : EachEntry). e.list.now) gives ∙ c.each_entry-entry-items.ensures.0 in
+    (tt, tt, same, rw start (going_whole _ _ _ c.requires.1.legible _ _ _ c.requires.1.entries c.requires.1.bytes c.requires.1.fitted))
 
-pub loop-at-init : goal.loop-at-init
-loop-at-init c =
-    (going_whole _ _ _ c.requires.legible _ _ _ c.requires.entries c.requires.bytes c.requires.fitted, omega arith)
-
-pub returns-in_default : goal.returns-in_default
-returns-in_default c =
-    let here = going_more _ _ _ c.requires.legible _ _ _ c.loop-at.invariant.0 c.loop-at-test.true in
-    absurd (none-ne-some _ (sym (ap size_of c.in_default.is) ∙ c.size_at.ensures ∙ here.size))
-
-pub shape_of-text-in_default : goal.shape_of-text-in_default
-shape_of-text-in_default c = puts_length (returns-in_default c)
-
-pub overflow_add-at : goal.overflow_add-at
-overflow_add-at c =
-    omega (arith, c.requires.in_limit, c.loop-at.invariant.1)
-
-pub put_entry-to-requires : goal.put_entry-to-requires
-put_entry-to-requires c =
-    let here = going_more _ _ _ c.requires.legible _ _ _ c.loop-at.invariant.0 c.loop-at-test.true in
-    let far = going_end _ _ _ c.requires.legible _ _ _ c.requires.entries c.requires.bytes c.requires.fitted c.loop-at.invariant.0 in (
-      record { row = here.entry.input; stands = here.stands; legible = c.requires.legible; near = c.requires.near; in_limit = c.requires.in_limit },
-      omega (arith, far, c.requires.in_limit),
+pub put_entry-requires : goal.put_entry-requires
+put_entry-requires c =
+    let (begins, sized, next, list) = c.in-Some.ensures.steps in
+    let inside = size_least c.args.values.now.list.now c.loop-entry.entry-iterator.at _ (rw c.loop-entry.invariant.2 at sized) in
+    let more : c.loop-entry.entry-iterator.at < length c.args.values.now.list.now = omega (arith, inside.0, inside.1) in
+    let here = going_more _ _ _ c.requires.1.legible _ _ _ c.loop-entry.invariant.3 more in
+    let far = going_end _ _ _ c.requires.1.legible _ _ _ c.requires.1.entries c.requires.1.bytes c.requires.1.fitted c.loop-entry.invariant.3 in (
+      rw begins
+          (record { row = here.entry.input; stands = here.stands; legible = c.requires.1.legible; in_limit = c.requires.1.in_limit }),
+      omega (arith, far, c.requires.1.in_limit),
     )
 
-pub overflow_add-at-in-loop-at : goal.overflow_add-at-in-loop-at
-overflow_add-at-in-loop-at c =
-    let here = going_more _ _ _ c.requires.legible _ _ _ c.loop-at.invariant.0 c.loop-at-test.true in
-    let same = size_is _ _ _ c.size_at.ensures c.in-Bytes.is here.size in
-    omega (arith, same, here.room, c.requires.in_limit)
-
-pub loop-at-smaller : goal.loop-at-smaller
-loop-at-smaller c =
-    let here = going_more _ _ _ c.requires.legible _ _ _ c.loop-at.invariant.0 c.loop-at-test.true in
-    let same = size_is _ _ _ c.size_at.ensures c.in-Bytes.is here.size in
-    omega (arith, same, here.room, here.some_bytes)
-
-pub loop-at-preserved : goal.loop-at-preserved
-loop-at-preserved c =
-    let here = going_more _ _ _ c.requires.legible _ _ _ c.loop-at.invariant.0 c.loop-at-test.true in
-    let same = size_is _ _ _ c.size_at.ensures c.in-Bytes.is here.size in
-    (rw same (here.later c.put_entry-to.ensures), omega (arith, same, here.room))
+pub loop-entry-preserved : goal.loop-entry-preserved
+loop-entry-preserved c =
+    let (begins, sized, next, list) = c.in-Some.ensures.steps in
+    let there = rw c.loop-entry.invariant.2 at sized in
+    let inside = size_least c.args.values.now.list.now c.loop-entry.entry-iterator.at _ there in
+    let more : c.loop-entry.entry-iterator.at < length c.args.values.now.list.now = omega (arith, inside.0, inside.1) in
+    let here = going_more _ _ _ c.requires.1.legible _ _ _ c.loop-entry.invariant.3 more in
+    let size = some-injective _ _ (sym there ∙ here.size) in
+    (tt, tt, list ∙ c.loop-entry.invariant.2, rw (next, size) (here.later (rw begins at c.put_entry.ensures)))
 
 pub returns : goal.returns
-returns c =
-    going_done _ _ _ c.requires.legible _ _ _ c.loop-at.invariant.0 c.loop-at-test.false
-
-pub shape_of-text : goal.shape_of-text
-shape_of-text c = puts_length (returns c)
-
-pub size_at-requires : goal.size_at-requires
-size_at-requires c = c.loop-at.invariant.1
+returns c = going_done _ _ _ c.requires.1.legible _ _ _ c.loop-entry.invariant.3 (rw c.loop-entry.invariant.2 at c.in-None.ensures.steps.0)

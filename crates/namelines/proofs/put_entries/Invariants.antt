@@ -1,8 +1,7 @@
 -- `namelines::put_entries` meets its contract: each turn of the loop writes the lines of one entry, and goes on behind it.
 -- Rests on Entries.
-use Prim.Native.Nat.{◌-◌, ◌≤◌}
+use mathlib.Core.Path.{◌≡◌}
 use mathlib.Core.List.{map}
-use lib.ListN.{length}
 use Rattle.reach.specs.Places.{type_at}
 use Rattle.namelines.specs.Rows.{types_asked}
 use Rattle.namelines.specs.Lists.{list_names}
@@ -10,10 +9,10 @@ use Rattle.namelines.proofs.Entries.{NamesLeft}
 use Rattle.namelines.proofs.put_entries.Given as goal
 
 -- the rest of the list stands from the place reached on, and its names are still to be written
-abbrev pub invariant-loop-at : goal.invariant-loop-at
-invariant-loop-at l = NamesLeft (map (type_at l.file) l.types) l.asked.named (types_asked l.file l.asked) l.list l.initial.text
-    (list_names (map (type_at l.file) l.types) l.asked.named (types_asked l.file l.asked) l.list) l.text l.at l.to
-    × (l.at ≤ length l.list)
-
-abbrev pub decreases-loop-at : goal.decreases-loop-at
-decreases-loop-at l = length l.list - l.at
+abbrev pub invariant-loop-entry : goal.invariant-loop-entry
+invariant-loop-entry l =
+    let each = l.entry-iterator in
+    goal.iterator-loop-entry.can_next each × goal.iterator-loop-entry.is_finite each
+    × (each.list.now ≡ l.values.list.now)
+    × NamesLeft (map (type_at l.values.rules.file.now) l.values.rules.types.now) l.asked.named (types_asked l.values.rules.file.now l.asked) l.values.list.now l.initial.page
+    (list_names (map (type_at l.values.rules.file.now) l.values.rules.types.now) l.asked.named (types_asked l.values.rules.file.now l.asked) l.values.list.now) l.page each.at

@@ -1,15 +1,14 @@
--- The loop of `naming::put_letters`: what is left of the letters gives what all of them give. The measure is what is left of the list.
--- Rests on Letters, Lines and crate writing's Writing.
-use Prim.Native.Nat.{◌-◌, ◌≤◌}
-use lib.ListN.{length, drop}
+-- The loop of `naming::put_letters`: what is left of the letters gives what all of them give.
+-- Rests on Lines and crate writing's Writing.
+use mathlib.Core.List.{flat_map}
 use Rattle.writing.proofs.Writing.{Left}
-use Rattle.naming.specs.Letters.{letters, Spelt}
+use Rattle.naming.specs.Letters.{letters}
 use Rattle.naming.proofs.Lines.{numbers}
 use Rattle.naming.proofs.put_letters.Given as goal
 
-abbrev pub invariant-loop-text : goal.invariant-loop-text
-invariant-loop-text l = (l.place ≤ length l.list) × Spelt l.list l.place
-    × Left l.initial.text l.to (numbers (letters (drop l.at l.list))) l.text l.end (numbers (letters (drop l.place l.list)))
-
-abbrev pub decreases-loop-text : goal.decreases-loop-text
-decreases-loop-text l = length l.list - l.place
+abbrev pub invariant-loop-letter : goal.invariant-loop-letter
+invariant-loop-letter g l =
+    let bytes = g.E.Encoding.bytes in
+    (goal.iterator-loop-letter g).can_next l.letter-iterator
+    × (goal.iterator-loop-letter g).is_finite l.letter-iterator
+    × Left l.initial.page (numbers (flat_map bytes (letters l.initial.name.bytes.now))) l.page (numbers (flat_map bytes (letters l.letter-iterator.bytes.now)))

@@ -1,54 +1,21 @@
--- `numbers::constructors_exist` meets its contract. The loop's invariant: the test of the constructors that are left is that of all; each takes at most
--- 256 bytes, which bounds the place. The measure is how many are left. Rests on the tables of lookups.
-use native.Mathlib.Omega.{arith}
-use mathlib.Core.Path.{refl}
-use Rattle.reach.specs.RuleFile.{constructors_exist}
-use Rattle.lookups.proofs.Tables.{constructors_more, constructors_none}
+-- `numbers::constructors_exist` meets its contract: the chain tests each constructor as the definition does. Rests on lookups' Chains.
+use mathlib.Core.Path.{refl, ◌∙◌}
+use borrow.Author.Tests.{tests}
+use lib.ListN.{length}
+use Rattle.std.proofs.Common.{rules}
+use Rattle.std.proofs.lemmas.Iterator.Search.{all_from_yields_List}
+use Rattle.reach.specs.RuleFile.{all_below, constructors_exist}
+use Rattle.lookups.proofs.Chains.{each_yields, fields_of_place, constructors_pass}
 use Rattle.numbers.proofs.constructors_exist.Goals as goal
-
-pub loop-more-init : goal.loop-more-init
-loop-more-init c = (refl, omega arith)
-
-pub all_below-requires : goal.all_below-requires
-all_below-requires c =
-    omega (arith, c.byte_or_zero-fields.ensures, c.type_inv.s c.loop-more.place)
-
-pub returns-then-not-all_below : goal.returns-then-not-all_below
-unfolding constructors_exist
-returns-then-not-all_below c =
-    rw (
-      ← c.loop-more.invariant.0,
-      constructors_more _ _ _ c.loop-more-test.true,
-      ← c.byte_or_zero-fields.ensures,
-      ← c.all_below.ensures,
-      c.if-not-all_below.true,
-    )
-
-pub overflow_add-place-in-loop-more-2 : goal.overflow_add-place-in-loop-more-2
-overflow_add-place-in-loop-more-2 c =
-    omega (
-      arith,
-      c.byte_or_zero-fields.ensures,
-      c.type_inv.s c.loop-more.place,
-    )
-
-pub loop-more-preserved : goal.loop-more-preserved
-unfolding constructors_exist
-loop-more-preserved c = (
-  rw (
-    ← c.loop-more.invariant.0,
-    constructors_more _ _ _ c.loop-more-test.true,
-    ← c.byte_or_zero-fields.ensures,
-    ← c.all_below.ensures,
-    c.if-not-all_below.false,
-  ),
-  omega (
-    arith,
-    c.byte_or_zero-fields.ensures,
-    c.type_inv.s c.loop-more.place,
-  ),
-)
 
 pub returns : goal.returns
 unfolding constructors_exist
-returns c = rw (← c.loop-more.invariant.0, constructors_none _ _ _ c.loop-more-test.false)
+returns c =
+    let each = c.each_constructor.result in
+    let limit = length c.args.rules.now.types.now in
+    let file = c.args.rules.now.file.now in
+    all_from_yields_List (λ p. all_below limit (fields_of_place file p)) c.all.new.self _ _ c.all.ensures.ran
+    (each_yields each)
+    (λ x b q k. search (rules, tests))
+    ∙ rw (← c.each_constructor.ensures.constructors, c.each_constructor.ensures.file)
+    (constructors_pass file {test = all_below limit} {all = constructors_exist limit} (record { none = refl; more = λ x xs. refl }) each.at each.left)

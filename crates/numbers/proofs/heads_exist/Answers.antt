@@ -1,53 +1,26 @@
--- `numbers::heads_exist` meets its contract. The loop's invariant: the test of the functions from number f on is that of all. The measure is how many
--- are left. Rests on the tables of lookups.
+-- `numbers::heads_exist` meets its contract: the chain tests each function as the definition does. Rests on lookups' Chains.
+use mathlib.Core.Path.{refl, ◌∙◌}
+use mathlib.Core.Bool.{◌&&◌}
 use native.Mathlib.Omega.{arith}
-use mathlib.Core.Path.{refl}
-use borrow.Author.Tests.{le-ltb, lt-ltb}
-use Rattle.reach.specs.RuleFile.{heads_exist}
-use Rattle.lookups.proofs.Tables.{places_more, places_none}
+use borrow.Author.Tests.{tests}
+use lib.ListN.{length, get_or}
+use lib.Dec.{ltb}
+use Rattle.std.proofs.Common.{rules}
+use Rattle.std.proofs.lemmas.Iterator.{YieldsList-from_range}
+use Rattle.std.proofs.lemmas.Iterator.Search.{all_from_yields_List}
+use Rattle.reach.specs.RuleFile.{Head, all_below, heads_exist}
+use Rattle.reach.specs.Places.{head_at}
+use Rattle.lookups.proofs.Chains.{places_pass}
 use Rattle.numbers.proofs.heads_exist.Goals as goal
-
-pub loop-f-init : goal.loop-f-init
-loop-f-init c = refl
-
-pub all_below-requires : goal.all_below-requires
-all_below-requires c = (omega arith, omega arith)
-
-pub returns-then-not-all_below : goal.returns-then-not-all_below
-unfolding heads_exist
-returns-then-not-all_below c =
-    rw (
-      ← c.loop-f.invariant,
-      places_more _ _ _ c.loop-f-test.true,
-      ← c.head_of-head.ensures.result_value,
-      ← c.all_below.ensures,
-      c.if-not-all_below.true,
-    )
-
-pub returns-then-limit-head : goal.returns-then-limit-head
-unfolding heads_exist
-returns-then-limit-head c =
-    rw (
-      ← c.loop-f.invariant,
-      places_more _ _ _ c.loop-f-test.true,
-      ← c.head_of-head.ensures.result_value,
-      ← c.all_below.ensures,
-      c.if-not-all_below.false,
-      le-ltb _ _ c.if-limit-head.true,
-    )
-
-pub loop-f-preserved : goal.loop-f-preserved
-unfolding heads_exist
-loop-f-preserved c =
-    rw (
-      ← c.loop-f.invariant,
-      places_more _ _ _ c.loop-f-test.true,
-      ← c.head_of-head.ensures.result_value,
-      ← c.all_below.ensures,
-      c.if-not-all_below.false,
-      lt-ltb _ _ c.if-limit-head.false,
-    )
 
 pub returns : goal.returns
 unfolding heads_exist
-returns c = rw (← c.loop-f.invariant, places_none _ _ _ c.loop-f-test.false)
+returns c =
+    let functions = c.args.rules.now.functions.now in
+    let file = c.args.rules.now.file.now in
+    let limit = length c.args.rules.now.types.now in
+    let test = λ (h : Head). all_below limit h.parameters && ltb h.result limit in
+    all_from_yields_List (λ f. test (head_at file (get_or functions f 0))) _ _ _ c.all.ensures.ran
+    (YieldsList-from_range 0 (length functions) (length functions) refl (omega arith))
+    (λ x b q k. search (rules, tests))
+    ∙ places_pass {test = test} {all = heads_exist limit} (record { none = refl; more = λ x xs. refl }) (head_at file) functions

@@ -1,39 +1,23 @@
--- `numbers::types_exist` meets its contract. The loop's invariant: the test of the types from number t on is that of all. The measure is how many are
--- left. Rests on the tables of lookups.
+-- `numbers::types_exist` meets its contract: the chain tests each type as the definition does. Rests on lookups' Chains.
+use mathlib.Core.Path.{refl, ◌∙◌}
 use native.Mathlib.Omega.{arith}
-use mathlib.Core.Path.{refl}
-use Rattle.reach.specs.RuleFile.{types_exist}
-use Rattle.lookups.proofs.Tables.{places_more, places_none}
+use borrow.Author.Tests.{tests}
+use lib.ListN.{length, get_or}
+use Rattle.std.proofs.Common.{rules}
+use Rattle.std.proofs.lemmas.Iterator.{YieldsList-from_range}
+use Rattle.std.proofs.lemmas.Iterator.Search.{all_from_yields_List}
+use Rattle.reach.specs.RuleFile.{constructors_exist, types_exist}
+use Rattle.reach.specs.Places.{type_at}
+use Rattle.lookups.proofs.Chains.{places_pass}
 use Rattle.numbers.proofs.types_exist.Goals as goal
-
-pub loop-t-init : goal.loop-t-init
-loop-t-init c = refl
-
-pub constructors_exist-requires : goal.constructors_exist-requires
-constructors_exist-requires c = (omega arith, omega arith)
-
-pub returns-then-not-constructors_exist : goal.returns-then-not-constructors_exist
-unfolding types_exist
-returns-then-not-constructors_exist c =
-    rw (
-      ← c.loop-t.invariant,
-      places_more _ _ _ c.loop-t-test.true,
-      ← c.constructors_of-all.ensures.count_value,
-      ← c.constructors_exist.ensures,
-      c.if-not-constructors_exist.true,
-    )
-
-pub loop-t-preserved : goal.loop-t-preserved
-unfolding types_exist
-loop-t-preserved c =
-    rw (
-      ← c.loop-t.invariant,
-      places_more _ _ _ c.loop-t-test.true,
-      ← c.constructors_of-all.ensures.count_value,
-      ← c.constructors_exist.ensures,
-      c.if-not-constructors_exist.false,
-    )
 
 pub returns : goal.returns
 unfolding types_exist
-returns c = rw (← c.loop-t.invariant, places_none _ _ _ c.loop-t-test.false)
+returns c =
+    let types = c.args.rules.now.types.now in
+    let file = c.args.rules.now.file.now in
+    let limit = length types in
+    all_from_yields_List (λ t. constructors_exist limit (type_at file (get_or types t 0))) _ _ _ c.all.ensures.ran
+    (YieldsList-from_range 0 limit limit refl (omega arith))
+    (λ x b q k. search (rules, tests))
+    ∙ places_pass {test = constructors_exist limit} {all = types_exist limit} (record { none = refl; more = λ x xs. refl }) (type_at file) types

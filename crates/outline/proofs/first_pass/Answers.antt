@@ -1,71 +1,32 @@
 -- `outline::first_pass` meets its contract: the outline is the first mark, the types, the functions, what NA names, and the goal with the end of the
 -- file.
--- Rests on Whole.
-use native.Mathlib.Omega.{arith}
+-- Rests on Whole and on the answers of crate marks.
 use Rattle.reach.specs.Places.{declarations_at, outline_at}
+use Rattle.marks.proofs.Answers.{handed_on}
 use Rattle.outline.proofs.Whole.{no_type, types_refused, functions_refused, names_refused, goal_refused, outlined}
 use Rattle.outline.proofs.first_pass.Goals as goal
 
-pub returns-in_default : goal.returns-in_default
-returns-in_default c =
-    record { s_value = rw (c.not_read.ensures.step_value, c.in_default.is) (no_type _ c.first_mark-begin.ensures c.in_default.is); limits = omega arith }
+pub returns-in_err-first_type : goal.returns-in_err-first_type
+returns-in_err-first_type c = rw (handed_on _ c.from_residual.ensures) (no_type _ c.in_err-first_type.ensures)
 
-pub returns-in_default-typed : goal.returns-in_default-typed
-returns-in_default-typed c =
-    record {
-      s_value = rw (c.not_read-in_default-typed.ensures.step_value, c.in_default-typed.is)
-          (types_refused _ c.first_mark-begin.ensures c.in-Next.is
-          (rw c.in_default-typed.is at c.read_types-types.ensures.first_value));
-      limits = omega arith;
-    }
+pub returns-in_err-first_function : goal.returns-in_err-first_function
+returns-in_err-first_function c = rw (handed_on _ c.from_residual-in_err-first_function.ensures) (types_refused _ c.in_ok-first_type.ensures c.in_err-first_function.ensures)
 
-pub returns-in_default-defined : goal.returns-in_default-defined
-returns-in_default-defined c =
-    record {
-      s_value = rw (c.not_read-in_default-defined.ensures.step_value, c.in_default-defined.is)
-          (functions_refused _ c.first_mark-begin.ensures c.in-Next.is
-          (rw c.in-Next-typed.is at c.read_types-types.ensures.first_value)
-          (rw c.in_default-defined.is at c.read_functions-functions.ensures.first_value));
-      limits = omega arith;
-    }
+pub returns-in_err-names_at : goal.returns-in_err-names_at
+returns-in_err-names_at c =
+    rw (handed_on _ c.from_residual-in_err-names_at.ensures)
+    (functions_refused _ c.in_ok-first_type.ensures c.in_ok-first_function.ensures c.in_err-names_at.ensures)
 
-pub returns-in_default-told : goal.returns-in_default-told
-returns-in_default-told c =
-    record {
-      s_value = rw (c.not_read-in_default-told.ensures.step_value, c.in_default-told.is)
-          (names_refused _ c.first_mark-begin.ensures c.in-Next.is
-          (rw c.in-Next-typed.is at c.read_types-types.ensures.first_value)
-          (rw c.in-Next-defined.is at c.read_functions-functions.ensures.first_value)
-          (rw c.in_default-told.is at c.read_naming-naming.ensures));
-      limits = omega arith;
-    }
+pub returns-in_err-named : goal.returns-in_err-named
+returns-in_err-named c =
+    rw (handed_on _ c.from_residual-in_err-named.ensures)
+    (names_refused _ c.in_ok-first_type.ensures c.in_ok-first_function.ensures c.in_ok-names_at.ensures c.in_err-named.ensures)
 
-pub returns-in_default-last : goal.returns-in_default-last
-returns-in_default-last c =
-    record {
-      s_value = rw (c.not_read-in_default-last.ensures.step_value, c.in_default-last.is)
-          (goal_refused _ c.first_mark-begin.ensures c.in-Next.is
-          (rw c.in-Next-typed.is at c.read_types-types.ensures.first_value)
-          (rw c.in-Next-defined.is at c.read_functions-functions.ensures.first_value)
-          (rw c.in-Next-told.is at c.read_naming-naming.ensures)
-          c.last_record-last.ensures
-          c.in_default-last.is);
-      limits = record { types_limit = omega (arith, c.not_read-in_default-last.ensures.nothing); functions_limit = omega (arith, c.not_read-in_default-last.ensures.nothing) };
-    }
+pub returns-in_err-goal : goal.returns-in_err-goal
+returns-in_err-goal c =
+    rw (handed_on _ c.from_residual-in_err-goal.ensures)
+    (goal_refused _ c.in_ok-first_type.ensures c.in_ok-first_function.ensures c.in_ok-names_at.ensures c.in_ok-named.ensures c.in_err-goal.ensures)
 
 pub returns : goal.returns
 unfolding declarations_at outline_at
-returns c =
-    record {
-      s_value = rw (c.all_read.ensures, c.in-Next-last.is, c.goal_of.ensures)
-          (outlined _ c.first_mark-begin.ensures c.in-Next.is
-          (rw c.in-Next-typed.is at c.read_types-types.ensures.first_value)
-          (rw c.in-Next-defined.is at c.read_functions-functions.ensures.first_value)
-          (rw c.in-Next-told.is at c.read_naming-naming.ensures)
-          c.last_record-last.ensures
-          c.in-Next-last.is);
-      limits = rw c.all_read.ensures (record {
-        types_limit = c.read_types-types.ensures.limit;
-        functions_limit = c.read_functions-functions.ensures.limit;
-      });
-    }
+returns c = outlined _ c.in_ok-first_type.ensures c.in_ok-first_function.ensures c.in_ok-names_at.ensures c.in_ok-named.ensures c.in_ok-goal.ensures

@@ -1,41 +1,23 @@
 -- `outline::read_naming` meets its contract: the mark that mark_at answers is the one that `naming` goes by.
 -- Rests on the answers of crate marks.
+use mathlib.Core.Logic.{inl, inr}
 use Rattle.reach.specs.RuleFile.{in_turn, naming}
-use Rattle.marks.proofs.Answers.{mark_got, mark_short}
+use Rattle.marks.proofs.Answers.{mark_got, mark_unread, handed_on}
 use Rattle.outline.proofs.read_naming.Goals as goal
 
-pub returns-in_default : goal.returns-in_default
+pub returns-in_err-mark : goal.returns-in_err-mark
 unfolding naming
-returns-in_default c =
-    rw (c.not_named.ensures.0, mark_short _ _ c.mark_at.ensures c.in_default.is)
+returns-in_err-mark c = rw (handed_on _ c.from_residual.ensures, mark_unread _ c.in_err-mark.ensures)
 
-pub returns-then-same_mark : goal.returns-then-same_mark
+pub returns-in-Name : goal.returns-in-Name
 unfolding naming in_turn
-returns-then-same_mark c =
-    rw (mark_got _ _ c.mark_at.ensures c.in-Mark.is, ← c.same_mark.ensures, c.if-same_mark.true)
-    c.name_record.ensures
+returns-in-Name c = rw (mark_got _ c.in_ok-mark.ensures, c.in-Name.is) c.name_record.ensures
 
-pub returns-then-same_mark-2 : goal.returns-then-same_mark-2
+pub returns-in-Goal : goal.returns-in-Goal
 unfolding naming in_turn
-returns-then-same_mark-2 c =
-    rw (
-      c.not_named-then-same_mark-2.ensures.0,
-      c.not_named-then-same_mark-2.ensures.1,
-      mark_got _ _ c.mark_at.ensures c.in-Mark.is,
-      ← c.same_mark.ensures,
-      c.if-same_mark.false,
-      ← c.same_mark-2.ensures,
-      c.if-same_mark-2.true,
-    )
+returns-in-Goal c = rw (mark_got _ c.in_ok-mark.ensures, c.in-Goal.is)
 
-pub returns : goal.returns
+pub returns-in-Type : goal.returns-in-Type
 unfolding naming in_turn
-returns c =
-    rw (
-      c.not_named-2.ensures.0,
-      mark_got _ _ c.mark_at.ensures c.in-Mark.is,
-      ← c.same_mark.ensures,
-      c.if-same_mark.false,
-      ← c.same_mark-2.ensures,
-      c.if-same_mark-2.false,
-    )
+returns-in-Type c =
+    rw (mark_got _ c.in_ok-mark.ensures) (elim c.in-Type.is [ inl is ↦ rw is | inr (inl is) ↦ rw is | inr (inr is) ↦ rw is ])

@@ -1,27 +1,15 @@
--- `packing::search_number` meets its contract: the length leaves room for it in 64 bits. Rests on Numbered.
+-- `packing::search_number` meets its contract. Rests on Numbered.
 use mathlib.Core.Path.{sym, ap, ◌∙◌}
 use native.Mathlib.Omega.{arith}
 use Rattle.results.specs.Results.{list_length_in}
-use Rattle.packing.proofs.Numbered.{no_search_number, complete_number, full_number}
+use Rattle.packing.proofs.Numbered.{no_search_number}
 use Rattle.packing.proofs.search_number.Goals as goal
 
-pub overflow_mul-result-in-Complete : goal.overflow_mul-result-in-Complete
-overflow_mul-result-in-Complete c = omega (arith, c.requires, ap list_length_in c.in-Complete.is)
+pub list_number-requires : goal.list_number-requires
+list_number-requires c = omega (arith, c.requires, ap list_length_in c.in-Ok.is)
 
-pub overflow_add-result : goal.overflow_add-result
-overflow_add-result c = omega (arith, c.requires, ap list_length_in c.in-Complete.is, c.verdict_number.ensures.small)
+pub returns-in-Err : goal.returns-in-Err
+returns-in-Err c a is = c.number.ensures ∙ no_search_number _ a (sym c.in-Err.is ∙ is)
 
-pub overflow_mul-result-in-Full : goal.overflow_mul-result-in-Full
-overflow_mul-result-in-Full c = omega (arith, c.requires, ap list_length_in c.in-Full.is)
-
-pub overflow_add-result-in-Full : goal.overflow_add-result-in-Full
-overflow_add-result-in-Full c = omega (arith, c.requires, ap list_length_in c.in-Full.is, c.number-in-Full.ensures)
-
-pub returns-in-Refused : goal.returns-in-Refused
-returns-in-Refused c a is = c.number.ensures ∙ no_search_number _ a (sym c.in-Refused.is ∙ is)
-
-pub returns-in-Complete : goal.returns-in-Complete
-returns-in-Complete c a is = rw c.verdict_number.ensures.value (complete_number _ _ a (sym c.in-Complete.is ∙ is))
-
-pub returns-in-Full : goal.returns-in-Full
-returns-in-Full c a is = rw c.number-in-Full.ensures (full_number _ a (sym c.in-Full.is ∙ is))
+pub returns-in-Ok : goal.returns-in-Ok
+returns-in-Ok c a is = c.list_number.ensures a (sym c.in-Ok.is ∙ is)

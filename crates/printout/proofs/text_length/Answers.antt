@@ -1,16 +1,14 @@
 -- `printout::text_length` meets its contract. Rests on Answering.
-use mathlib.Core.Path.{subst}
 use native.Mathlib.Omega.{arith}
-use Rattle.printout.specs.Answering.{Judges}
+use Rattle.results.proofs.Shown.{handed_on}
 use Rattle.printout.proofs.Answering.{measures_refused, measures_length}
 use Rattle.printout.proofs.text_length.Goals as goal
 
-pub returns-in-Refused : goal.returns-in-Refused
-returns-in-Refused c =
-    measures_refused c.args.file.now c.args.list.now (λ i. omega (arith, c.type_inv.list i)) _ _
-    (subst (Judges c.args.file.now c.args.list.now) c.in-Refused.is c.judge.ensures)
+pub returns-in_err-judge : goal.returns-in_err-judge
+returns-in_err-judge c =
+    rw (handed_on _ c.from_residual.ensures)
+    (measures_refused c.args.file.now c.args.list.now (λ i. omega (arith, c.type_inv.list i)) _ _ c.in_err-judge.ensures)
 
-pub returns-in-Accepted : goal.returns-in-Accepted
-returns-in-Accepted c =
-    measures_length c.args.file.now c.args.list.now (λ i. omega (arith, c.type_inv.list i)) _ _
-    (subst (Judges c.args.file.now c.args.list.now) c.in-Accepted.is c.judge.ensures) c.list_length.ensures
+pub returns : goal.returns
+returns c =
+    measures_length c.args.file.now c.args.list.now (λ i. omega (arith, c.type_inv.list i)) _ _ c.in_ok-judge.ensures c.list_length.ensures

@@ -1,10 +1,7 @@
--- `reporting::counted` meets its contract: where more is asked for than was read, that is all of it.
-use mathlib.Core.Path.{sym, ◌∙◌}
+-- `reporting::counted` meets its contract: where more is asked for than was read, that is all of it. Rests on Program.
 use native.Mathlib.Omega.{arith}
-use lib.ListN.{length}
-use lib.Seq.{take_all}
+use Rattle.reporting.proofs.Program.{first_bytes}
 use Rattle.reporting.proofs.counted.Goals as goal
 
 pub returns : goal.returns
-returns c =
-    record { there = omega arith; same = take_all (length c.args.input.now) c.args.input.now (omega arith) ∙ sym (take_all c.args.size c.args.input.now (omega arith)) }
+returns c = first_bytes c.args.input.now (λ less. omega arith) (λ more. omega arith)

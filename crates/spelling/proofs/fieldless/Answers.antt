@@ -1,23 +1,15 @@
--- `spelling::fieldless` meets its contract. The loop's invariant: the test of the constructors that are left is that of all, and place and number left
--- add up to what they were, since none that was passed has a field. The measure is how many are left. Rests on Forms.
-use native.Mathlib.Omega.{arith}
-use mathlib.Core.Path.{refl, sym, ◌∙◌}
-use Rattle.reach.specs.Names.{fieldless}
-use Rattle.lookups.proofs.Tables.{constructors_none}
-use Rattle.spelling.proofs.Forms.{field_here, none_here}
+-- `spelling::fieldless` meets its contract: the chain tests each constructor's number of fields. Rests on Forms and on lookups' Chains.
+use mathlib.Core.Path.{◌∙◌}
+use lib.Dec.{eqb}
+use borrow.Author.Tests.{tests}
+use Rattle.std.proofs.Common.{rules}
+use Rattle.std.proofs.lemmas.Iterator.Search.{all_from_yields_List}
+use Rattle.lookups.proofs.Chains.{each_yields}
+use Rattle.spelling.proofs.Forms.{none_has}
 use Rattle.spelling.proofs.fieldless.Goals as goal
 
-pub loop-more-init : goal.loop-more-init
-loop-more-init c = (refl, refl)
-
-pub returns-then-byte_or_zero-ne0 : goal.returns-then-byte_or_zero-ne0
-returns-then-byte_or_zero-ne0 c =
-    sym (sym c.loop-more.invariant.0 ∙ field_here _ _ _ c.loop-more-test.true (λ none. c.if-byte_or_zero-ne0.true (c.byte_or_zero.ensures ∙ none)))
-
-pub loop-more-preserved : goal.loop-more-preserved
-loop-more-preserved c =
-    (sym (none_here _ _ _ c.loop-more-test.true (sym c.byte_or_zero.ensures ∙ c.if-byte_or_zero-ne0.false)) ∙ c.loop-more.invariant.0, omega arith)
-
 pub returns : goal.returns
-unfolding fieldless
-returns c = rw (← c.loop-more.invariant.0, constructors_none _ _ _ c.loop-more-test.false)
+returns c =
+    let each = c.each_constructor.result in
+    all_from_yields_List (λ p. eqb p.1 0) c.all.new.self _ _ c.all.ensures.ran (each_yields each) (λ x b q k. search (rules, tests))
+    ∙ rw (← c.each_constructor.ensures.constructors) (none_has each.file.now each.at each.left)

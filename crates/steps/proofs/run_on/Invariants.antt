@@ -5,8 +5,8 @@ use lib.ListN.{length}
 use Rattle.steps.specs.Running.{StepsTo}
 use Rattle.steps.proofs.run_on.Given as goal
 
-abbrev pub invariant-loop-work : goal.invariant-loop-work
-invariant-loop-work l = (length l.work ≡ length l.initial.work) × (l.done ≤ l.left) × StepsTo l.file l.types l.functions l.label l.base l.done l.initial.work l.initial.r l.work l.r
+abbrev pub invariant-loop-here : goal.invariant-loop-here
+invariant-loop-here l = (length l.work ≡ length l.initial.work) × (l.done ≤ l.left) × StepsTo l.run.program.rules.file.now l.run.program.rules.types.now l.run.program.rules.functions.now l.run.label l.run.store.at l.done l.initial.work l.initial.r l.work l.r
 
-abbrev pub decreases-loop-work : goal.decreases-loop-work
-decreases-loop-work l = l.left - l.done
+abbrev pub decreases-loop-here : goal.decreases-loop-here
+decreases-loop-here l = l.left - l.done

@@ -13,31 +13,33 @@ pub loop-x-init : goal.loop-x-init
 loop-x-init c = (refl, omega arith, no_step)
 
 pub step-next-requires : goal.step-next-requires
-step-next-requires c = (c.requires.ends, c.requires.onward _ _ _ c.loop-x.invariant.1 c.loop-x.invariant.2)
+step-next-requires c = record { standing = c.requires.onward _ _ _ c.loop-x.invariant.1 c.loop-x.invariant.2; ends = c.requires.ends }
 
 pub returns-in-Demands : goal.returns-in-Demands
-returns-in-Demands c = rw c.halted.ensures (ran c.args.file.now c.args.types.now c.args.functions.now c.args.label Halt.Demands c.loop-x.invariant.2 c.loop-x.invariant.1
-    (looked_so c.args.file.now c.args.types.now c.args.functions.now c.args.label Next.Demands c.step-next.ensures c.in-Demands.is))
+returns-in-Demands c =
+    ran _ _ _ _ Halt.Demands c.loop-x.invariant.2 c.loop-x.invariant.1
+    (looked_so _ _ _ _ Next.Demands c.step-next.ensures c.in-Demands.is)
 
 pub returns-in-Lacks : goal.returns-in-Lacks
-returns-in-Lacks c = rw c.halted-in-Lacks.ensures (ran c.args.file.now c.args.types.now c.args.functions.now c.args.label Halt.Lacks c.loop-x.invariant.2 c.loop-x.invariant.1
-    (looked_so c.args.file.now c.args.types.now c.args.functions.now c.args.label Next.Lacks c.step-next.ensures c.in-Lacks.is))
+returns-in-Lacks c =
+    ran _ _ _ _ Halt.Lacks c.loop-x.invariant.2 c.loop-x.invariant.1
+    (looked_so _ _ _ _ Next.Lacks c.step-next.ensures c.in-Lacks.is)
 
 pub returns-in-Stops : goal.returns-in-Stops
-returns-in-Stops c = rw c.halted-in-Stops.ensures (ran c.args.file.now c.args.types.now c.args.functions.now c.args.label Halt.Stops c.loop-x.invariant.2 c.loop-x.invariant.1
-    (looked_so c.args.file.now c.args.types.now c.args.functions.now c.args.label Next.Stops c.step-next.ensures c.in-Stops.is))
+returns-in-Stops c =
+    ran _ _ _ _ Halt.Stops c.loop-x.invariant.2 c.loop-x.invariant.1
+    (looked_so _ _ _ _ Next.Stops c.step-next.ensures c.in-Stops.is)
 
 pub returns-in-Waits : goal.returns-in-Waits
-returns-in-Waits c = rw c.halted-in-Waits.ensures (ran c.args.file.now c.args.types.now c.args.functions.now c.args.label (Halt.Waits _) c.loop-x.invariant.2 c.loop-x.invariant.1
-    (looked_so c.args.file.now c.args.types.now c.args.functions.now c.args.label (Next.Waits _) c.step-next.ensures c.in-Waits.is))
+returns-in-Waits c =
+    ran _ _ _ _ (Halt.Waits _) c.loop-x.invariant.2 c.loop-x.invariant.1
+    (looked_so _ _ _ _ (Next.Waits _) c.step-next.ensures c.in-Waits.is)
 
-pub returns-then-left-done : goal.returns-then-left-done
-returns-then-left-done c = rw c.halted-then-left-done.ensures (ran c.args.file.now c.args.types.now c.args.functions.now c.args.label Halt.Spent c.loop-x.invariant.2 c.loop-x.invariant.1
-    (_, looked_so c.args.file.now c.args.types.now c.args.functions.now c.args.label (Next.Goes _) c.step-next.ensures c.in-Goes.is, omega arith))
-
-pub loop-x-smaller : goal.loop-x-smaller
-loop-x-smaller c = omega arith
+pub returns-in-Goes : goal.returns-in-Goes
+returns-in-Goes c =
+    ran _ _ _ _ Halt.Spent c.loop-x.invariant.2 c.loop-x.invariant.1
+    (_, looked_so _ _ _ _ (Next.Goes _) c.step-next.ensures c.in-Goes.is, omega arith)
 
 pub loop-x-preserved : goal.loop-x-preserved
 loop-x-preserved c = let one : c.loop-x.done + 1 ≡ suc c.loop-x.done = omega arith in
-    (search rules, omega arith, rw one (one_more c.loop-x.invariant.2 (looked_stepped c.args.file.now c.args.types.now c.args.functions.now c.args.label tt (looked_so c.args.file.now c.args.types.now c.args.functions.now c.args.label (Next.Goes _) c.step-next.ensures c.in-Goes.is))))
+    (search rules, omega arith, rw one (one_more c.loop-x.invariant.2 (looked_stepped _ _ _ _ tt (looked_so _ _ _ _ (Next.Goes _) c.step-next.ensures c.in-Goes-2.is))))

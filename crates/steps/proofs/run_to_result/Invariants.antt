@@ -6,7 +6,7 @@ use Rattle.steps.specs.Running.{StepsTo}
 use Rattle.steps.proofs.run_to_result.Given as goal
 
 abbrev pub invariant-loop-x : goal.invariant-loop-x
-invariant-loop-x l = (length l.work ≡ length l.initial.work) × (l.done ≤ l.left) × StepsTo l.file l.types l.functions l.label l.base l.done l.initial.work l.initial.r l.work l.r
+invariant-loop-x l = (length l.work ≡ length l.initial.work) × (l.done ≤ l.left) × StepsTo l.run.program.rules.file.now l.run.program.rules.types.now l.run.program.rules.functions.now l.run.label l.run.store.at l.done l.initial.work l.initial.r l.work l.r
 
 abbrev pub decreases-loop-x : goal.decreases-loop-x
 decreases-loop-x l = l.left - l.done

@@ -6,13 +6,13 @@ use Rattle.choosing.proofs.Choosing.{missing_lacks}
 use Rattle.steps.proofs.step.Goals as goal
 
 pub step_expression-requires : goal.step_expression-requires
-step_expression-requires c = (c.requires.0, c.requires.1, control_expression c.args.r.kind c.args.r.place c.args.r.env c.in-2.is)
+step_expression-requires c = record { standing = (c.requires.standing, control_expression c.args.r.kind c.args.r.place c.args.r.env c.in-2.is); ends = c.requires.ends }
 
 pub step_part-requires : goal.step_part-requires
-step_part-requires c = ((c.args.functions.now, c.requires.1), control_part c.args.r.kind c.args.r.place c.args.r.env c.in-1.is)
+step_part-requires c = ((c.args.run.now.program.rules.functions.now, c.requires.standing), control_part c.args.r.kind c.args.r.place c.args.r.env c.in-1.is)
 
 pub returns-in-1 : goal.returns-in-1
-returns-in-1 c = c.step_part.ensures c.args.functions.now c.args.label c.requires.0
+returns-in-1 c = c.step_part.ensures c.args.run.now.program.rules.functions.now c.args.run.now.label c.requires.ends
 
 pub returns-in_default : goal.returns-in_default
-returns-in_default c = looked tt (missing_lacks c.args.file.now c.args.types.now c.args.functions.now c.args.work.now c.args.base c.args.label c.args.r (control_missing c.args.r.kind c.args.r.place c.args.r.env (omega arith) (omega arith)))
+returns-in_default c = looked tt (missing_lacks _ _ _ _ _ _ _ (control_missing c.args.r.kind c.args.r.place c.args.r.env (omega arith) (omega arith)))

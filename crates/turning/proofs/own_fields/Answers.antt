@@ -20,4 +20,4 @@ overflow_add-r-then-kind-eq-EXPRESSION c =
 
 pub returns-then-kind-eq-EXPRESSION : goal.returns-then-kind-eq-EXPRESSION
 returns-then-kind-eq-EXPRESSION c =
-    (λ is. rw (← c.byte_or_zero-t.ensures, ← c.byte_or_zero-c.ensures) c.field_count.ensures, λ other. absurd (other c.if-kind-eq-EXPRESSION.true))
+    (λ is. rw (← c.byte_or_zero-t.ensures.value, ← c.byte_or_zero-c.ensures.value) c.field_count.ensures, λ other. absurd (other c.if-kind-eq-EXPRESSION.true))

@@ -10,4 +10,4 @@ returns-then-k-eq1 c = λ file types functions filled. to_last (nothing_written 
 
 pub returns : goal.returns
 returns c = λ file types functions filled.
-    to_next _ c.put_record.ensures (omega (arith, c.requires.1, c.if-k-eq1.false)) (entry_behind file types functions c.args.ends.now filled c.args.first c.place_or_zero.ensures.0)
+    to_next _ c.put.ensures (omega (arith, c.requires.1, c.if-k-eq1.false)) (entry_behind file types functions c.args.run.now.program.ends.now filled c.args.first c.end.ensures.0)

@@ -1,37 +1,41 @@
 -- `turns::turn_after_function` meets its contract: behind the mark the reader of further functions goes on as the turn says.
 -- Rests on Marks and on the answers of crate marks.
 use mathlib.Core.Path.{◌∙◌}
+use mathlib.Core.Logic.{inl, inr}
 use native.Mathlib.Omega.{arith}
 use borrow.Author.Tests.{eq-eqb, ne_eqb}
 use Rattle.reach.specs.RuleFile.{in_turn}
-use Rattle.marks.proofs.Answers.{mark_got, mark_short}
+use Rattle.marks.proofs.Answers.{mark_got, mark_unread, handed_on}
 use Rattle.turns.proofs.Marks.{functions_turn_law}
 use Rattle.turns.proofs.turn_after_function.Goals as goal
 
-pub returns-in_default : goal.returns-in_default
-returns-in_default c = record { behind_value = functions_turn_law _ _ _ ∙ rw (mark_short _ _ c.mark_behind.ensures c.in_default.is); room = tt }
+pub returns-in_err-mark : goal.returns-in_err-mark
+returns-in_err-mark c =
+    rw (handed_on _ c.from_residual.ensures)
+    (record { behind_value = functions_turn_law _ _ _ ∙ rw (mark_unread _ c.in_err-mark.ensures); room = tt })
 
-pub returns-then-more-eq0 : goal.returns-then-more-eq0
+pub returns-in-Function : goal.returns-in-Function
 unfolding in_turn
-returns-then-more-eq0 c =
-    record { behind_value = functions_turn_law _ _ _ ∙ rw (mark_got _ _ c.mark_behind.ensures c.in-Mark.is, ← c.same_mark.ensures, c.if-same_mark.true, eq-eqb _ _ c.if-more-eq0.true); room = tt }
+returns-in-Function c =
+    record { behind_value = functions_turn_law _ _ _ ∙ rw (mark_got _ c.in_ok-mark.ensures, c.in-Function.is, eq-eqb _ _ c.if-more-eq0.true); room = tt }
 
-pub returns-then-same_mark : goal.returns-then-same_mark
+pub returns-in-Function-2 : goal.returns-in-Function-2
 unfolding in_turn
-returns-then-same_mark c =
-    record { behind_value = functions_turn_law _ _ _ ∙ rw (mark_got _ _ c.mark_behind.ensures c.in-Mark.is, ← c.same_mark.ensures, c.if-same_mark.true, ne_eqb _ _ c.if-more-eq0.false); room = omega arith }
+returns-in-Function-2 c =
+    record { behind_value = functions_turn_law _ _ _ ∙ rw (mark_got _ c.in_ok-mark.ensures, c.in-Function.is, ne_eqb _ _ c.if-more-eq0.false); room = omega arith }
 
-pub returns-then-same_mark-2 : goal.returns-then-same_mark-2
+pub returns-in-Name : goal.returns-in-Name
 unfolding in_turn
-returns-then-same_mark-2 c =
-    record { behind_value = functions_turn_law _ _ _ ∙ rw (mark_got _ _ c.mark_behind.ensures c.in-Mark.is, ← c.same_mark.ensures, c.if-same_mark.false, ← c.same_mark-2.ensures, c.if-same_mark-2.true); room = tt }
+returns-in-Name c =
+    record {
+      behind_value = functions_turn_law _ _ _ ∙ rw (mark_got _ c.in_ok-mark.ensures) (elim c.in-Name.is [ inl is ↦ rw is | inr is ↦ rw is ]);
+      room = tt;
+    }
 
-pub returns-then-same_mark-3 : goal.returns-then-same_mark-3
+pub returns-in-Type : goal.returns-in-Type
 unfolding in_turn
-returns-then-same_mark-3 c =
-    record { behind_value = functions_turn_law _ _ _ ∙ rw (mark_got _ _ c.mark_behind.ensures c.in-Mark.is, ← c.same_mark.ensures, c.if-same_mark.false, ← c.same_mark-2.ensures, c.if-same_mark-2.false, ← c.same_mark-3.ensures, c.if-same_mark-3.true); room = tt }
-
-pub returns : goal.returns
-unfolding in_turn
-returns c =
-    record { behind_value = functions_turn_law _ _ _ ∙ rw (mark_got _ _ c.mark_behind.ensures c.in-Mark.is, ← c.same_mark.ensures, c.if-same_mark.false, ← c.same_mark-2.ensures, c.if-same_mark-2.false, ← c.same_mark-3.ensures, c.if-same_mark-3.false, c.out_of_turn.ensures); room = rw c.out_of_turn.ensures tt }
+returns-in-Type c =
+    record {
+      behind_value = functions_turn_law _ _ _ ∙ rw (mark_got _ c.in_ok-mark.ensures) (elim c.in-Type.is [ inl is ↦ rw is | inr is ↦ rw is ]);
+      room = tt;
+    }

@@ -1,23 +1,22 @@
--- `typerecord::skip_constructors` meets its contract. The loop's invariant: the constructors that are left, read from the place reached, come to what
--- all of them come to. The measure is how many are left. Rests on Passing.
-use mathlib.Core.Path.{refl, sym, ◌∙◌}
+-- `typerecord::skip_constructors` meets its contract: each turn of the loop reads one constructor more. Rests on Passing.
+use Prim.Native.Nat.{◌+◌, ◌-◌}
+use mathlib.Core.Path.{◌≡◌, sym, ◌∙◌}
+use native.Mathlib.Omega.{arith}
 use Rattle.reach.specs.RuleFile.{constructor_record}
+use Rattle.marks.proofs.Answers.{handed_on}
 use Rattle.typerecord.proofs.Passing.{times_done, times_next, times_stops}
 use Rattle.typerecord.proofs.skip_constructors.Goals as goal
 
-pub loop-more-init : goal.loop-more-init
-loop-more-init c = refl
+pub returns-in_err-place : goal.returns-in_err-place
+returns-in_err-place c =
+    handed_on _ c.from_residual.ensures
+    ∙ sym (times_stops constructor_record _ _ _ (omega arith) (sym c.in_err-place.ensures))
+    ∙ c.loop.invariant
 
-pub returns-in_default : goal.returns-in_default
-returns-in_default c =
-    c.in_default.is
-    ∙ sym (times_stops constructor_record _ _ _ c.loop-more-test.true (sym c.skip_constructor-step.ensures ∙ c.in_default.is))
-    ∙ c.loop-more.invariant
-
-pub loop-more-preserved : goal.loop-more-preserved
-loop-more-preserved c =
-    sym (times_next constructor_record _ _ _ c.loop-more-test.true (sym c.skip_constructor-step.ensures ∙ c.in-Next.is))
-    ∙ c.loop-more.invariant
+pub loop-preserved : goal.loop-preserved
+loop-preserved c =
+    let left : c.args.n - c.loop.counter - 1 ≡ c.args.n - (c.loop.counter + 1) = omega arith in
+    rw (← left) (sym (times_next constructor_record _ _ _ (omega arith) (sym c.in_ok-place.ensures)) ∙ c.loop.invariant)
 
 pub returns : goal.returns
-returns c = sym (times_done constructor_record _ _ _ c.loop-more-test.false) ∙ c.loop-more.invariant
+returns c = sym (times_done constructor_record _ _ _ (omega arith)) ∙ c.loop.invariant

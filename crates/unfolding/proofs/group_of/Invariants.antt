@@ -4,8 +4,8 @@ use Prim.Native.Nat.{◌≤◌}
 use Rattle.registers.specs.Stepping.{Outward}
 use Rattle.unfolding.proofs.group_of.Given as goal
 
-abbrev pub invariant-loop-group : goal.invariant-loop-group
-invariant-loop-group l = Outward l.work l.base l.n l.env l.group × (l.group ≤ l.env)
+abbrev pub invariant-loop-store : goal.invariant-loop-store
+invariant-loop-store l = Outward l.work l.store.at l.n l.env l.group × (l.group ≤ l.env)
 
-abbrev pub decreases-loop-group : goal.decreases-loop-group
-decreases-loop-group l = l.group
+abbrev pub decreases-loop-store : goal.decreases-loop-store
+decreases-loop-store l = l.group

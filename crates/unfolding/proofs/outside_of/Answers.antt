@@ -3,4 +3,4 @@ use mathlib.Core.Path.{◌∙◌}
 use Rattle.unfolding.proofs.outside_of.Goals as goal
 
 pub returns : goal.returns
-returns c = c.record_word-2.ensures.0 ∙ rw c.record_word.ensures.0
+returns c = c.word-2.ensures.0 ∙ rw c.word.ensures.0

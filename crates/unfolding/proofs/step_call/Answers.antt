@@ -8,6 +8,6 @@ use Rattle.unfolding.proofs.step_call.Goals as goal
 
 pub returns : goal.returns
 returns c =
-    call_leads c.args.file.now c.args.functions.now c.args.work.now _ c.args.base c.args.at c.args.env c.args.r c.head_of-head.result c.requires
-    (c.head_of-head.ensures.result_value ∙ ap (λ (k : ℕ). head_at c.args.file.now (get_or c.args.functions.now k 0)) c.byte_or_zero.ensures)
-    c.head_of-head.ensures.near.1 c.put_record.ensures
+    call_leads _ _ _ _ _ _ _ _ c.head-head.result c.requires
+    (c.head-head.ensures.result_value ∙ ap (λ (k : ℕ). head_at c.args.run.now.program.rules.file.now (get_or c.args.run.now.program.rules.functions.now k 0)) c.byte_or_zero.ensures.value)
+    c.head-head.ensures.near.1 c.put.ensures

@@ -5,5 +5,5 @@ use Rattle.unfolding.proofs.step_case.Goals as goal
 
 pub returns : goal.returns
 returns c = λ types functions filled.
-    case_leads c.args.file.now types functions c.args.work.now _ c.args.base c.args.at c.args.env c.args.r c.requires
-    (entry_behind c.args.file.now types functions c.args.ends.now filled _ c.place_or_zero-alternatives.ensures.0) c.put_record.ensures
+    case_leads _ types functions _ _ _ _ _ _ c.requires
+    (entry_behind _ types functions _ filled _ c.end-alternatives.ensures.0) c.put.ensures

@@ -1,18 +1,14 @@
--- `values::note_values` meets its contract. The loop's invariant: the places of the values before the present one are noted, where the row is read and
--- one is left the present one stands at `place`, and cell and field are as many on as places are noted. The measure is how many are left. Rests on Noting.
-use Prim.Native.Nat.{◌+◌, ◌-◌, ◌≤◌, ◌<◌}
-use mathlib.Core.Path.{◌≡◌}
+-- `values::note_values` meets its contract. The loop's invariant: the places of the values before the present one are noted, and where the row is read and
+-- one is left the present one stands at `place`. Rests on Noting.
+use Prim.Native.Nat.{◌<◌}
 use Rattle.reach.specs.Places.{bytes_at}
 use Rattle.values.specs.Notes.{NotedFirst}
 use Rattle.values.proofs.Noting.{Reached}
 use Rattle.values.proofs.note_values.Given as goal
 
-abbrev pub invariant-loop-more : goal.invariant-loop-more
-invariant-loop-more l = (NotedFirst l.file l.types l.input l.initial.work l.work l.first (bytes_at l.file l.fields l.k) l.at (l.k - l.more))
-    × (0 < l.more → Reached l.file l.types l.input (bytes_at l.file l.fields l.k) l.at (l.k - l.more) l.place)
-    × (l.cell + l.more ≡ l.first + l.k)
-    × (l.field + l.more ≡ l.fields + l.k)
-    × (l.more ≤ l.k)
-
-abbrev pub decreases-loop-more : goal.decreases-loop-more
-decreases-loop-more l = l.more
+abbrev pub invariant-loop-i : goal.invariant-loop-i
+invariant-loop-i l =
+    let types = bytes_at l.rules.file.now l.fields.at l.fields.count in (
+    NotedFirst l.rules.file.now l.rules.types.now l.input l.initial.work l.work l.first types l.at l.i
+    × (l.i < l.fields.count → Reached l.rules.file.now l.rules.types.now l.input types l.at l.i l.place)
+    )

@@ -1,34 +1,28 @@
--- `words::nearest_to` meets its contract: it tries what the definition tries. Nothing overflows: a rest is less than what divides, and a quotient is no more
--- than what is divided.
+-- `words::nearest_to` meets its contract: it tells apart what the definition tells apart.
 use Prim.Native.Nat.{◌*◌, ◌%◌}
-use mathlib.Core.Path.{refl}
 use borrow.Author.Tests.{lt-ltb, le-ltb, eq-eqb, ne_eqb}
 use native.Mathlib.Omega.{arith}
-use native.Mathlib.Nat.{mod-lt, div-le_self}
+use Rattle.std.specs.Cmp.{ranked}
+use Rattle.std.specs.declared.cmp.Ordering.TheVariants.{Less, Equal, Greater}
 use Rattle.lists.specs.Share.{nearest}
 use Rattle.words.proofs.nearest_to.Goals as goal
 
-pub overflow_mul-twice : goal.overflow_mul-twice
-overflow_mul-twice c = omega (arith, mod-lt c.args.over c.requires.2, c.requires.1)
-
-pub overflow_add-result : goal.overflow_add-result
-overflow_add-result c = omega (arith, div-le_self c.args.over c.args.under, c.requires.0)
-
-pub returns-then-under-twice : goal.returns-then-under-twice
+pub returns-in-Less : goal.returns-in-Less
 unfolding nearest
-returns-then-under-twice c = rw (lt-ltb c.args.under (2 * (c.args.over % c.args.under)) c.if-under-twice.true) refl
-
-pub overflow_add-result-then-twice-under : goal.overflow_add-result-then-twice-under
-overflow_add-result-then-twice-under c = omega (arith, div-le_self c.args.over c.args.under, c.requires.0)
-
-pub returns-then-twice-under : goal.returns-then-twice-under
-unfolding nearest
-returns-then-twice-under c =
+returns-in-Less c =
     let twice = 2 * (c.args.over % c.args.under) in
-    rw (le-ltb c.args.under twice c.if-under-twice.false) (rw (eq-eqb twice c.args.under c.if-twice-under.true) refl)
+    let h = ranked twice c.args.under Less c.in-Less.ensures in
+    rw (le-ltb c.args.under twice (omega arith), ne_eqb twice c.args.under (λ e. omega arith))
 
-pub returns : goal.returns
+pub returns-in-Equal : goal.returns-in-Equal
 unfolding nearest
-returns c =
+returns-in-Equal c =
     let twice = 2 * (c.args.over % c.args.under) in
-    rw (le-ltb c.args.under twice c.if-under-twice.false) (rw (ne_eqb twice c.args.under c.if-twice-under.false) refl)
+    let h = ranked twice c.args.under Equal c.in-Equal.ensures in
+    rw (le-ltb c.args.under twice (omega arith), eq-eqb twice c.args.under h)
+
+pub returns-in-Greater : goal.returns-in-Greater
+unfolding nearest
+returns-in-Greater c =
+    let twice = 2 * (c.args.over % c.args.under) in
+    rw (lt-ltb c.args.under twice (ranked twice c.args.under Greater c.in-Greater.ensures))

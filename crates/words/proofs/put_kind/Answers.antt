@@ -2,15 +2,13 @@
 -- Rests on nothing of this crate.
 use Rattle.lists.specs.Text.{kind_word}
 use Rattle.words.proofs.put_kind.Goals as goal
+use Rattle.words.proofs.put_kind.Goals.{in-RE, in-UN, in-MI}
 
-pub returns-in-RE : goal.returns-in-RE
+pub returns : goal.returns
 unfolding kind_word
-returns-in-RE c = rw c.in-RE.is c.put_bytes.ensures
-
-pub returns-in-UN : goal.returns-in-UN
-unfolding kind_word
-returns-in-UN c = rw c.in-UN.is c.put_bytes-in-UN.ensures
-
-pub returns-in-MI : goal.returns-in-MI
-unfolding kind_word
-returns-in-MI c = rw c.in-MI.is c.put_bytes-in-MI.ensures
+returns c =
+    elim c.match-kind.branch [
+      | in-RE w ↦ rw w.in-RE.is (rw w.word-is at c.bytes.ensures)
+      | in-UN w ↦ rw w.in-UN.is (rw w.word-is at c.bytes.ensures)
+      | in-MI w ↦ rw w.in-MI.is (rw w.word-is at c.bytes.ensures)
+    ]
