@@ -1,7 +1,7 @@
--- How many fields the constructor at a cell's noted place has at most, and what the words of the cell are once `bind_asked` has bound it.
+-- How many fields the constructor at a cell's noted place has at most, the cell bound to it, and what its words are then.
 -- Rests on specs/Underway, lookups' Fields, machine's Cells and values' Notes.
 use Prim.Native.Nat.{ℕ, suc, ◌+◌, ◌*◌, ◌-◌, ◌≤◌, ◌<◌}
-use mathlib.Core.Path.{◌≡◌, sym, ◌∙◌, ap}
+use mathlib.Core.Path.{◌≡◌, refl, sym, ◌∙◌, ap}
 use mathlib.Core.List.{List}
 use mathlib.Core.Option.{some, some-injective}
 use native.Mathlib.Omega.{arith}
@@ -10,8 +10,8 @@ use Rattle.reach.specs.Places.{bytes_at}
 use Rattle.reach.proofs.Places.{bytes_length}
 use Rattle.lookups.specs.Fields.{fields_in, FieldCount}
 use Rattle.lookups.specs.declared.FieldTypes.{FieldTypes}
-use Rattle.machine.specs.Cells.{cell_word}
-use Rattle.values.specs.Notes.{noted_place}
+use Rattle.machine.specs.Cells.{cell_word, Binds}
+use Rattle.values.specs.Notes.{noted_place, Noted}
 use Rattle.binding.specs.Underway.{noted_number, Bindable, BoundAs, BoundCell}
 
 -- the constructor at the noted place has no more than 6 fields
@@ -21,6 +21,22 @@ pub fields_few :
 fields_few {file} bindable place_is c-is t-is fields looked =
     let these = rw (c-is, t-is, place_is) at looked in
     omega (arith, bindable.few (bytes_at file fields.at fields.count) (sym these), bytes_length file fields.at fields.count)
+
+-- a cell that was bound to it, and the notes of its fields' values: the cell is bound as it is to be
+pub bound_known :
+    {file types input w v w' : List ℕ} {cells x place c t : ℕ} → place ≡ noted_place w x → c ≡ get_or input place 0 → t ≡ cell_word w x 2
+    → (fields : FieldTypes) → some (bytes_at file fields.at fields.count) ≡ fields_in file types t c
+    → Binds w v x c cells fields.count (bytes_at file fields.at fields.count) (cell_word w x 3 - 1)
+    → Noted file types input v w' cells (bytes_at file fields.at fields.count) (place + 1) → BoundAs file types input w w' cells x (cells + fields.count)
+bound_known {input = input} {w = w} {v = v} {x = x} {c = c} place_is c-is t-is fields looked binds noted us known =
+    let number : c ≡ noted_number input w x = c-is ∙ ap (λ i. get_or input i 0) place_is in
+    let these = rw (c-is, t-is, place_is) at looked in (
+      fields.at,
+      fields.count,
+      some-injective _ _ (sym known ∙ sym these),
+      refl,
+      record { between = v; binds = rw number at binds; noted = rw place_is at noted },
+    )
 
 -- The words of a cell that was bound to the constructor at its noted place, whose fields have these types.
 module _

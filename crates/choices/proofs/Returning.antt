@@ -48,6 +48,9 @@ module _ {g : Setting} (given : Given g) where
   pub limit_few : g.limit ≤ 4096
   limit_few = omega (arith, given.limit_is, (accepted_keeps g.file g.program given.checked).steps_limit)
 
+  pub stack_small : g.stack ≤ 1000000
+  stack_small = omega (arith, given.stack_is, limit_few)
+
   module _ {w : List ℕ} {h : ℕ} {c : Choice} (at-h : ChoiceAt g w h c) where
     pub height_small : h ≤ 4096
     height_small = omega (arith, at-h.no_higher, at-h.in_time, limit_few)
@@ -141,10 +144,10 @@ module _ (file types least w₀ : List ℕ) (stack height : ℕ) where
     -- the numbers of the last choice point are small
     pub came_bounds :
         SomeChoices file types least w₀ stack height → 0 < h
-        → (h - 1 ≤ 1000000) × (choice_word stack w (h - 1) 0 ≤ 1000000) × (5 * choice_word stack w (h - 1) 0 + 1 < length w)
+        → (stack ≤ 1000000) × (h - 1 ≤ 1000000) × (choice_word stack w (h - 1) 0 ≤ 1000000) × (5 * choice_word stack w (h - 1) 0 + 1 < length w)
     came_bounds (functions, p, limit, base, cells, records, cs, given, at_first) higher =
         let last = last_choice (came functions p limit base cells records cs given at_first).choices_at_law higher in
-        (omega (arith, height_small given last.choice_at), cell_small given last.choice_at, cell_fits last.choice_at)
+        (stack_small given, omega (arith, height_small given last.choice_at), cell_small given last.choice_at, cell_fits last.choice_at)
 
     -- the last choice point has no constructor left, and is dropped
     came_back :

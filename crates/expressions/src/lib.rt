@@ -186,13 +186,16 @@ impl<'a> Body<'a> {
             return Err(Refusal::UnknownNumber);
         }
         let inside = scope.inside()?;
-        let first = self.expression(
+        let subject = self.expression(
             next,
             Scope {
                 expected: t,
                 ..inside
             },
-        )?;
+        );
+        let Ok(first) = subject else {
+            return subject;
+        };
         self.alternatives(first, inside, t)
     }
 
@@ -207,13 +210,16 @@ impl<'a> Body<'a> {
             return Err(Refusal::UnknownNumber);
         }
         let inside = scope.inside()?;
-        let behind = self.expression(
+        let bound = self.expression(
             next,
             Scope {
                 expected: t,
                 ..inside
             },
-        )?;
+        );
+        let Ok(behind) = bound else {
+            return bound;
+        };
         self.expression(
             behind,
             Scope {
@@ -233,7 +239,7 @@ impl<'a> Body<'a> {
         self.expression(next, inside)
     }
 
-    // An expression for each of these types.
+    // An expression for each of these types. (Here and where else an answer of an inner expression is asked: 01 names the form `let .. else`.)
     #[cycle(expressions)]
     fn operands(&self, at: usize, scope: Scope, fields: FieldTypes) -> Result<usize, Refusal>
         ensures { let r = self.now.rules in
@@ -243,7 +249,6 @@ impl<'a> Body<'a> {
         let mut place = at;
         for i in 0..fields.count {
             let expected = byte_or_zero(self.rules.file, fields.at + i);
-            // (A form that 01 names: an operand's answer is taken apart with `let .. else`.)
             let operand = self.expression(place, Scope { expected, ..scope });
             let Ok(next) = operand else {
                 return operand;
@@ -264,7 +269,11 @@ impl<'a> Body<'a> {
     {
         let mut place = at;
         for fields in self.rules.each_constructor(t) {
-            place = self.alternative(place, scope, fields)?;
+            let alternative = self.alternative(place, scope, fields);
+            let Ok(next) = alternative else {
+                return alternative;
+            };
+            place = next;
         }
         Ok(place)
     }

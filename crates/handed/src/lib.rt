@@ -28,7 +28,7 @@ fn entry_fits(rules: &Rules, least: &Depths, goal: Goal, list: &[u8], at: usize,
     }
     let values = Values {
         rules: *rules,
-        least: Some(least),
+        least: Some(&least.of),
         list,
     };
     let head = rules.head(goal.source);

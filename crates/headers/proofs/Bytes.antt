@@ -82,6 +82,14 @@ header_length k steps n =
       word_length n,
     )
 
+-- stored in three parts
+pub header_stored :
+    (k : Kind) (steps n i : ℕ) (l : List ℕ)
+    → sets (sets (sets l i (kind_bytes k)) (i + 2) (word_bytes steps)) (i + 4) (word_bytes n) ≡ sets l i (header k steps n)
+header_stored k steps n i l =
+    stored_behind (word_bytes steps) (word_bytes n) _ (i + 2) refl (omega (arith, word_length steps))
+    ∙ stored_behind (kind_bytes k) (word_bytes steps ++ word_bytes n) l i refl (omega (arith, mark_length k))
+
 -- an entry is a header and the input in prefix form
 pub entry_is : (e : Entry) → entry_bytes e ≡ header e.kind e.steps (length (prefix e.input)) ++ prefix e.input
 unfolding entry_bytes

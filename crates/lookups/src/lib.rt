@@ -138,7 +138,12 @@ impl<'a> Rules<'a> {
         if self.types.len() <= t {
             return None;
         }
-        self.each_constructor(t).nth(c)
+        let mut each = self.each_constructor(t);
+        // (Asked before any is passed: a number that the type does not have is known at once.)
+        if each.left <= c {
+            return None;
+        }
+        each.nth(c)
     }
 
     // How many fields a constructor has.

@@ -90,13 +90,15 @@ module _ {g : Setting} (given : Given g) {w : List ℕ} {h n i k : ℕ} (f : For
 
   -- the cell can be bound
   pub bindable :
-      (x < choice_word g.stack w h 4) × (5 * (choice_word g.stack w h 4 + k) ≤ length w) × (n ≤ 255) × (choice_word g.stack w h 4 ≤ 1000000)
-      × (cell_word w x 3 ≤ 255)
+      (x < choice_word g.stack w h 4) × (5 * (choice_word g.stack w h 4 + k) ≤ length w) × (n ≤ 255) × (k ≤ 255) × (i ≤ 1000000)
+      × (choice_word g.stack w h 4 ≤ 1000000) × (cell_word w x 3 ≤ 255)
   bindable =
       let at-h = f.next_at.choice_at in (
         cell_below at-h,
         omega (arith, at-h.path.few_cells, at-h.in_time, long given at-h, few),
         f.next_at.small,
+        omega (arith, few),
+        f.next_at.near,
         cells_small given at-h,
         shallow,
       )

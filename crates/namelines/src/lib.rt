@@ -93,7 +93,7 @@ fn put_list<'a>(
     };
     let values = Values {
         rules,
-        least: Some(&loaded.least),
+        least: Some(&loaded.least.of),
         list,
     };
     put_entries(page, &values, asked);

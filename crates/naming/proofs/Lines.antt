@@ -1,12 +1,14 @@
 -- The numbers of a line, each behind a space, how long they are, and the letters in an encoding.
 -- Rests on Letters and Encodings, on Writing of crate writing, and on lists' Text and names' NameList.
-use Prim.Native.Nat.{ℕ, ◌*◌, ◌≤◌, ◌<◌}
+use Prim.Native.Nat.{ℕ, ◌+◌, ◌*◌, ◌/◌, ◌%◌, ◌≤◌, ◌<◌}
 use mathlib.Core.Path.{◌≡◌, refl}
+use mathlib.Core.Bool.{Bool, true, false}
 use mathlib.Core.List.{List, [], ◌∷◌, ◌++◌, append_assoc, map, flat_map}
 use native.Mathlib.Omega.{arith}
 use lib.ListN.{length, length-append}
+use lib.Dec.{ltb}
 use Rattle.std.specs.Prelude.{Option, Some, None}
-use Rattle.reach.specs.Base.{Each}
+use Rattle.reach.specs.Base.{pick, Each}
 use Rattle.lists.specs.Text.{space, line_feed, spaced, line_from, decimal}
 use Rattle.names.specs.NameList.{utf8, name_line}
 use Rattle.writing.specs.declared.Page.{Page}
@@ -30,6 +32,34 @@ pub numbers_append : (ms ns : List ℕ) → numbers (ms ++ ns) ≡ numbers ms ++
 unfolding spaced flat_map
 numbers_append [] ns = refl
 numbers_append (m ∷ ms) ns = rw (numbers_append ms ns, append_assoc (decimal m))
+
+-- bytes, at most two for each of n letters
+pub record Encoded (bs : List ℕ) (n : ℕ) : Type 0 where
+  pub bytes : Bytes bs
+  pub few : length bs ≤ 2 * n
+
+encoded_one : (b : ℕ) → b < 256 → Encoded (utf8 b) 1
+unfolding utf8
+encoded_one b h = go (ltb b 128)
+  where
+    go : (t : Bool) → Encoded (pick t (b ∷ []) ((192 + b / 64) ∷ (128 + b % 64) ∷ [])) 1
+    go true = record { bytes = (h, tt); few = omega arith }
+    go false = record { bytes = (omega arith, (omega arith, tt)); few = omega arith }
+
+pub bytes_append : (bs cs : List ℕ) → Bytes bs → Bytes cs → Bytes (bs ++ cs)
+bytes_append [] cs h k = k
+bytes_append (b ∷ bs) cs h k = (h.0, bytes_append bs cs h.1 k)
+
+pub encoded_all : (bs : List ℕ) → Bytes bs → Encoded (flat_map utf8 bs) (length bs)
+unfolding flat_map
+encoded_all [] h = record { bytes = tt; few = omega arith }
+encoded_all (b ∷ bs) h =
+    let first = encoded_one b h.0 in
+    let rest = encoded_all bs h.1 in
+    record {
+      bytes = bytes_append (utf8 b) (flat_map utf8 bs) first.bytes rest.bytes;
+      few = omega (arith, first.few, rest.few, length-append (utf8 b) (flat_map utf8 bs));
+    }
 
 -- Letters, each as these bytes: at most eight bytes of text for each.
 

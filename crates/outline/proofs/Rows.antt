@@ -57,6 +57,10 @@ module _ {s : List ℕ} {A : Type 0} (K : Kind s A) (limit : ℕ) where
         rows.rest ∙ rw (K.first (limit - (count + 1)) i, e, kept, map-append, ← (K.stands i e).value)
         (before_one (map K.look (take count places)) a (K.more (limit - (count + 1)) behind))
 
+    pub rows_read : {behind : ℕ} → Ok behind ≡ passed_of (K.one i)
+        → whole ≡ before (map K.look (take (count + 1) (set places count i))) (K.more (limit - (count + 1)) behind)
+    rows_read told = row_kept (step_got (K.one i) (sym told)).1
+
     module _ {behind : ℕ} (told : Ok behind ≡ passed_of (K.one i)) where
       -- a record that was read begins within the bytes
       pub row_begins : i < length s
@@ -65,7 +69,7 @@ module _ {s : List ℕ} {A : Type 0} (K : Kind s A) (limit : ℕ) where
       -- its place is kept, and the turn behind it taken
       module _ {kept : List ℕ} {now : ℕ} (one_more : now ≡ count + 1) (set_there : kept ≡ set places count i) where
         after : (t : Result Turn Refusal) → Turning now behind t → whole ≡ before (map K.look (take now kept)) (on_turn (λ next. K.from (pred (limit - now)) next) t)
-        after t turn = rw (← turn, set_there, one_more) (row_kept (step_got (K.one i) (sym told)).1)
+        after t turn = rw (← turn, set_there, one_more) (rows_read told)
 
         -- the turn leads to one more record
         pub rows_again : {t : Turn} {next : ℕ} → t ≡ Turn.Again next → Turning now behind (Ok t) → Room (limit - now) (Ok t) → Rows whole kept now next

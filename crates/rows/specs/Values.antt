@@ -1,5 +1,5 @@
 -- Values as reach's Partial reads them, the types being those at the places of a checked file.
--- Rests on reach's Partial and Places, on lists' Handed, on depths' struct and on the struct of src/lib.rt.
+-- Rests on reach's Partial and Places, on lists' Handed and on the struct of src/lib.rt.
 use Rattle.std.specs.Prelude.{ℕ, ◌+◌, ◌≤◌, List, map, Some, None}
 use Rattle.std.proofs.Common.{Bor}
 use Rattle.std.specs.Prelude as Std
@@ -11,7 +11,6 @@ use Rattle.reach.specs.Reader.{Got, got, refused, Reader}
 use Rattle.reach.specs.Partial.{Value, deep_of, values_by, Manner, in_inputs, value, slotted}
 use Rattle.lists.specs.Handed.{in_entries}
 use Rattle.reach.specs.Places.{type_at}
-use Rattle.depths.specs.declared.Depths.{Depths}
 use Rattle.rows.specs.declared.Measured.{Measured}
 
 -- what was read ends before this place and is so deep
@@ -38,9 +37,9 @@ manner_of None = in_inputs
 manner_of (Some table) = in_entries table
 
 -- the numbers of the table that is lent
-abbrev pub table_of : Std.Option (Bor Depths) → Std.Option (List ℕ)
+abbrev pub table_of : Std.Option (Bor (List ℕ)) → Std.Option (List ℕ)
 table_of None = None
-table_of (Some least) = Some least.now.of
+table_of (Some least) = Some least.now
 
 -- a value of type t, one for each of these types, and one for each of them that is at most as deep as its depth says
 abbrev pub value_at : List ℕ → List ℕ → Std.Option (List ℕ) → ℕ → ℕ → Reader Value

@@ -1,13 +1,13 @@
 // Values that stand in a list, the rows of them that are being read, and the first byte of a value: what it says, and how deep an open part is. Rests on
-// crates lookups and depths.
+// crates marks and lookups.
 #![tactic(auto)]
 
 ghost use Rattle.std.specs.Prelude.{◌≡◌, ◌≤◌, ◌<◌};
 ghost use Rattle.rows.specs.Values.{of_value, of_open, manner_of, table_of, value_at, DeepAtMost};
 ghost use Rattle.rows.specs.Stack.{past_of, of_first, NearFirst};
 
-use depths::Depths;
 use lookups::Rules;
+use marks::byte_or_zero;
 
 // What stands for an open part.
 const OPEN_PART: u8 = 255;
@@ -39,7 +39,7 @@ pub enum First {
 #[derive(Clone, Copy)]
 pub struct Values<'a> {
     pub rules: Rules<'a>,
-    pub least: Option<&'a Depths>,
+    pub least: Option<&'a [u8]>,
     pub list: &'a [u8],
 }
 
@@ -63,7 +63,7 @@ impl<'a> Values<'a> {
         ensures value { result ≡ of_open next ((manner_of (table_of self.now.least)).open_part t) }
         ensures near { DeepAtMost 0 result }
     {
-        let deep = self.least?.depth_of(t);
+        let deep = byte_or_zero(self.least?, t);
         Some(Measured { next, deep })
     }
 

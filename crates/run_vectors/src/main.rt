@@ -2,7 +2,7 @@
 // `refused` and the number. tests/make_runs.py makes the container and the lines. Rests on crates cases and closed.
 #![tactic(auto)]
 
-ghost use Rattle.std.specs.Prelude.{◌≤◌, length};
+ghost use Rattle.std.specs.Prelude.{◌≤◌, ◌<◌, length};
 
 use cases::{
     Answer, BYTES, PART, WORDS, bytes, each_file, read_byte, read_part, read_within, words,
@@ -40,20 +40,23 @@ fn read_count<R: Read>(input: &mut R, most: usize) -> usize
 // Lays a part down at a place of the input, as far as the input goes. The place behind.
 fn lay(input: &mut [u8], at: usize, part: &[u8]) -> usize
     requires { at ≤ length input.old }
-    ensures { result ≤ length input.old }
+    ensures upper_bound { result ≤ length input.old }
+    ensures onward { 0 < length part.now → at < length input.old → at < result }
 {
     let n = part.len().min(input.len() - at);
     input[at..at + n].copy_from_slice(&part[..n]);
     at + n
 }
 
-// Lays it down so often, one behind the other, from the front on.
+// Lays it down so often, one behind the other, from the front on. (A `while`: each turn lays down again all that stands there, so that there are few.)
 fn lay_often(input: &mut [u8], part: &[u8], times: usize) -> usize
     ensures { result ≤ length input.old }
 {
-    let mut at = 0;
-    for _ in 0..times {
-        at = lay(input, at, part);
+    let size = part.len().saturating_mul(times).min(input.len());
+    let mut at = lay(&mut input[..size], 0, part);
+    while 0 < at && at < size {
+        let (laid, open) = input[..size].split_at_mut(at);
+        at += lay(open, 0, laid);
     }
     at
 }

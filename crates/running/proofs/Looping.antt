@@ -55,6 +55,9 @@ stands_there {cells = cells} {p = p} {s = s} h =
     record { program = p; cells = cells; input = h.running.input; state = s; file_of = h.given.of_file.file_of; stands = h.running.stands }
 
 module _ {file types functions input : List ℕ} {label limit : ℕ} {w₀ : List ℕ} {base first : ℕ} {from : Registers} where
+  pub came_first : LedTo file types functions input label limit w₀ base first from w₀ first 0 from
+  came_first p j s h = let z : limit - 0 ≡ limit = omega arith in (s, h, rw z)
+
   module _ {w : List ℕ} {cells done : ℕ} {r : Registers} (came : LedTo file types functions input label limit w₀ base first from w cells done r) where
     module _ (w' : List ℕ) (cells' : ℕ) (n : Next) (advances : AdvancesAll file types functions input label w w' base cells r cells' n) where
       step : (p : Program) (j : Parts) (s : State) (h : Underway file types functions input label limit w₀ base first 0 from p j s)

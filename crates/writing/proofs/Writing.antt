@@ -1,11 +1,11 @@
 -- Text behind text, what is left of a text to write, and text at the front of a slice.
 -- Rests on Writing of specs/.
-use Prim.Native.Nat.{ℕ, suc, ◌+◌}
-use mathlib.Core.Path.{◌≡◌, refl, ap, ◌∙◌}
+use Prim.Native.Nat.{ℕ, suc, ◌+◌, ◌≤◌}
+use mathlib.Core.Path.{◌≡◌, refl, sym, ap, ◌∙◌}
 use mathlib.Core.List.{List, [], ◌∷◌, ◌++◌}
 use native.Mathlib.Omega.{arith}
 use lib.ListN.{length, set, length-append}
-use lib.Seq.{sets, take-nil}
+use lib.Seq.{sets, set_out, length-sets, take-nil}
 use Rattle.writing.specs.declared.Page.{Page}
 use Rattle.writing.specs.Writing.{fronted, Fronts, Puts}
 
@@ -15,6 +15,10 @@ sets_append l i [] b = let z : i + 0 ≡ i = omega arith in rw z
 sets_append l i (x ∷ a) b =
     let z : i + suc (length a) ≡ suc i + length a = omega arith in
     rw z (sets_append (set l i x) (suc i) a b)
+
+-- the slice keeps its length
+pub puts_length : {p q : Page} {s : List ℕ} → Puts p s q → length q.text.now ≡ length p.text.now
+puts_length {p} {q} {s} w = ap length w.bytes ∙ length-sets p.text.now p.at s
 
 pub puts_none : (p : Page) → Puts p [] p
 puts_none p = record { same = refl; place = omega arith; bytes = refl }
@@ -26,6 +30,10 @@ puts_then {p} {q} {r} {a} {b} v w =
       place = omega (arith, v.place, w.place, length-append a b);
       bytes = w.bytes ∙ (rw (v.place, v.bytes) (sets_append p.text.now p.at a b));
     }
+
+-- a byte behind the end of the slice is not written
+pub puts_outside : (p : Page) (b : ℕ) → length p.text.now ≤ p.at → Puts p (b ∷ []) (record { text = p.text; at = p.at + 1 })
+puts_outside p b out = record { same = refl; place = refl; bytes = sym (set_out p.text.now p.at b out) }
 
 -- What is left: to write this rest from here on gives what the whole gives from its place on.
 pub record Left (before : Page) (whole : List ℕ) (page : Page) (rest : List ℕ) : Type 0 where

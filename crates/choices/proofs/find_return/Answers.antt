@@ -13,7 +13,7 @@ pub candidate-requires : goal.candidate-requires
 candidate-requires c =
     let f = c.args.rules.now in
     let b = came_bounds f.file.now f.types.now c.args.least.of c.args.work.now c.args.stack.at c.args.height c.loop-h.work c.loop-h.h c.loop-h.invariant.1 c.requires (omega arith) in
-    (b.0, b.1)
+    (b.1, b.2)
 
 pub returns-in-Some : goal.returns-in-Some
 returns-in-Some c =
@@ -24,7 +24,7 @@ pub reopen-requires : goal.reopen-requires
 reopen-requires c =
     let f = c.args.rules.now in
     let b = came_bounds f.file.now f.types.now c.args.least.of c.args.work.now c.args.stack.at c.args.height c.loop-h.work c.loop-h.h c.loop-h.invariant.1 c.requires (omega arith) in
-    (b.0, b.2)
+    (b.1, b.3)
 
 pub loop-h-preserved : goal.loop-h-preserved
 loop-h-preserved c =

@@ -11,7 +11,8 @@ choice-point-requires c = let (least, p, limit, given, f) = c.requires in
 
 pub bind_cell-requires : goal.bind_cell-requires
 bind_cell-requires c = let (least, p, limit, given, f) = c.requires in
-    rw c.choice-point.ensures.0 (bindable given f)
+    let b = bindable given f in
+    rw c.choice-point.ensures.0 (b.0, b.1, b.2, b.5, b.6)
 
 pub enter_part-to-requires : goal.enter_part-to-requires
 enter_part-to-requires c = let (least, p, limit, given, f) = c.requires in
@@ -30,7 +31,7 @@ enter_part-to-requires c = let (least, p, limit, given, f) = c.requires in
 pub overflow_add-result : goal.overflow_add-result
 overflow_add-result c = let (least, p, limit, given, f) = c.requires in
     let b = bindable given f in
-    omega (arith, ap (λ (y : ChoicePoint). y.cells) c.choice-point.ensures.0, c.args.fork.next.fields.few, b.3)
+    omega (arith, ap (λ (y : ChoicePoint). y.cells) c.choice-point.ensures.0, c.args.fork.next.fields.few, b.5)
 
 pub overflow_add-result-3 : goal.overflow_add-result-3
 overflow_add-result-3 c = let (least, p, limit, given, f) = c.requires in

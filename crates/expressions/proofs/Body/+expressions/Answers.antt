@@ -118,15 +118,15 @@ case-returns-in_err-inside t c =
     handed_on _ c.from_residual-in_err-inside.ensures
     ∙ case_over _ _ _ _ _ _ (read _ c.in_ok-number.ensures) c.from-t.ensures c.if-self-t.false c.in_err-inside.ensures
 
-pub case-returns-in_err-first : goal.case-returns-in_err-first
-case-returns-in_err-first t c =
-    handed_on _ c.from_residual-in_err-first.ensures
+pub case-returns-in_default : goal.case-returns-in_default
+case-returns-in_default t c =
+    c.in_default.is
     ∙ case_refused _ _ _ _ _ _ (read _ c.in_ok-number.ensures) c.from-t.ensures c.if-self-t.false c.in_ok-inside.ensures
-    c.in_err-first.ensures
+    c.in_default.ensures
 
 pub case-returns : goal.case-returns
 case-returns t c =
-    case_goes _ _ _ _ _ _ (read _ c.in_ok-number.ensures) c.from-t.ensures c.if-self-t.false c.in_ok-inside.ensures c.in_ok-first.ensures
+    case_goes _ _ _ _ _ _ (read _ c.in_ok-number.ensures) c.from-t.ensures c.if-self-t.false c.in_ok-inside.ensures c.in-Ok.ensures
     c.alternatives.ensures
 
 -- A let: a type's number, the limits, the bound expression, and the body, which sees one more variable.
@@ -144,17 +144,17 @@ let_expression-returns-in_err-inside t c =
     handed_on _ c.from_residual-in_err-inside.ensures
     ∙ let_over _ _ _ _ _ _ (read _ c.in_ok-number.ensures) c.from-t.ensures c.if-self-t.false c.in_err-inside.ensures
 
-pub let_expression-returns-in_err-behind : goal.let_expression-returns-in_err-behind
-let_expression-returns-in_err-behind t c =
-    handed_on _ c.from_residual-in_err-behind.ensures
+pub let_expression-returns-in_default : goal.let_expression-returns-in_default
+let_expression-returns-in_default t c =
+    c.in_default.is
     ∙ let_refused _ _ _ _ _ _ (read _ c.in_ok-number.ensures) c.from-t.ensures c.if-self-t.false c.in_ok-inside.ensures
-    c.in_err-behind.ensures
+    c.in_default.ensures
 
 pub let_expression-returns : goal.let_expression-returns
 let_expression-returns t c =
-    let_goes _ _ _ _ _ _ (read _ c.in_ok-number.ensures) c.from-t.ensures c.if-self-t.false c.in_ok-inside.ensures c.in_ok-behind.ensures c.with.result
+    let_goes _ _ _ _ _ _ (read _ c.in_ok-number.ensures) c.from-t.ensures c.if-self-t.false c.in_ok-inside.ensures c.in-Ok.ensures c.with.result
     c.with.ensures.types
-    c.expression-2.ensures
+    c.expression.ensures
 
 -- A target: a label, the limits, and the expression inside.
 
@@ -217,15 +217,15 @@ alternatives-loop-fields-init t c =
     c.each_constructor-fields-items.ensures.constructors in
     (tt, tt, rw all refl, rw all (c.args.self.now.small.fields_limit c.args.t c.requires.known))
 
-pub alternatives-alternative-requires : goal.alternatives-alternative-requires
-alternatives-alternative-requires t c =
+pub alternatives-alternative-alternative-requires : goal.alternatives-alternative-alternative-requires
+alternatives-alternative-alternative-requires t c =
     let narrow = rw c.in-Some.ensures.steps at c.loop-fields.invariant.3 in
     (omega arith, (c.requires.seen, narrow_first _ _ _ _ narrow))
 
-pub alternatives-returns-in_err-place : goal.alternatives-returns-in_err-place
-alternatives-returns-in_err-place t c =
-    handed_on _ c.from_residual.ensures
-    ∙ alternative_refused _ _ _ _ _ _ _ _ _ _ c.in_err-place.ensures
+pub alternatives-returns-in_default : goal.alternatives-returns-in_default
+alternatives-returns-in_default t c =
+    c.in_default.is
+    ∙ alternative_refused _ _ _ _ _ _ _ _ _ _ c.in_default.ensures
     ∙ rw c.in-Some.ensures.steps at c.loop-fields.invariant.2
 
 pub alternatives-loop-fields-preserved : goal.alternatives-loop-fields-preserved
@@ -233,7 +233,7 @@ alternatives-loop-fields-preserved t c =
     let narrow = rw c.in-Some.ensures.steps at c.loop-fields.invariant.3 in (
       tt,
       tt,
-      alternative_next _ _ _ _ _ _ _ _ _ _ c.in_ok-place.ensures ∙ rw c.in-Some.ensures.steps at c.loop-fields.invariant.2,
+      alternative_next _ _ _ _ _ _ _ _ _ _ c.in-Ok.ensures ∙ rw c.in-Some.ensures.steps at c.loop-fields.invariant.2,
       narrow_rest _ _ narrow,
     )
 
